@@ -1,0 +1,179 @@
+-- The covering rule of a set of triples at a level, and why it is the least.
+-- Assumes nothing.
+use Prim.Native.Nat.{ℕ, _<_}
+use borrow.Author.Tests.{ltb-true}
+use lib.Dec.{ltb}
+use mathlib.Core.List.{List, _++_, List·Memᴰ·append-cases, Memᴰ·append-left, Memᴰ·append-right}
+use mathlib.Core.Logic.{_⊎_, inl, inr}
+use mathlib.Core.Path.{_≡_, sym, _∙_}
+use Rattle.policy.specs.Covering.{allKnow, valuesOf, opIn, pairIn, userIn, resourceIn, everywhere, userConds, resourceConds, atomConds, cover, fits}
+use Rattle.policy.specs.RuleLaws.{Lawful, grants-in, grants-op, grants-cond, same-in, same-out}
+use Rattle.policy.specs.Rules.{Setting, Cond, Rule, Block, attrsOf, userOwn, resourceOwn, holds, grants, allowed, at, Triple, Within, Same, user, resource, atom}
+use Rattle.policy.specs.Sets.{bit-mask}
+use Rattle.policy.specs.SideLaws.{AllMeet, side-known, side-self, side-least}
+use Rattle.policy.specs.Tests.{Is, and-l, and-r, same, imp, imp-in, imp-out, _∈_, all, any, all-out, all-in, any-in, any-out, each, each-in, each-out, only, only-in, only-out, upTo, upTo-in, upTo-out, elem-out}
+
+module _ (P : Setting) where
+  -- ---- what these tests say
+
+  pub pair-in : (B : Block) {u r o : ℕ} → o < P .slots → Is (B u r o) → Is (pairIn P B u r)
+  unfolding pairIn
+  pair-in B {u} {r} l h = any-in (λ o. B u r o) (upTo-in l) h
+
+  pub pair-out : (B : Block) (u r : ℕ) → Is (pairIn P B u r) → (o : ℕ) × (o < P .slots) × Is (B u r o)
+  unfolding pairIn
+  pair-out B u r h = let t = any-out (λ o. B u r o) _ h in (t .0, upTo-out _ (t .1), t .2)
+
+  pub user-in : (B : Block) (u : ℕ) {r : ℕ} → r < P .resources .count → Is (pairIn P B u r) → Is (userIn P B u)
+  unfolding userIn
+  user-in B u l h = any-in (λ r. pairIn P B u r) (upTo-in l) h
+
+  pub user-out : (B : Block) (u : ℕ) → Is (userIn P B u) → (r : ℕ) × (r < P .resources .count) × Is (pairIn P B u r)
+  unfolding userIn
+  user-out B u h = let t = any-out (λ r. pairIn P B u r) _ h in (t .0, upTo-out _ (t .1), t .2)
+
+  pub resource-in : (B : Block) (r : ℕ) {u : ℕ} → u < P .users .count → Is (pairIn P B u r) → Is (resourceIn P B r)
+  unfolding resourceIn
+  resource-in B r l h = any-in (λ u. pairIn P B u r) (upTo-in l) h
+
+  pub resource-out : (B : Block) (r : ℕ) → Is (resourceIn P B r) → (u : ℕ) × (u < P .users .count) × Is (pairIn P B u r)
+  unfolding resourceIn
+  resource-out B r h = let t = any-out (λ u. pairIn P B u r) _ h in (t .0, upTo-out _ (t .1), t .2)
+
+  pub op-in : (B : Block) {u r o : ℕ} → Triple P u r o → Is (B u r o) → Is (opIn P B o)
+  unfolding opIn
+  op-in B {u} {r} {o} t h = any-in (λ u. any (λ r. B u r o) (upTo (P .resources .count))) (upTo-in (t .user)) (any-in (λ r. B u r o) (upTo-in (t .resource)) h)
+
+  pub op-out : (B : Block) (o : ℕ) → Is (opIn P B o) → (u r : ℕ) × (u < P .users .count) × (r < P .resources .count) × Is (B u r o)
+  unfolding opIn
+  op-out B o h =
+      let t = any-out (λ u. any (λ r. B u r o) (upTo (P .resources .count))) _ h in
+      let s = any-out (λ r. B (t .0) r o) _ (t .2) in
+      (t .0, s .0, upTo-out _ (t .1), upTo-out _ (s .1), s .2)
+
+  -- a condition holds of every user and resource that share a triple of B
+  abbrev pub Everywhere : Block → Cond → Type 0
+  Everywhere B c = (u r : ℕ) → u < P .users .count → r < P .resources .count → Is (pairIn P B u r) → Is (holds P c u r)
+
+  pub everywhere-in : (B : Block) (c : Cond) → Everywhere B c → Is (everywhere P B c)
+  unfolding everywhere
+  everywhere-in B c h = all-in _ _ λ u mu. all-in _ _ λ r mr. imp-in (pairIn P B u r) (holds P c u r) (h u r (upTo-out _ mu) (upTo-out _ mr))
+
+  pub everywhere-out : (B : Block) (c : Cond) → Is (everywhere P B c) → Everywhere B c
+  unfolding everywhere
+  everywhere-out B c h u r lu lr =
+      imp-out (holds P c u r)
+      (all-out (λ r. imp (pairIn P B u r) (holds P c u r)) (all-out (λ u. all (λ r. imp (pairIn P B u r) (holds P c u r)) (upTo (P .resources .count))) h (upTo-in lu)) (upTo-in lr))
+
+  -- the conditions of a covering rule
+  pub userConds-in : (B : Block) (l : ℕ) {a : ℕ} → a ∈ attrsOf (P .users) (userOwn l) → Is (allKnow (P .users) (userIn P B) a) → user a (valuesOf (P .users) (userIn P B) a) ∈ userConds P B l
+  unfolding userConds
+  userConds-in B l {a} m h = each-in (λ a. only (allKnow (P .users) (userIn P B) a) (user a (valuesOf (P .users) (userIn P B) a))) m (only-in _ h)
+
+  pub userConds-out : (B : Block) (l : ℕ) {c : Cond} → c ∈ userConds P B l → (a : ℕ) × (a ∈ attrsOf (P .users) (userOwn l)) × Is (allKnow (P .users) (userIn P B) a) × (c ≡ user a (valuesOf (P .users) (userIn P B) a))
+  unfolding userConds
+  userConds-out B l m =
+      let t = each-out (λ a. only (allKnow (P .users) (userIn P B) a) (user a (valuesOf (P .users) (userIn P B) a))) _ m in
+      let s = only-out (allKnow (P .users) (userIn P B) (t .0)) (t .2) in
+      (t .0, t .1, s .0, s .1)
+
+  pub resourceConds-in : (B : Block) (l : ℕ) {a : ℕ} → a ∈ attrsOf (P .resources) (resourceOwn l) → Is (allKnow (P .resources) (resourceIn P B) a) → resource a (valuesOf (P .resources) (resourceIn P B) a) ∈ resourceConds P B l
+  unfolding resourceConds
+  resourceConds-in B l {a} m h = each-in (λ a. only (allKnow (P .resources) (resourceIn P B) a) (resource a (valuesOf (P .resources) (resourceIn P B) a))) m (only-in _ h)
+
+  pub resourceConds-out : (B : Block) (l : ℕ) {c : Cond} → c ∈ resourceConds P B l → (a : ℕ) × (a ∈ attrsOf (P .resources) (resourceOwn l)) × Is (allKnow (P .resources) (resourceIn P B) a) × (c ≡ resource a (valuesOf (P .resources) (resourceIn P B) a))
+  unfolding resourceConds
+  resourceConds-out B l m =
+      let t = each-out (λ a. only (allKnow (P .resources) (resourceIn P B) a) (resource a (valuesOf (P .resources) (resourceIn P B) a))) _ m in
+      let s = only-out (allKnow (P .resources) (resourceIn P B) (t .0)) (t .2) in
+      (t .0, t .1, s .0, s .1)
+
+  pub atomConds-in : (B : Block) {a b : ℕ} → a < P .users .attrs → b < P .resources .attrs → Is (everywhere P B (atom a b)) → atom a b ∈ atomConds P B
+  unfolding atomConds
+  atomConds-in B {a} {b} la lb h =
+      each-in (λ a. each (λ b. only (everywhere P B (atom a b)) (atom a b)) (upTo (P .resources .attrs))) (upTo-in la)
+      (each-in (λ b. only (everywhere P B (atom a b)) (atom a b)) (upTo-in lb) (only-in _ h))
+
+  pub atomConds-out : (B : Block) {c : Cond} → c ∈ atomConds P B → (a b : ℕ) × (a < P .users .attrs) × (b < P .resources .attrs) × Is (everywhere P B (atom a b)) × (c ≡ atom a b)
+  unfolding atomConds
+  atomConds-out B m =
+      let t = each-out (λ a. each (λ b. only (everywhere P B (atom a b)) (atom a b)) (upTo (P .resources .attrs))) _ m in
+      let s = each-out (λ b. only (everywhere P B (atom (t .0) b)) (atom (t .0) b)) _ (t .2) in
+      let k = only-out (everywhere P B (atom (t .0) (s .0))) (s .2) in
+      (t .0, s .0, upTo-out _ (t .1), upTo-out _ (s .1), k .0, k .1)
+
+  -- a condition of a covering rule is one of the three
+  pub cover-cases : (B : Block) (l : ℕ) {c : Cond} → c ∈ cover P B l .conds → (c ∈ userConds P B l) ⊎ (c ∈ resourceConds P B l) ⊎ (c ∈ atomConds P B)
+  unfolding cover
+  cover-cases B l {c} m = go (List·Memᴰ·append-cases (userConds P B l ++ resourceConds P B l) m)
+    where
+      first : (c ∈ userConds P B l) ⊎ (c ∈ resourceConds P B l) → (c ∈ userConds P B l) ⊎ (c ∈ resourceConds P B l) ⊎ (c ∈ atomConds P B)
+      first (inl k) = inl k
+      first (inr k) = inr (inl k)
+
+      go : (c ∈ (userConds P B l ++ resourceConds P B l)) ⊎ (c ∈ atomConds P B) → (c ∈ userConds P B l) ⊎ (c ∈ resourceConds P B l) ⊎ (c ∈ atomConds P B)
+      go (inl k) = first (List·Memᴰ·append-cases (userConds P B l) k)
+      go (inr k) = inr (inr k)
+
+  -- a rule's condition that holds everywhere in B is met by each user of B; by each resource
+  users-meet : (B : Block) (a : ℕ) (vs : List ℕ) → Everywhere B (user a vs) → AllMeet (P .users) (userIn P B) a vs
+  unfolding holds
+  users-meet B a vs h u lu p = let t = user-out B u p in h u (t .0) lu (t .1) (t .2)
+
+  resources-meet : (B : Block) (a : ℕ) (vs : List ℕ) → Everywhere B (resource a vs) → AllMeet (P .resources) (resourceIn P B) a vs
+  unfolding holds
+  resources-meet B a vs h r lr p = let t = resource-out B r p in h (t .0) r (t .1) lr (t .2)
+
+  module _ (L : Lawful P) where
+    -- every condition of the covering rule holds everywhere in B
+    pub cover-holds : (B : Block) (l : ℕ) (c : Cond) → c ∈ cover P B l .conds → Everywhere B c
+    unfolding holds
+    cover-holds B l c m u r lu lr p = go (cover-cases B l m)
+      where
+        go : (c ∈ userConds P B l) ⊎ (c ∈ resourceConds P B l) ⊎ (c ∈ atomConds P B) → Is (holds P c u r)
+        go (inl k) = let t = userConds-out B l k in rw (t .3) (side-self (P .users) (L .users) (userIn P B) (t .0) (t .2) u lu (user-in B u lr p))
+        go (inr (inl k)) = let t = resourceConds-out B l k in rw (t .3) (side-self (P .resources) (L .resources) (resourceIn P B) (t .0) (t .2) r lr (resource-in B r lu p))
+        go (inr (inr k)) = let t = atomConds-out B k in rw (t .5) (everywhere-out B (atom (t .0) (t .1)) (t .4) u r lu lr p)
+
+    -- B lies within what its covering rule grants
+    pub cover-grants : (B : Block) (l : ℕ) → Within P B (grants P (cover P B l))
+    unfolding cover
+    cover-grants B l u r o t h = grants-in P (cover P B l) u r o (bit-mask (P .slots) (opIn P B) o (t .op) ∙ op-in B t h) λ c m. cover-holds B l c m u r (t .user) (t .resource) (pair-in B (t .op) h)
+
+    -- a condition of the level that holds everywhere in B holds wherever the covering rule's conditions do
+    pub cover-least : (B : Block) (l : ℕ) (c : Cond) → Is (allowed P l c) → Everywhere B c → (u r : ℕ) → ((d : Cond) → d ∈ cover P B l .conds → Is (holds P d u r)) → Is (holds P c u r)
+    unfolding cover allowed holds
+    cover-least B l (user a vs) q h u r k =
+        let m = users-meet B a vs h in
+        side-least (P .users) (L .users) (userIn P B) a vs m u
+        (k _ (Memᴰ·append-left _ (Memᴰ·append-left _ (userConds-in B l (elem-out a _ q) (side-known (P .users) (userIn P B) a vs m)))))
+    cover-least B l (resource a vs) q h u r k =
+        let m = resources-meet B a vs h in
+        side-least (P .resources) (L .resources) (resourceIn P B) a vs m r
+        (k _ (Memᴰ·append-left _ (Memᴰ·append-right (userConds P B l) (resourceConds-in B l (elem-out a _ q) (side-known (P .resources) (resourceIn P B) a vs m)))))
+    cover-least B l (atom a b) q h u r k =
+        k (atom a b) (Memᴰ·append-right (userConds P B l ++ resourceConds P B l) (atomConds-in B (ltb-true a _ (and-l _ _ q)) (ltb-true b _ (and-r (ltb a (P .users .attrs)) _ q)) (everywhere-in B (atom a b) h)))
+
+    -- THE LAW: a rule of the level that grants all of B grants all that the covering rule does
+    pub least : (B : Block) (l : ℕ) (ρ : Rule) → Is (at P l ρ) → Within P B (grants P ρ) → Within P (grants P (cover P B l)) (grants P ρ)
+    unfolding at cover
+    least B l ρ a w u r o t g =
+        grants-in P ρ u r o
+        (let s = op-out B o (sym (bit-mask (P .slots) (opIn P B) o (t .op)) ∙ grants-op P (cover P B l) u r o g) in
+        grants-op P ρ (s .0) (s .1) o (w (s .0) (s .1) o (record { user = s .2; resource = s .3; op = t .op }) (s .4)))
+        λ c m. cover-least B l c (all-out (allowed P l) a m)
+        (λ v q lv lq p. let s = pair-out B v q p in grants-cond P ρ v q (s .0) (w v q (s .0) (record { user = lv; resource = lq; op = s .1 }) (s .2)) m)
+        u r (λ d k. grants-cond P (cover P B l) u r o g k)
+
+    -- what any rule of a level grants fits the level
+    pub exact-fits : (B : Block) (l : ℕ) (ρ : Rule) → Is (at P l ρ) → Same P (grants P ρ) B → Is (fits P B l)
+    unfolding fits
+    exact-fits B l ρ a e =
+        same-in P (grants P (cover P B l)) B λ u r o t.
+        same (grants P (cover P B l) u r o) (B u r o)
+        (λ g. rw (← e u r o t) (least B l ρ a (λ u r o t h. rw (e u r o t) h) u r o t g))
+        (λ h. cover-grants B l u r o t h)
+
+    pub fits-exact : (B : Block) (l : ℕ) → Is (fits P B l) → Same P (grants P (cover P B l)) B
+    unfolding fits
+    fits-exact B l h = same-out P (grants P (cover P B l)) B h

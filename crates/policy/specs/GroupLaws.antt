@@ -1,0 +1,229 @@
+-- The groups that merging leaves, and what their rules come to.
+-- Assumes nothing.
+use Prim.Native.Nat.{ℕ, zero, suc, _+_, _≤_, _<_, min, max}
+use borrow.Author.Tests.{eqb-true, eqb-false, eq-eqb, ne-eqb, ltb-true, ltb-false}
+use lib.Dec.{eqb, ltb}
+use lib.ListN.{length, getD}
+use mathlib.Core.Bool.{Bool, true, false, cond, _||_, or-false, or-assoc, or-comm}
+use mathlib.Core.List.{List, [], _∷_, _++_, List·Memᴰ·head, List·Memᴰ·tail}
+use mathlib.Core.Path.{_≡_, refl, sym, ap, ap₂, _∙_, fun-ext}
+use native.Mathlib.Nat.{add-assoc, add-comm}
+use native.Mathlib.Omega.{arith}
+use Rattle.policy.specs.CoverLaws.{exact-fits}
+use Rattle.policy.specs.Covering.{fits, levelOf}
+use Rattle.policy.specs.Lowest.{lowest-most, lowest-passes, lowest-some}
+use Rattle.policy.specs.MergeLaws.{total, Every, Ascending, Runs, run-runs, runs-apart, runs-count, runs-total, runs-every, runs-ascending, apart-at, asc-nil, asc-cons}
+use Rattle.policy.specs.Merging.{ones, union, mergeable, groups, merged}
+use Rattle.policy.specs.RuleLaws.{Lawful}
+use Rattle.policy.specs.Rules.{Setting, Rule, Block, grants, at, ruleLevel, Some, Same}
+use Rattle.policy.specs.Tests.{Is, or-l, never, test, same, _∈_, any, any-in, any-out, from, upTo, from-out, upTo-in, upTo-out, map-out, getD-in}
+use Rattle.policy.specs.ThinLaws.{written-exact, fits-same, written-level}
+use Rattle.policy.specs.Thinning.{written}
+
+-- how often a part stands in a group
+abbrev pub count : ℕ → List ℕ → ℕ
+count p [] = 0
+count p (q ∷ t) = cond (eqb p q) 1 0 + count p t
+
+pub count-append : (p : ℕ) (g h : List ℕ) → count p (g ++ h) ≡ count p g + count p h
+count-append p [] h = omega arith
+count-append p (q ∷ t) h = let e = count-append p t h in omega arith
+
+pub count-in : (p : ℕ) {g : List ℕ} → p ∈ g → 0 < count p g
+count-in p (List·Memᴰ·head {x = q} e) = rw (eq-eqb p q e) (omega arith)
+count-in p (List·Memᴰ·tail m) = let h = count-in p m in omega arith
+
+pub count-out : (p : ℕ) (g : List ℕ) → 0 < count p g → p ∈ g
+count-out p [] h = absurd (omega arith)
+count-out p (q ∷ t) h = go (eqb p q) refl (count-out p t) h
+  where
+    go : (b : Bool) → eqb p q ≡ b → (0 < count p t → p ∈ t) → 0 < cond b 1 0 + count p t → p ∈ (q ∷ t)
+    go true e r h = List·Memᴰ·head (eqb-true p q e)
+    go false e r h = List·Memᴰ·tail (r (omega arith))
+
+-- the lowest part of a group of n parts in all
+abbrev pub lowPart : ℕ → List ℕ → ℕ
+lowPart n [] = n
+lowPart n (p ∷ t) = min p (lowPart n t)
+
+lowPart-most : (n : ℕ) (g : List ℕ) → lowPart n g ≤ n
+lowPart-most n [] = omega arith
+lowPart-most n (p ∷ t) = let h = lowPart-most n t in omega arith
+
+pub lowPart-append : (n : ℕ) (g h : List ℕ) → lowPart n (g ++ h) ≡ min (lowPart n g) (lowPart n h)
+lowPart-append n [] h = let k = lowPart-most n h in omega arith
+lowPart-append n (p ∷ t) h = let e = lowPart-append n t h in omega arith
+
+ones-length : (k n : ℕ) → length (ones k n) ≡ n
+ones-length k zero = refl
+ones-length k (suc n) = ap suc (ones-length (suc k) n)
+
+ones-before : (p k n : ℕ) → p < k → total _+_ 0 (count p) (ones k n) ≡ 0
+ones-before p k zero h = refl
+ones-before p k (suc n) h = let e = ones-before p (suc k) n (omega arith) in rw (ne-eqb p k (omega arith)) (omega arith)
+
+ones-count : (p k n : ℕ) → k ≤ p → p < k + n → total _+_ 0 (count p) (ones k n) ≡ 1
+ones-count p k zero h l = absurd (omega arith)
+ones-count p k (suc n) h l =
+    test (eqb p k)
+    (λ e. let d = ones-before p (suc k) n (let x = eqb-true p k e in omega arith) in rw e (omega arith))
+    (λ e. let d = ones-count p (suc k) n (let x = eqb-false p k e in omega arith) (omega arith) in rw e (omega arith))
+
+ones-after : (n x k m : ℕ) → x < k → k + m ≤ n → Every (λ h. x < lowPart n h) (ones k m)
+ones-after n x k m l b g i =
+    let t = map-out (λ p. p ∷ []) (from k m) i in
+    let d = from-out k m (t .1) in
+    rw (t .2) (omega arith)
+
+ones-ascending : (n k m : ℕ) → k + m ≤ n → Ascending (lowPart n) (ones k m)
+ones-ascending n k zero h = asc-nil
+ones-ascending n k (suc m) h = asc-cons {g = k ∷ []} (λ g i. let e = ones-after n k (suc k) m (omega arith) (omega arith) g i in omega arith) (ones-ascending n (suc k) m (omega arith))
+
+total-any : {A : Type 0} (f : A → Bool) (l : List A) → total _||_ false f l ≡ any f l
+total-any f [] = refl
+total-any f (x ∷ xs) = ap (λ (b : Bool). f x || b) (total-any f xs)
+
+-- a part that is counted once in all stands in one group only
+pub record Owner (p : ℕ) (gs : List (List ℕ)) : Type 0 where
+  pub place : ℕ
+  pub inside : place < length gs
+  pub has : p ∈ getD gs place []
+  pub only-one : (j : ℕ) → j < length gs → p ∈ getD gs j [] → j ≡ place
+
+none-has : (p : ℕ) (gs : List (List ℕ)) → total _+_ 0 (count p) gs ≡ 0 → (j : ℕ) → j < length gs → p ∈ getD gs j [] → ⊥
+none-has p [] e j h m = omega arith
+none-has p (g ∷ t) e zero h m = let k = count-in p m in omega arith
+none-has p (g ∷ t) e (suc j) h m = none-has p t (omega arith) j (omega arith) m
+
+pub owner : (p : ℕ) (gs : List (List ℕ)) → total _+_ 0 (count p) gs ≡ 1 → Owner p gs
+owner p [] e = absurd (omega arith)
+owner p (g ∷ t) e = test (ltb 0 (count p g)) (λ h. here (ltb-true 0 (count p g) h)) (λ h. there (ltb-false 0 (count p g) h) (owner p t))
+  where
+    here-only : 0 < count p g → (j : ℕ) → j < suc (length t) → p ∈ getD (g ∷ t) j [] → j ≡ 0
+    here-only h zero l m = refl
+    here-only h (suc j) l m = absurd (none-has p t (omega arith) j (omega arith) m)
+
+    here : 0 < count p g → Owner p (g ∷ t)
+    here h = record { place = 0; inside = omega arith; has = count-out p g h; only-one = here-only h }
+
+    there-only : count p g ≤ 0 → (o : Owner p t) (j : ℕ) → j < suc (length t) → p ∈ getD (g ∷ t) j [] → j ≡ suc (o .place)
+    there-only h o zero l m = let k = count-in p m in absurd (omega arith)
+    there-only h o (suc j) l m = ap suc (o .only-one j (omega arith) m)
+
+    there : count p g ≤ 0 → (total _+_ 0 (count p) t ≡ 1 → Owner p t) → Owner p (g ∷ t)
+    there h r = let o = r (omega arith) in record { place = suc (o .place); inside = let k = o .inside in omega arith; has = o .has; only-one = there-only h o }
+
+module _ (P : Setting) (block : ℕ → Block) where
+  union-append : (g h : List ℕ) (u r o : ℕ) → union P block (g ++ h) u r o ≡ (union P block g u r o || union P block h u r o)
+  unfolding union
+  union-append [] h u r o = refl
+  union-append (p ∷ t) h u r o = ap (λ (b : Bool). block p u r o || b) (union-append t h u r o) ∙ sym (or-assoc (block p u r o) (any (λ p. block p u r o) t) (any (λ p. block p u r o) h))
+
+  -- a group's block goes by its members, in any order
+  pub union-same : (g h : List ℕ) → ((p : ℕ) → p ∈ g → p ∈ h) → ((p : ℕ) → p ∈ h → p ∈ g) → union P block g ≡ union P block h
+  unfolding union
+  union-same g h a b =
+      fun-ext λ u. fun-ext λ r. fun-ext λ o.
+      same (any (λ p. block p u r o) g) (any (λ p. block p u r o) h)
+      (λ k. let t = any-out (λ p. block p u r o) g k in any-in (λ p. block p u r o) (a (t .0) (t .1)) (t .2))
+      (λ k. let t = any-out (λ p. block p u r o) h k in any-in (λ p. block p u r o) (b (t .0) (t .1)) (t .2))
+
+  mined : (n : ℕ) → Runs (mergeable P block) _++_ (ones 0 n) (groups P block n) (merged P block n)
+  unfolding groups merged
+  mined n = run-runs (mergeable P block) _++_ n (ones 0 n) (let e = ones-length 0 n in omega arith)
+
+  -- parts = rules + merges
+  pub parts-count : (n : ℕ) → n ≡ length (groups P block n) + merged P block n
+  parts-count n = let e = runs-count (mergeable P block) _++_ (mined n) in let d = ones-length 0 n in omega arith
+
+  -- every part stands in exactly one group
+  pub part-owner : (n p : ℕ) → p < n → Owner p (groups P block n)
+  part-owner n p h =
+      owner p (groups P block n)
+      (sym (runs-total (mergeable P block) _++_ _+_ 0 add-assoc add-comm (count p) (count-append p) (mined n)) ∙ ones-count p 0 n (omega arith) (omega arith))
+
+  -- the groups stand in the order of their lowest parts
+  pub groups-ascending : (n : ℕ) → Ascending (lowPart n) (groups P block n)
+  groups-ascending n = runs-ascending (mergeable P block) _++_ (lowPart n) (λ g h l. let e = lowPart-append n g h in omega arith) (mined n) (ones-ascending n 0 n (omega arith))
+
+  union-one : (p u r o : ℕ) → union P block (p ∷ []) u r o ≡ block p u r o
+  unfolding union
+  union-one p u r o = or-false (block p u r o)
+
+  ones-union : (k n u r o : ℕ) → any (λ g. union P block g u r o) (ones k n) ≡ any (λ p. block p u r o) (from k n)
+  ones-union k zero u r o = refl
+  ones-union k (suc n) u r o = ap₂ _||_ (union-one k u r o) (ones-union (suc k) n u r o)
+
+  -- the groups' unions make up the union of all parts
+  pub groups-union : (n u r o : ℕ) → any (λ g. union P block g u r o) (groups P block n) ≡ any (λ p. block p u r o) (upTo n)
+  groups-union n u r o =
+      sym (total-any (λ g. union P block g u r o) (groups P block n))
+      ∙ sym (runs-total (mergeable P block) _++_ _||_ false or-assoc or-comm (λ g. union P block g u r o) (λ g h. union-append g h u r o) (mined n))
+      ∙ total-any (λ g. union P block g u r o) (ones 0 n)
+      ∙ ones-union 0 n u r o
+
+  -- no group is empty of triples
+  pub groups-some : (n : ℕ) → ((p : ℕ) → p < n → Some P (block p)) → Every (λ g. Some P (union P block g)) (groups P block n)
+  groups-some n h = runs-every (mergeable P block) _++_ (λ g. Some P (union P block g)) joined (mined n) first
+    where
+      joined : (g k : List ℕ) → Some P (union P block g) → Some P (union P block k) → Is (mergeable P block g k) → Some P (union P block (g ++ k))
+      joined g k s _ _ = record { u = s .u; r = s .r; o = s .o; triple = s .triple; inside = union-append g k (s .u) (s .r) (s .o) ∙ or-l _ (s .inside) }
+
+      first : Every (λ g. Some P (union P block g)) (ones 0 n)
+      first g m =
+          let t = map-out (λ p. p ∷ []) (from 0 n) m in
+          let s = h (t .0) (upTo-out n (t .1)) in
+          rw (t .2) (record { u = s .u; r = s .r; o = s .o; triple = s .triple; inside = union-one (t .0) (s .u) (s .r) (s .o) ∙ s .inside })
+
+  module _ (L : Lawful P) (n : ℕ) (part-fits : (p : ℕ) → p < n → Is (fits P (block p) 3)) where
+    abbrev pub Fitting : List ℕ → Type 0
+    Fitting g = Is (fits P (union P block g) (levelOf P (union P block g)))
+
+    joined-fits : (g h : List ℕ) → Is (mergeable P block g h) → Fitting (g ++ h)
+    unfolding mergeable levelOf
+    joined-fits g h m =
+        let top = suc (max (levelOf P (union P block g)) (levelOf P (union P block h))) in
+        let t = any-out (fits P (union P block (g ++ h))) (upTo top) m in
+        let b = upTo-out top (t .1) in
+        let c = lowest-most (fits P (union P block g)) in
+        let d = lowest-most (fits P (union P block h)) in
+        lowest-some (fits P (union P block (g ++ h))) (t .0) (omega arith) (t .2)
+
+    first-fits : (p : ℕ) → p < n → Fitting (p ∷ [])
+    unfolding levelOf
+    first-fits p h = lowest-passes (fits P (union P block (p ∷ []))) (fits-same P L (block p) (union P block (p ∷ [])) 3 (λ u r o t. sym (union-one p u r o)) (part-fits p h))
+
+    -- every group fits its level
+    pub groups-fit : Every Fitting (groups P block n)
+    groups-fit = runs-every (mergeable P block) _++_ Fitting joined (mined n) first
+      where
+        joined : (g h : List ℕ) → Fitting g → Fitting h → Is (mergeable P block g h) → Fitting (g ++ h)
+        joined g h p q m = joined-fits g h m
+
+        first : Every Fitting (ones 0 n)
+        first g m =
+            let t = map-out (λ p. p ∷ []) (from 0 n) m in
+            rw (t .2) (first-fits (t .0) (upTo-out n (t .1)))
+
+    unfoldable pub rule : ℕ → Rule
+    rule i = written P (union P block (getD (groups P block n) i []))
+
+    -- a rule grants what its parts do
+    pub rule-exact : (i : ℕ) → i < length (groups P block n) → Same P (grants P (rule i)) (union P block (getD (groups P block n) i []))
+    unfolding rule
+    rule-exact i h = written-exact P L (union P block (getD (groups P block n) i [])) (groups-fit _ (getD-in (groups P block n) [] i h))
+
+    -- no single rule, of a level no higher than the higher of theirs, grants what two rules grant together
+    pub no-pair : (i j : ℕ) → i < j → j < length (groups P block n) → (ρ : Rule) → Is (at P 3 ρ) → ruleLevel P ρ ≤ max (ruleLevel P (rule i)) (ruleLevel P (rule j))
+        → Same P (grants P ρ) (λ u r o. grants P (rule i) u r o || grants P (rule j) u r o) → ⊥
+    unfolding rule ruleLevel mergeable
+    no-pair i j h l ρ a k e =
+        let gi = getD (groups P block n) i [] in
+        let gj = getD (groups P block n) j [] in
+        let fi = groups-fit gi (getD-in (groups P block n) [] i (omega arith)) in
+        let fj = groups-fit gj (getD-in (groups P block n) [] j l) in
+        let li = written-level P L (union P block gi) fi in
+        let lj = written-level P L (union P block gj) fj in
+        let f = exact-fits P L (union P block (gi ++ gj)) (ruleLevel P ρ) ρ (lowest-passes (λ l. at P l ρ) a)
+        (λ u r o t. e u r o t ∙ ap₂ _||_ (rule-exact i (omega arith) u r o t) (rule-exact j l u r o t) ∙ sym (union-append gi gj u r o)) in
+        never {b = mergeable P block gi gj} (any-in (fits P (union P block (gi ++ gj))) (upTo-in {n = suc (max (levelOf P (union P block gi)) (levelOf P (union P block gj)))} {i = ruleLevel P ρ} (omega arith)) f) (apart-at (mergeable P block) _++_ [] (runs-apart (mergeable P block) _++_ (mined n)) i j h l)

@@ -1,0 +1,53 @@
+-- Merging: the first pair that may be joined is joined, and the search begins afresh. 01, section "Covering, merging, striking".
+-- Assumes nothing.
+use Prim.Native.Nat.{ℕ, zero, suc, max}
+use mathlib.Core.Bool.{Bool, cond}
+use mathlib.Core.List.{List, [], _∷_, _++_, map}
+use mathlib.Core.Option.{Option, none, some, Option·map}
+use Rattle.policy.specs.Covering.{fits, levelOf}
+use Rattle.policy.specs.Rules.{Setting, Block}
+use Rattle.policy.specs.Tests.{any, from, upTo}
+
+-- Over any kind of group: `ok` says whether two may become one, `join` makes the one.
+module _ {A : Type 0} (ok : A → A → Bool) (join : A → A → A) where
+  -- a group takes in the first of the later groups that it may; what becomes of it, and the others
+  abbrev pub absorb : A → List A → Option (A × List A)
+  absorb g [] = none
+  absorb g (h ∷ t) =
+      let r : Option (A × List A) = Option·map (λ (p : A × List A). (p .0, h ∷ p .1)) (absorb g t) in
+      cond (ok g h) (some (join g h, t)) r
+
+  -- "The first pair, earlier group first, then the other": one merge, or none where no pair is left
+  abbrev pub step : List A → Option (List A)
+  step [] = none
+  step (g ∷ t) = elim (absorb g t) [ none ↦ Option·map (λ (s : List A). g ∷ s) (step t) | some p ↦ some (p .0 ∷ p .1) ]
+
+  -- "That is one merge; the search then begins afresh and ends when no pair is left." n is at least the number of merges
+  abbrev pub run : ℕ → List A → List A
+  run zero gs = gs
+  run (suc n) gs = elim (step gs) [ none ↦ gs | some s ↦ run n s ]
+
+  -- how many merges were made
+  abbrev pub merges : ℕ → List A → ℕ
+  merges zero gs = 0
+  merges (suc n) gs = elim (step gs) [ none ↦ 0 | some s ↦ suc (merges n s) ]
+
+-- "Groups start as one part each": the parts k, k + 1, ..., n of them
+abbrev pub ones : ℕ → ℕ → List (List ℕ)
+ones k n = map (λ p. p ∷ []) (from k n)
+
+module _ (P : Setting) (block : ℕ → Block) where
+  -- the blocks of a group's parts together
+  unfoldable pub union : List ℕ → Block
+  union g u r o = any (λ p. block p u r o) g
+
+  -- "whose union fits a level no higher than the higher of the two"
+  unfoldable pub mergeable : List ℕ → List ℕ → Bool
+  mergeable g h = any (fits P (union (g ++ h))) (upTo (suc (max (levelOf P (union g)) (levelOf P (union h)))))
+
+  -- the groups that merging leaves of n parts, and how many merges were made
+  unfoldable pub groups : ℕ → List (List ℕ)
+  groups n = run mergeable _++_ n (ones 0 n)
+
+  unfoldable pub merged : ℕ → ℕ
+  merged n = merges mergeable _++_ n (ones 0 n)

@@ -1,0 +1,96 @@
+-- What an accepted role file says, and how roles and rules see it. 01, sections "The role file" and "Roles and parts".
+-- Assumes nothing.
+use Prim.Native.Nat.{ℕ, zero, suc}
+use lib.Dec.{eqb}
+use lib.ListN.{length, getD}
+use mathlib.Core.Bool.{Bool, true, false, cond, _&&_, _||_, not}
+use mathlib.Core.List.{List}
+use mathlib.Core.Option.{Option, some}
+use Rattle.policy.specs.Roles.{Roles}
+use Rattle.policy.specs.Rules.{own, Side, Setting}
+use Rattle.policy.specs.Sets.{subset, maskOf}
+use Rattle.policy.specs.Tests.{Is, any, upTo}
+
+-- one side's size, attributes and values
+pub record Table : Type 0 where
+  pub count : ℕ
+  -- the kinds of the attributes declared, in order: true for a set
+  pub kinds : List Bool
+  -- attribute, who
+  pub value : ℕ → ℕ → Option ℕ
+
+pub record Policy : Type 0 where
+  pub users : Table
+  pub resources : Table
+  pub operations : ℕ
+  pub roles : ℕ
+  -- role, user
+  pub assigned : ℕ → ℕ → Bool
+  -- role, resource, operation
+  pub permitted : ℕ → ℕ → ℕ → Bool
+  -- junior role, senior role: a line 07
+  pub line : ℕ → ℕ → Bool
+
+-- the kind of an attribute; one that is not declared counts as single
+abbrev pub kindOf : Table → ℕ → Bool
+kindOf t a = getD (t .kinds) a false
+
+-- ---- seniors
+
+module _ (line : ℕ → ℕ → Bool) where
+  -- "A role's seniors are all roles reached by one or more 07 steps."
+  pub data Senior : ℕ → ℕ → Type 0 where
+    one : {i j : ℕ} → Is (line i j) → Senior i j
+    more : {i j k : ℕ} → Is (line i k) → Senior k j → Senior i j
+
+  -- the test of it: from one role to another, with roles below n between them. SeniorLaws shows that the two agree
+  abbrev pub reach : ℕ → ℕ → ℕ → Bool
+  reach zero i j = line i j
+  reach (suc n) i j = reach n i j || (reach n i n && reach n n j)
+
+-- equality where an attribute is single, containment where it is a set
+abbrev pub order : Bool → ℕ → ℕ → Bool
+order true x y = subset x y
+order false x y = eqb x y
+
+module _ (F : Policy) where
+  unfoldable pub senior : ℕ → ℕ → Bool
+  senior k s = reach (F .line) (F .roles) k s
+
+  -- "7 a role is its own senior"
+  unfoldable pub circular : Bool
+  circular = any (λ k. senior k k) (upTo (F .roles))
+
+  -- "Its holders are the users assigned to it or to a senior."
+  unfoldable pub held : ℕ → ℕ → Bool
+  held k u = F .assigned k u || any (λ s. senior k s && F .assigned s u) (upTo (F .roles))
+
+  -- "the set of roles they hold"
+  unfoldable pub rolesOf : ℕ → ℕ
+  rolesOf u = maskOf (F .roles) (λ k. held k u)
+
+  -- "A single attribute must equal one value. A user set must contain one listed set whole;" 255 is a set
+  unfoldable pub userSide : Side
+  userSide = record {
+    count = F .users .count;
+    attrs = length (F .users .kinds);
+    isSet = λ a. eqb a own || kindOf (F .users) a;
+    value = λ a u. cond (eqb a own) (some (rolesOf u)) (F .users .value a u);
+    below = λ a. order (eqb a own || kindOf (F .users) a);
+  }
+
+  -- "a resource set must equal one." 255 is single
+  unfoldable pub resourceSide : Side
+  resourceSide = record {
+    count = F .resources .count;
+    attrs = length (F .resources .kinds);
+    isSet = λ a. not (eqb a own) && kindOf (F .resources) a;
+    value = λ a r. cond (eqb a own) (some r) (F .resources .value a r);
+    below = λ a. eqb;
+  }
+
+  unfoldable pub settingOf : Setting
+  settingOf = record { users = userSide; resources = resourceSide; slots = F .operations }
+
+  unfoldable pub rolesIn : Roles
+  rolesIn = record { number = F .roles; held = held; gives = F .permitted }

@@ -1,0 +1,42 @@
+-- A role file as tables, and the policy and the roles that it states.
+-- Assumes nothing.
+use Prim.Native.Nat.{ℕ, _^_}
+use borrow.Author.Tests.{eqb-true, eq-eqb}
+use lib.Dec.{eqb}
+use mathlib.Core.Bool.{Bool, true, false, _||_, or-false}
+use mathlib.Core.Path.{refl, sym, _∙_}
+use Rattle.policy.specs.MinedLaws.{MinedRules, mined-rules}
+use Rattle.policy.specs.PartLaws.{Own}
+use Rattle.policy.specs.Policy.{Policy, kindOf, order, held, rolesOf, userSide, resourceSide, settingOf, rolesIn}
+use Rattle.policy.specs.RuleLaws.{Lawful}
+use Rattle.policy.specs.Rules.{own, meets}
+use Rattle.policy.specs.Sets.{subset, subset-self, subset-chain, one-subset, bit-mask}
+use Rattle.policy.specs.Tests.{Is, same, any-ext}
+
+order-self : (b : Bool) (x : ℕ) → Is (order b x x)
+order-self true x = subset-self x
+order-self false x = eq-eqb x x refl
+
+order-chain : (b : Bool) (x y z : ℕ) → Is (order b x y) → Is (order b y z) → Is (order b x z)
+order-chain true x y z p q = subset-chain x y z p q
+order-chain false x y z p q = rw (eqb-true x y p) q
+
+module _ (F : Policy) where
+  pub lawful : Lawful (settingOf F)
+  unfolding settingOf userSide resourceSide
+  lawful = record {
+    users = record { self = λ a x. order-self (eqb a own || kindOf (F .users) a) x; chain = λ a x y z. order-chain (eqb a own || kindOf (F .users) a) x y z };
+    resources = record { self = λ a x. order-self false x; chain = λ a x y z. order-chain false x y z };
+  }
+
+  pub owned : Own (settingOf F) (rolesIn F)
+  unfolding settingOf userSide resourceSide rolesIn meets rolesOf
+  owned = record {
+    one-role = λ k. 2 ^ k;
+    users = λ k u lk lu. or-false (subset (2 ^ k) (rolesOf F u)) ∙ one-subset k (rolesOf F u) ∙ bit-mask (F .roles) (λ k. held F k u) k lk;
+    resources = λ vs r lr. any-ext (λ v. eqb v r) (eqb r) vs (λ v m. same (eqb v r) (eqb r v) (λ p. eq-eqb r v (sym (eqb-true v r p))) (λ p. eq-eqb v r (sym (eqb-true r v p))));
+  }
+
+  -- the third demand, of the rules of every policy
+  pub mined-of : MinedRules (settingOf F) (rolesIn F)
+  mined-of = mined-rules (settingOf F) (rolesIn F) lawful owned

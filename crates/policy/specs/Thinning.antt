@@ -1,0 +1,71 @@
+-- Thinning a covering rule, and what a rule costs. 01, section "Covering, merging, striking".
+-- Assumes nothing.
+use Prim.Native.Nat.{ℕ, _+_}
+use lib.ListN.{length}
+use mathlib.Core.Bool.{Bool, cond, _&&_, not}
+use mathlib.Core.List.{List, [], _∷_, _++_, map}
+use Rattle.policy.specs.Covering.{cover, levelOf}
+use Rattle.policy.specs.Rules.{Setting, Cond, Rule, Block, grants, sameBlock, struck, user, resource, atom}
+use Rattle.policy.specs.Sets.{size}
+use Rattle.policy.specs.Tests.{any, keep, sum}
+
+-- ---- sets that strictly contain another listed set
+
+module _ (le : ℕ → ℕ → Bool) where
+  abbrev pub strictly : ℕ → ℕ → Bool
+  strictly w v = le w v && not (le v w)
+
+  -- the values that lie strictly above no other listed one
+  unfoldable pub trim : List ℕ → List ℕ
+  trim vs = keep (λ v. not (any (λ w. strictly w v) vs)) vs
+
+-- ---- striking one at a time
+
+-- One pass: each condition is struck where the test still passes without it. `pre` is what was kept before.
+abbrev pub strike : {C : Type 0} → (List C → Bool) → List C → List C → List C
+strike ok pre [] = []
+strike ok pre (c ∷ t) =
+    let struck = strike ok pre t in
+    let kept = c ∷ strike ok (pre ++ (c ∷ [])) t in
+    cond (ok (pre ++ t)) struck kept
+
+module _ (P : Setting) where
+  -- "In user set conjuncts each set that strictly contains another listed set goes." (Among single values none does.)
+  unfoldable pub trimCond : Cond → Cond
+  trimCond (user a vs) = user a (trim (P .users .below a) vs)
+  trimCond (resource a vs) = resource a vs
+  trimCond (atom a b) = atom a b
+
+  -- the rule with these operations and conditions grants just B
+  unfoldable pub grantsJust : Block → ℕ → List Cond → Bool
+  grantsJust B f cs = sameBlock P (grants P (record { ops = f; conds = cs })) B
+
+  -- "Then conjuncts, users' first, each side by attribute number, and then atoms by user and resource attribute, are
+  -- struck one at a time where the grants stay the same." That is the order in which a covering rule has them.
+  unfoldable pub thinned : Block → Rule → Rule
+  thinned B ρ = record { ops = ρ .ops; conds = strike (grantsJust B (ρ .ops)) [] (map trimCond (ρ .conds)) }
+
+  -- "Each group's covering rule at its level is then thinned."
+  unfoldable pub written : Block → Rule
+  written B = thinned B (cover P B (levelOf P B))
+
+  -- ---- "Cost (000, all weights 1): values in single conjuncts, elements over all sets in set conjuncts, operations, atoms."
+
+  -- the part of a condition in each sum
+  unfoldable pub singleCost : Cond → ℕ
+  singleCost (user a vs) = cond (P .users .isSet a) 0 (length vs)
+  singleCost (resource a vs) = cond (P .resources .isSet a) 0 (length vs)
+  singleCost (atom a b) = 0
+
+  unfoldable pub setCost : Cond → ℕ
+  setCost (user a vs) = cond (P .users .isSet a) (sum size vs) 0
+  setCost (resource a vs) = cond (P .resources .isSet a) (sum size vs) 0
+  setCost (atom a b) = 0
+
+  unfoldable pub atomCost : Cond → ℕ
+  atomCost (user a vs) = 0
+  atomCost (resource a vs) = 0
+  atomCost (atom a b) = 1
+
+  unfoldable pub cost : Rule → ℕ
+  cost ρ = sum singleCost (ρ .conds) + sum setCost (ρ .conds) + size (ρ .ops) + sum atomCost (ρ .conds)

@@ -1,0 +1,1 @@
+// The meaning of roles and rules, and its theory: definitions and theorems only (specs/).
