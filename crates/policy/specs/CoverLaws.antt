@@ -5,10 +5,10 @@ use borrow.Author.Tests.{ltb-true}
 use lib.Dec.{ltb}
 use mathlib.Core.List.{List, _++_, List·Memᴰ·append-cases, Memᴰ·append-left, Memᴰ·append-right}
 use mathlib.Core.Logic.{_⊎_, inl, inr}
-use mathlib.Core.Path.{_≡_, sym, _∙_}
-use Rattle.policy.specs.Covering.{allKnow, valuesOf, opIn, pairIn, userIn, resourceIn, everywhere, userConds, resourceConds, atomConds, cover, fits}
+use mathlib.Core.Path.{_≡_, refl, sym, _∙_}
+use Rattle.policy.specs.Covering.{allKnow, valuesOf, opIn, pairIn, standsIn, everywhere, conjuncts, atomConds, cover, fits}
 use Rattle.policy.specs.RuleLaws.{Lawful, grants-in, grants-op, grants-cond, same-in, same-out}
-use Rattle.policy.specs.Rules.{Setting, Cond, Rule, Block, attrsOf, userOwn, resourceOwn, holds, grants, allowed, at, Triple, Within, Same, user, resource, atom}
+use Rattle.policy.specs.Rules.{Which, by, Setting, Cond, Rule, Block, attrsOf, ownAt, holds, grants, allowed, at, Triple, Within, Same, user, resource, conjunct, atom}
 use Rattle.policy.specs.Sets.{bit-mask}
 use Rattle.policy.specs.SideLaws.{AllMeet, side-known, side-self, side-least}
 use Rattle.policy.specs.Tests.{Is, and-l, and-r, same, imp, imp-in, imp-out, _∈_, all, any, all-out, all-in, any-in, any-out, each, each-in, each-out, only, only-in, only-out, upTo, upTo-in, upTo-out, elem-out}
@@ -24,36 +24,31 @@ module _ (P : Setting) where
   unfolding pairIn
   pair-out B u r h = let t = any-out (λ o. B u r o) _ h in (t .0, upTo-out _ (t .1), t .2)
 
-  pub user-in : (B : Block) (u : ℕ) {r : ℕ} → r < P .resources .count → Is (pairIn P B u r) → Is (userIn P B u)
-  unfolding userIn
-  user-in B u l h = any-in (λ r. pairIn P B u r) (upTo-in l) h
+  pub stands-in : (B : Block) (w : Which) {u r : ℕ} → u < P .side user .count → r < P .side resource .count → Is (pairIn P B u r) → Is (standsIn P B w (by w u r))
+  unfolding standsIn
+  stands-in B user {u} {r} lu lr h = any-in (λ r. pairIn P B u r) (upTo-in lr) h
+  stands-in B resource {u} {r} lu lr h = any-in (λ u. pairIn P B u r) (upTo-in lu) h
 
-  pub user-out : (B : Block) (u : ℕ) → Is (userIn P B u) → (r : ℕ) × (r < P .resources .count) × Is (pairIn P B u r)
-  unfolding userIn
-  user-out B u h = let t = any-out (λ r. pairIn P B u r) _ h in (t .0, upTo-out _ (t .1), t .2)
-
-  pub resource-in : (B : Block) (r : ℕ) {u : ℕ} → u < P .users .count → Is (pairIn P B u r) → Is (resourceIn P B r)
-  unfolding resourceIn
-  resource-in B r l h = any-in (λ u. pairIn P B u r) (upTo-in l) h
-
-  pub resource-out : (B : Block) (r : ℕ) → Is (resourceIn P B r) → (u : ℕ) × (u < P .users .count) × Is (pairIn P B u r)
-  unfolding resourceIn
-  resource-out B r h = let t = any-out (λ u. pairIn P B u r) _ h in (t .0, upTo-out _ (t .1), t .2)
+  -- who stands in B shares a triple of it with somebody of the other side
+  pub stands-out : (B : Block) (w : Which) (x : ℕ) → x < P .side w .count → Is (standsIn P B w x) → (u r : ℕ) × (u < P .side user .count) × (r < P .side resource .count) × Is (pairIn P B u r) × (by w u r ≡ x)
+  unfolding standsIn
+  stands-out B user u l h = let t = any-out (λ r. pairIn P B u r) _ h in (u, t .0, l, upTo-out _ (t .1), t .2, refl)
+  stands-out B resource r l h = let t = any-out (λ u. pairIn P B u r) _ h in (t .0, r, upTo-out _ (t .1), l, t .2, refl)
 
   pub op-in : (B : Block) {u r o : ℕ} → Triple P u r o → Is (B u r o) → Is (opIn P B o)
   unfolding opIn
-  op-in B {u} {r} {o} t h = any-in (λ u. any (λ r. B u r o) (upTo (P .resources .count))) (upTo-in (t .user)) (any-in (λ r. B u r o) (upTo-in (t .resource)) h)
+  op-in B {u} {r} {o} t h = any-in (λ u. any (λ r. B u r o) (upTo (P .side resource .count))) (upTo-in (t .user)) (any-in (λ r. B u r o) (upTo-in (t .resource)) h)
 
-  pub op-out : (B : Block) (o : ℕ) → Is (opIn P B o) → (u r : ℕ) × (u < P .users .count) × (r < P .resources .count) × Is (B u r o)
+  pub op-out : (B : Block) (o : ℕ) → Is (opIn P B o) → (u r : ℕ) × (u < P .side user .count) × (r < P .side resource .count) × Is (B u r o)
   unfolding opIn
   op-out B o h =
-      let t = any-out (λ u. any (λ r. B u r o) (upTo (P .resources .count))) _ h in
+      let t = any-out (λ u. any (λ r. B u r o) (upTo (P .side resource .count))) _ h in
       let s = any-out (λ r. B (t .0) r o) _ (t .2) in
       (t .0, s .0, upTo-out _ (t .1), upTo-out _ (s .1), s .2)
 
   -- a condition holds of every user and resource that share a triple of B
   abbrev pub Everywhere : Block → Cond → Type 0
-  Everywhere B c = (u r : ℕ) → u < P .users .count → r < P .resources .count → Is (pairIn P B u r) → Is (holds P c u r)
+  Everywhere B c = (u r : ℕ) → u < P .side user .count → r < P .side resource .count → Is (pairIn P B u r) → Is (holds P c u r)
 
   pub everywhere-in : (B : Block) (c : Cond) → Everywhere B c → Is (everywhere P B c)
   unfolding everywhere
@@ -63,66 +58,56 @@ module _ (P : Setting) where
   unfolding everywhere
   everywhere-out B c h u r lu lr =
       imp-out (holds P c u r)
-      (all-out (λ r. imp (pairIn P B u r) (holds P c u r)) (all-out (λ u. all (λ r. imp (pairIn P B u r) (holds P c u r)) (upTo (P .resources .count))) h (upTo-in lu)) (upTo-in lr))
+      (all-out (λ r. imp (pairIn P B u r) (holds P c u r)) (all-out (λ u. all (λ r. imp (pairIn P B u r) (holds P c u r)) (upTo (P .side resource .count))) h (upTo-in lu)) (upTo-in lr))
 
   -- the conditions of a covering rule
-  pub userConds-in : (B : Block) (l : ℕ) {a : ℕ} → a ∈ attrsOf (P .users) (userOwn l) → Is (allKnow (P .users) (userIn P B) a) → user a (valuesOf (P .users) (userIn P B) a) ∈ userConds P B l
-  unfolding userConds
-  userConds-in B l {a} m h = each-in (λ a. only (allKnow (P .users) (userIn P B) a) (user a (valuesOf (P .users) (userIn P B) a))) m (only-in _ h)
+  pub conjuncts-in : (B : Block) (l : ℕ) (w : Which) {a : ℕ} → a ∈ attrsOf (P .side w) (ownAt w l) → Is (allKnow (P .side w) (standsIn P B w) a) → conjunct w a (valuesOf (P .side w) (standsIn P B w) a) ∈ conjuncts P B l w
+  unfolding conjuncts
+  conjuncts-in B l w {a} m h = each-in (λ a. only (allKnow (P .side w) (standsIn P B w) a) (conjunct w a (valuesOf (P .side w) (standsIn P B w) a))) m (only-in _ h)
 
-  pub userConds-out : (B : Block) (l : ℕ) {c : Cond} → c ∈ userConds P B l → (a : ℕ) × (a ∈ attrsOf (P .users) (userOwn l)) × Is (allKnow (P .users) (userIn P B) a) × (c ≡ user a (valuesOf (P .users) (userIn P B) a))
-  unfolding userConds
-  userConds-out B l m =
-      let t = each-out (λ a. only (allKnow (P .users) (userIn P B) a) (user a (valuesOf (P .users) (userIn P B) a))) _ m in
-      let s = only-out (allKnow (P .users) (userIn P B) (t .0)) (t .2) in
+  pub conjuncts-out : (B : Block) (l : ℕ) (w : Which) {c : Cond} → c ∈ conjuncts P B l w → (a : ℕ) × (a ∈ attrsOf (P .side w) (ownAt w l)) × Is (allKnow (P .side w) (standsIn P B w) a) × (c ≡ conjunct w a (valuesOf (P .side w) (standsIn P B w) a))
+  unfolding conjuncts
+  conjuncts-out B l w m =
+      let t = each-out (λ a. only (allKnow (P .side w) (standsIn P B w) a) (conjunct w a (valuesOf (P .side w) (standsIn P B w) a))) _ m in
+      let s = only-out (allKnow (P .side w) (standsIn P B w) (t .0)) (t .2) in
       (t .0, t .1, s .0, s .1)
 
-  pub resourceConds-in : (B : Block) (l : ℕ) {a : ℕ} → a ∈ attrsOf (P .resources) (resourceOwn l) → Is (allKnow (P .resources) (resourceIn P B) a) → resource a (valuesOf (P .resources) (resourceIn P B) a) ∈ resourceConds P B l
-  unfolding resourceConds
-  resourceConds-in B l {a} m h = each-in (λ a. only (allKnow (P .resources) (resourceIn P B) a) (resource a (valuesOf (P .resources) (resourceIn P B) a))) m (only-in _ h)
-
-  pub resourceConds-out : (B : Block) (l : ℕ) {c : Cond} → c ∈ resourceConds P B l → (a : ℕ) × (a ∈ attrsOf (P .resources) (resourceOwn l)) × Is (allKnow (P .resources) (resourceIn P B) a) × (c ≡ resource a (valuesOf (P .resources) (resourceIn P B) a))
-  unfolding resourceConds
-  resourceConds-out B l m =
-      let t = each-out (λ a. only (allKnow (P .resources) (resourceIn P B) a) (resource a (valuesOf (P .resources) (resourceIn P B) a))) _ m in
-      let s = only-out (allKnow (P .resources) (resourceIn P B) (t .0)) (t .2) in
-      (t .0, t .1, s .0, s .1)
-
-  pub atomConds-in : (B : Block) {a b : ℕ} → a < P .users .attrs → b < P .resources .attrs → Is (everywhere P B (atom a b)) → atom a b ∈ atomConds P B
+  pub atomConds-in : (B : Block) {a b : ℕ} → a < P .side user .attrs → b < P .side resource .attrs → Is (everywhere P B (atom a b)) → atom a b ∈ atomConds P B
   unfolding atomConds
   atomConds-in B {a} {b} la lb h =
-      each-in (λ a. each (λ b. only (everywhere P B (atom a b)) (atom a b)) (upTo (P .resources .attrs))) (upTo-in la)
+      each-in (λ a. each (λ b. only (everywhere P B (atom a b)) (atom a b)) (upTo (P .side resource .attrs))) (upTo-in la)
       (each-in (λ b. only (everywhere P B (atom a b)) (atom a b)) (upTo-in lb) (only-in _ h))
 
-  pub atomConds-out : (B : Block) {c : Cond} → c ∈ atomConds P B → (a b : ℕ) × (a < P .users .attrs) × (b < P .resources .attrs) × Is (everywhere P B (atom a b)) × (c ≡ atom a b)
+  pub atomConds-out : (B : Block) {c : Cond} → c ∈ atomConds P B → (a b : ℕ) × (a < P .side user .attrs) × (b < P .side resource .attrs) × Is (everywhere P B (atom a b)) × (c ≡ atom a b)
   unfolding atomConds
   atomConds-out B m =
-      let t = each-out (λ a. each (λ b. only (everywhere P B (atom a b)) (atom a b)) (upTo (P .resources .attrs))) _ m in
+      let t = each-out (λ a. each (λ b. only (everywhere P B (atom a b)) (atom a b)) (upTo (P .side resource .attrs))) _ m in
       let s = each-out (λ b. only (everywhere P B (atom (t .0) b)) (atom (t .0) b)) _ (t .2) in
       let k = only-out (everywhere P B (atom (t .0) (s .0))) (s .2) in
       (t .0, s .0, upTo-out _ (t .1), upTo-out _ (s .1), k .0, k .1)
 
-  -- a condition of a covering rule is one of the three
-  pub cover-cases : (B : Block) (l : ℕ) {c : Cond} → c ∈ cover P B l .conds → (c ∈ userConds P B l) ⊎ (c ∈ resourceConds P B l) ⊎ (c ∈ atomConds P B)
+  -- a condition of a covering rule is a conjunct of one side or an atom
+  pub cover-cases : (B : Block) (l : ℕ) {c : Cond} → c ∈ cover P B l .conds → ((w : Which) × (c ∈ conjuncts P B l w)) ⊎ (c ∈ atomConds P B)
   unfolding cover
-  cover-cases B l {c} m = go (List·Memᴰ·append-cases (userConds P B l ++ resourceConds P B l) m)
+  cover-cases B l {c} m = go (List·Memᴰ·append-cases (conjuncts P B l user ++ conjuncts P B l resource) m)
     where
-      first : (c ∈ userConds P B l) ⊎ (c ∈ resourceConds P B l) → (c ∈ userConds P B l) ⊎ (c ∈ resourceConds P B l) ⊎ (c ∈ atomConds P B)
-      first (inl k) = inl k
-      first (inr k) = inr (inl k)
+      side : (c ∈ conjuncts P B l user) ⊎ (c ∈ conjuncts P B l resource) → (w : Which) × (c ∈ conjuncts P B l w)
+      side (inl k) = (user, k)
+      side (inr k) = (resource, k)
 
-      go : (c ∈ (userConds P B l ++ resourceConds P B l)) ⊎ (c ∈ atomConds P B) → (c ∈ userConds P B l) ⊎ (c ∈ resourceConds P B l) ⊎ (c ∈ atomConds P B)
-      go (inl k) = first (List·Memᴰ·append-cases (userConds P B l) k)
-      go (inr k) = inr (inr k)
+      go : (c ∈ (conjuncts P B l user ++ conjuncts P B l resource)) ⊎ (c ∈ atomConds P B) → ((w : Which) × (c ∈ conjuncts P B l w)) ⊎ (c ∈ atomConds P B)
+      go (inl k) = inl (side (List·Memᴰ·append-cases (conjuncts P B l user) k))
+      go (inr k) = inr k
 
-  -- a rule's condition that holds everywhere in B is met by each user of B; by each resource
-  users-meet : (B : Block) (a : ℕ) (vs : List ℕ) → Everywhere B (user a vs) → AllMeet (P .users) (userIn P B) a vs
+  pub cover-conjunct : (B : Block) (l : ℕ) (w : Which) {c : Cond} → c ∈ conjuncts P B l w → c ∈ cover P B l .conds
+  unfolding cover
+  cover-conjunct B l user m = Memᴰ·append-left _ (Memᴰ·append-left _ m)
+  cover-conjunct B l resource m = Memᴰ·append-left _ (Memᴰ·append-right (conjuncts P B l user) m)
+
+  -- a conjunct that holds everywhere in B is met by all who stand in it
+  all-meet : (B : Block) (w : Which) (a : ℕ) (vs : List ℕ) → Everywhere B (conjunct w a vs) → AllMeet (P .side w) (standsIn P B w) a vs
   unfolding holds
-  users-meet B a vs h u lu p = let t = user-out B u p in h u (t .0) lu (t .1) (t .2)
-
-  resources-meet : (B : Block) (a : ℕ) (vs : List ℕ) → Everywhere B (resource a vs) → AllMeet (P .resources) (resourceIn P B) a vs
-  unfolding holds
-  resources-meet B a vs h r lr p = let t = resource-out B r p in h (t .0) r (t .1) lr (t .2)
+  all-meet B w a vs h x lx p = let t = stands-out B w x lx p in rw (← t .5) (h (t .0) (t .1) (t .2) (t .3) (t .4))
 
   module _ (L : Lawful P) where
     -- every condition of the covering rule holds everywhere in B
@@ -130,10 +115,16 @@ module _ (P : Setting) where
     unfolding holds
     cover-holds B l c m u r lu lr p = go (cover-cases B l m)
       where
-        go : (c ∈ userConds P B l) ⊎ (c ∈ resourceConds P B l) ⊎ (c ∈ atomConds P B) → Is (holds P c u r)
-        go (inl k) = let t = userConds-out B l k in rw (t .3) (side-self (P .users) (L .users) (userIn P B) (t .0) (t .2) u lu (user-in B u lr p))
-        go (inr (inl k)) = let t = resourceConds-out B l k in rw (t .3) (side-self (P .resources) (L .resources) (resourceIn P B) (t .0) (t .2) r lr (resource-in B r lu p))
-        go (inr (inr k)) = let t = atomConds-out B k in rw (t .5) (everywhere-out B (atom (t .0) (t .1)) (t .4) u r lu lr p)
+        place : (w : Which) → by w u r < P .side w .count
+        place user = lu
+        place resource = lr
+
+        go : ((w : Which) × (c ∈ conjuncts P B l w)) ⊎ (c ∈ atomConds P B) → Is (holds P c u r)
+        go (inl k) =
+            let w = k .0 in
+            let t = conjuncts-out B l w (k .1) in
+            rw (t .3) (side-self (P .side w) (L w) (standsIn P B w) (t .0) (t .2) (by w u r) (place w) (stands-in B w lu lr p))
+        go (inr k) = let t = atomConds-out B k in rw (t .5) (everywhere-out B (atom (t .0) (t .1)) (t .4) u r lu lr p)
 
     -- B lies within what its covering rule grants
     pub cover-grants : (B : Block) (l : ℕ) → Within P B (grants P (cover P B l))
@@ -143,16 +134,12 @@ module _ (P : Setting) where
     -- a condition of the level that holds everywhere in B holds wherever the covering rule's conditions do
     pub cover-least : (B : Block) (l : ℕ) (c : Cond) → Is (allowed P l c) → Everywhere B c → (u r : ℕ) → ((d : Cond) → d ∈ cover P B l .conds → Is (holds P d u r)) → Is (holds P c u r)
     unfolding cover allowed holds
-    cover-least B l (user a vs) q h u r k =
-        let m = users-meet B a vs h in
-        side-least (P .users) (L .users) (userIn P B) a vs m u
-        (k _ (Memᴰ·append-left _ (Memᴰ·append-left _ (userConds-in B l (elem-out a _ q) (side-known (P .users) (userIn P B) a vs m)))))
-    cover-least B l (resource a vs) q h u r k =
-        let m = resources-meet B a vs h in
-        side-least (P .resources) (L .resources) (resourceIn P B) a vs m r
-        (k _ (Memᴰ·append-left _ (Memᴰ·append-right (userConds P B l) (resourceConds-in B l (elem-out a _ q) (side-known (P .resources) (resourceIn P B) a vs m)))))
+    cover-least B l (conjunct w a vs) q h u r k =
+        let m = all-meet B w a vs h in
+        side-least (P .side w) (L w) (standsIn P B w) a vs m (by w u r)
+        (k _ (cover-conjunct B l w (conjuncts-in B l w (elem-out a _ q) (side-known (P .side w) (standsIn P B w) a vs m))))
     cover-least B l (atom a b) q h u r k =
-        k (atom a b) (Memᴰ·append-right (userConds P B l ++ resourceConds P B l) (atomConds-in B (ltb-true a _ (and-l _ _ q)) (ltb-true b _ (and-r (ltb a (P .users .attrs)) _ q)) (everywhere-in B (atom a b) h)))
+        k (atom a b) (Memᴰ·append-right (conjuncts P B l user ++ conjuncts P B l resource) (atomConds-in B (ltb-true a _ (and-l _ _ q)) (ltb-true b _ (and-r (ltb a (P .side user .attrs)) _ q)) (everywhere-in B (atom a b) h)))
 
     -- THE LAW: a rule of the level that grants all of B grants all that the covering rule does
     pub least : (B : Block) (l : ℕ) (ρ : Rule) → Is (at P l ρ) → Within P B (grants P ρ) → Within P (grants P (cover P B l)) (grants P ρ)

@@ -12,10 +12,11 @@ use native.Mathlib.Omega.{arith}
 use Rattle.policy.specs.CoverLaws.{exact-fits}
 use Rattle.policy.specs.Covering.{fits, levelOf}
 use Rattle.policy.specs.Lowest.{lowest-most, lowest-passes, lowest-some}
-use Rattle.policy.specs.MergeLaws.{total, Every, Ascending, Runs, run-runs, runs-apart, runs-count, runs-total, runs-every, runs-ascending, apart-at, asc-nil, asc-cons}
+use Rattle.policy.specs.MergeLaws.{total, Every, Runs, run-runs, runs-apart, runs-count, runs-total, runs-every, runs-ascending, apart-at}
 use Rattle.policy.specs.Merging.{ones, union, mergeable, groups, merged}
 use Rattle.policy.specs.RuleLaws.{Lawful}
 use Rattle.policy.specs.Rules.{Setting, Rule, Block, grants, at, ruleLevel, Some, Same}
+use Rattle.policy.specs.Sorted.{Ascending, none-left, and-then}
 use Rattle.policy.specs.Tests.{Is, or-l, never, test, same, _∈_, any, any-in, any-out, from, upTo, from-out, upTo-in, upTo-out, map-out, getD-in}
 use Rattle.policy.specs.ThinLaws.{written-exact, fits-same, written-level}
 use Rattle.policy.specs.Thinning.{written}
@@ -76,8 +77,8 @@ ones-after n x k m l b g i =
     rw (t .2) (omega arith)
 
 ones-ascending : (n k m : ℕ) → k + m ≤ n → Ascending (lowPart n) (ones k m)
-ones-ascending n k zero h = asc-nil
-ones-ascending n k (suc m) h = asc-cons {g = k ∷ []} (λ g i. let e = ones-after n k (suc k) m (omega arith) (omega arith) g i in omega arith) (ones-ascending n (suc k) m (omega arith))
+ones-ascending n k zero h = none-left
+ones-ascending n k (suc m) h = and-then {x = k ∷ []} (λ g i. let e = ones-after n k (suc k) m (omega arith) (omega arith) g i in omega arith) (ones-ascending n (suc k) m (omega arith))
 
 total-any : {A : Type 0} (f : A → Bool) (l : List A) → total _||_ false f l ≡ any f l
 total-any f [] = refl

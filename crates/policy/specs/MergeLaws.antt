@@ -8,6 +8,7 @@ use mathlib.Core.Option.{Option, none, some, Option·map}
 use mathlib.Core.Path.{_≡_, refl, sym, ap, _∙_, subst, fun-ext}
 use native.Mathlib.Omega.{arith}
 use Rattle.policy.specs.Merging.{absorb, step, run, merges}
+use Rattle.policy.specs.Sorted.{Ascending, and-then}
 use Rattle.policy.specs.Tests.{Is, _∈_, getD-in}
 
 -- what all members make together
@@ -22,11 +23,6 @@ Every {A = A} Q l = (g : A) → g ∈ l → Q g
 pub every-cons {ℓ} : {A : Type ℓ} (Q : A → Type 0) (h : A) (t : List A) → Q h → Every Q t → Every Q (h ∷ t)
 every-cons Q h t q e k (List·Memᴰ·head p) = subst Q (sym p) q
 every-cons Q h t q e k (List·Memᴰ·tail m) = e k m
-
--- each member's number is below those of all that follow
-pub data Ascending {ℓ} {A : Type ℓ} (low : A → ℕ) : List A → Type ℓ where
-  asc-nil : Ascending low []
-  asc-cons : {g : A} {t : List A} → Every (λ h. low g < low h) t → Ascending low t → Ascending low (g ∷ t)
 
 module _ {A : Type 0} (ok : A → A → Bool) (join : A → A → A) where
   -- ---- the same as relations
@@ -170,19 +166,19 @@ module _ {A : Type 0} (ok : A → A → Bool) (join : A → A → A) where
     absorbs-part Q (there {h = h} {t′ = t′} n a) e = every-cons Q h t′ (e h (List·Memᴰ·head refl)) (absorbs-part Q a (λ k m. e k (List·Memᴰ·tail m)))
 
     absorbs-rest : {g g′ : A} {t t′ : List A} → Absorbs g t g′ t′ → Ascending low t → Ascending low t′
-    absorbs-rest (here p) (asc-cons e s) = s
-    absorbs-rest (there {h = h} n a) (asc-cons e s) = asc-cons (absorbs-part (λ k. low h < low k) a e) (absorbs-rest a s)
+    absorbs-rest (here p) (and-then e s) = s
+    absorbs-rest (there {h = h} n a) (and-then e s) = and-then (absorbs-part (λ k. low h < low k) a e) (absorbs-rest a s)
 
     steps-low : {gs gs′ : List A} (x : ℕ) → Steps gs gs′ → Ascending low gs → Every (λ h. x < low h) gs → Every (λ h. x < low h) gs′
-    steps-low x (now {g = g} {g′ = g′} {t′ = t′} a) (asc-cons b s) e =
+    steps-low x (now {g = g} {g′ = g′} {t′ = t′} a) (and-then b s) e =
         let r = absorbs-low a b in
         let k = e g (List·Memᴰ·head refl) in
         every-cons (λ h. x < low h) g′ t′ (omega arith) (absorbs-part (λ h. x < low h) a (λ k m. e k (List·Memᴰ·tail m)))
-    steps-low x (later {g = g} {t′ = t′} n s) (asc-cons b o) e = every-cons (λ h. x < low h) g t′ (e g (List·Memᴰ·head refl)) (steps-low x s o (λ k m. e k (List·Memᴰ·tail m)))
+    steps-low x (later {g = g} {t′ = t′} n s) (and-then b o) e = every-cons (λ h. x < low h) g t′ (e g (List·Memᴰ·head refl)) (steps-low x s o (λ k m. e k (List·Memᴰ·tail m)))
 
     steps-ascending : {gs gs′ : List A} → Steps gs gs′ → Ascending low gs → Ascending low gs′
-    steps-ascending (now {g = g} {g′ = g′} a) (asc-cons e s) = let r = absorbs-low a e in asc-cons {g = g′} (λ k m. let q = r .1 k m in omega arith) (absorbs-rest a s)
-    steps-ascending (later {g = g} n s) (asc-cons e o) = asc-cons (steps-low (low g) s o e) (steps-ascending s o)
+    steps-ascending (now {g = g} {g′ = g′} a) (and-then e s) = let r = absorbs-low a e in and-then {x = g′} (λ k m. let q = r .1 k m in omega arith) (absorbs-rest a s)
+    steps-ascending (later {g = g} n s) (and-then e o) = and-then (steps-low (low g) s o e) (steps-ascending s o)
 
     pub runs-ascending : {gs gs′ : List A} {n : ℕ} → Runs gs gs′ n → Ascending low gs → Ascending low gs′
     runs-ascending (stop a) e = e

@@ -8,13 +8,13 @@ use mathlib.Core.Path.{_≡_, refl, ap, _∙_}
 use native.Mathlib.Nat.{zero-add}
 use Rattle.policy.specs.Covering.{cover, fits, levelOf}
 use Rattle.policy.specs.GroupLaws.{lowPart, Owner, parts-count, part-owner, groups-ascending, groups-union, groups-some, groups-fit, rule, no-pair}
-use Rattle.policy.specs.MergeLaws.{Ascending}
 use Rattle.policy.specs.Mined.{partCount, partAt, partBlock, minedGroups, mergeCount, groupBlock, ruleOf}
 use Rattle.policy.specs.OrderLaws.{Says, written-says}
 use Rattle.policy.specs.PartLaws.{part-some, Own, part-fits}
 use Rattle.policy.specs.Roles.{Roles, parts, blockOf, rolesGrant}
 use Rattle.policy.specs.RuleLaws.{Lawful}
 use Rattle.policy.specs.Rules.{Setting, Cond, Rule, grants, at, ruleLevel, Triple, Some, Same, struck}
+use Rattle.policy.specs.Sorted.{Ascending}
 use Rattle.policy.specs.Tests.{Is, _∈_, any, upTo, getD-in, any-places, any-ext}
 use Rattle.policy.specs.ThinLaws.{written-exact, written-thin, written-level, no-lower}
 use Rattle.policy.specs.Thinning.{thinned, written}

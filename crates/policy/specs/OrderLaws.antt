@@ -1,19 +1,19 @@
 -- The order in which a written rule's conditions stand, and that each says something: what a writer needs.
 -- Assumes nothing.
 use Prim.Native.Nat.{ℕ, zero, suc, _+_, _*_, _≤_, _<_}
+use lib.Dec.{ltb}
 use mathlib.Core.Bool.{Bool, true, false, cond}
 use mathlib.Core.List.{List, [], _∷_, _++_, List·Memᴰ·head, List·Memᴰ·tail, List·Memᴰ·not-nil, List·Memᴰ·append-cases, map}
 use mathlib.Core.Logic.{_⊎_, inl, inr}
 use mathlib.Core.Path.{_≡_, refl, sym, ap, _∙_, subst}
 use native.Mathlib.Nat.{mul-le-mul-left}
 use native.Mathlib.Omega.{arith}
-use Rattle.policy.specs.CoverLaws.{userConds-out, resourceConds-out, atomConds-out, cover-cases}
-use Rattle.policy.specs.Covering.{allKnow, valuesOf, userIn, resourceIn, everywhere, userConds, resourceConds, atomConds, cover, fits, levelOf}
-use Rattle.policy.specs.MergeLaws.{Ascending, asc-nil, asc-cons}
+use Rattle.policy.specs.CoverLaws.{conjuncts-out, atomConds-out, cover-cases}
+use Rattle.policy.specs.Covering.{allKnow, valuesOf, standsIn, everywhere, conjuncts, atomConds, cover, fits, levelOf}
 use Rattle.policy.specs.RuleLaws.{Lawful, grants-cond}
-use Rattle.policy.specs.Rules.{own, Side, Setting, Cond, Rule, Block, meets, attrsOf, userOwn, resourceOwn, holds, grants, Some, user, resource, atom}
+use Rattle.policy.specs.Rules.{own, Side, Which, by, Setting, Cond, Rule, Block, meets, attrsOf, ownAt, holds, grants, Some, user, resource, conjunct, atom}
 use Rattle.policy.specs.SideLaws.{admits-out, values-rising}
-use Rattle.policy.specs.Sorted.{Rising, keep-rising, none-left, and-then}
+use Rattle.policy.specs.Sorted.{Rising, Ascending, Before, keep-rising, none-left, and-then}
 use Rattle.policy.specs.StrikeLaws.{strike-within}
 use Rattle.policy.specs.Tests.{Is, _∈_, each, each-out, only, only-out, from, upTo, from-out, upTo-out, map-out}
 use Rattle.policy.specs.ThinLaws.{written-exact}
@@ -23,17 +23,17 @@ use Rattle.policy.specs.Thinning.{trim, strike, trimCond, grantsJust, th
 
 module _ {A : Type 0} (key : A → ℕ) where
   pub append-asc : {s t : List A} → Ascending key s → Ascending key t → ((x y : A) → x ∈ s → y ∈ t → key x < key y) → Ascending key (s ++ t)
-  append-asc asc-nil q h = q
-  append-asc {t = t} (asc-cons {g = g} {t = s} e p) q h = asc-cons (λ y m. go y (List·Memᴰ·append-cases s m)) (append-asc p q (λ x y mx my. h x y (List·Memᴰ·tail mx) my))
+  append-asc none-left q h = q
+  append-asc {t = t} (and-then {x = g} {xs = s} e p) q h = and-then (λ y m. go y (List·Memᴰ·append-cases s m)) (append-asc p q (λ x y mx my. h x y (List·Memᴰ·tail mx) my))
     where
       go : (y : A) → (y ∈ s) ⊎ (y ∈ t) → key g < key y
       go y (inl m) = e y m
       go y (inr m) = h g y (List·Memᴰ·head refl) m
 
   -- a list for each of ascending numbers, each list within its own stretch
-  pub each-asc : (g : ℕ → List A) (width : ℕ) (base : ℕ) → ((a : ℕ) → Ascending key (g a)) → {l : List ℕ} → Rising l
+  pub each-asc : (g : ℕ → List A) (width : ℕ) (base : ℕ) → ((a : ℕ) → Ascending key (g a)) → {l : List ℕ} → Rising _<_ l
       → ((a : ℕ) → a ∈ l → (x : A) → x ∈ g a → (base + width * a ≤ key x) × (key x < base + width * suc a)) → Ascending key (each g l)
-  each-asc g width base i none-left h = asc-nil
+  each-asc g width base i none-left h = none-left
   each-asc g width base i (and-then {x = a} {xs = l} e r) h =
       append-asc (i a) (each-asc g width base i r (λ b m. h b (List·Memᴰ·tail m))) λ x y mx my.
       let t = each-out g l my in
@@ -46,47 +46,45 @@ module _ {A : Type 0} (key : A → ℕ) where
       apart a b p q l x y = omega (arith, mul-le-mul-left width l)
 
   pub only-asc : (b : Bool) (x : A) → Ascending key (only b x)
-  only-asc true x = asc-cons (λ y m. absurd (List·Memᴰ·not-nil m)) asc-nil
-  only-asc false x = asc-nil
+  only-asc true x = and-then (λ y m. absurd (List·Memᴰ·not-nil m)) none-left
+  only-asc false x = none-left
 
   -- striking keeps the order
   pub strike-asc : (ok : List A → Bool) (pre : List A) {t : List A} → Ascending key t → Ascending key (strike ok pre t)
-  strike-asc ok pre asc-nil = asc-nil
-  strike-asc ok pre (asc-cons {g = c} {t = t} e p) = go (ok (pre ++ t)) (strike-asc ok pre p) (strike-asc ok (pre ++ (c ∷ [])) p)
+  strike-asc ok pre none-left = none-left
+  strike-asc ok pre (and-then {x = c} {xs = t} e p) = go (ok (pre ++ t)) (strike-asc ok pre p) (strike-asc ok (pre ++ (c ∷ [])) p)
     where
       go : (b : Bool) → Ascending key (strike ok pre t) → Ascending key (strike ok (pre ++ (c ∷ [])) t) → Ascending key (cond b (strike ok pre t) (c ∷ strike ok (pre ++ (c ∷ [])) t))
       go true x y = x
-      go false x y = asc-cons (λ z m. e z (strike-within ok (pre ++ (c ∷ [])) t z m)) y
+      go false x y = and-then (λ z m. e z (strike-within ok (pre ++ (c ∷ [])) t z m)) y
 
   pub map-asc : (f : A → A) → ((x : A) → key (f x) ≡ key x) → {l : List A} → Ascending key l → Ascending key (map f l)
-  map-asc f k asc-nil = asc-nil
-  map-asc f k (asc-cons {g = g} {t = t} e p) = asc-cons {g = f g} (λ y m. let s = map-out f t m in let a = e (s .0) (s .1) in let b = k g in let c = k (s .0) in rw (s .2) (omega arith)) (map-asc f k p)
+  map-asc f k none-left = none-left
+  map-asc f k (and-then {x = g} {xs = t} e p) = and-then {x = f g} (λ y m. let s = map-out f t m in let a = e (s .0) (s .1) in let b = k g in let c = k (s .0) in rw (s .2) (omega arith)) (map-asc f k p)
 
-from-rising : (k n : ℕ) → Rising (from k n)
+from-rising : (k n : ℕ) → Rising _<_ (from k n)
 from-rising k zero = none-left
 from-rising k (suc n) = and-then {x = k} (λ y m. let h = from-out (suc k) n m in omega arith) (from-rising (suc k) n)
 
 -- ---- the order of conditions: users' conjuncts, resources', atoms, each by attribute
 unfoldable pub key : Cond → ℕ
-key (user a vs) = a
-key (resource a vs) = 256 + a
+key (conjunct w a vs) = by w 0 256 + a
 key (atom a b) = 512 + (256 * a + b)
 
 -- a side's attributes are numbered below its 255
-pub record Numbered (S : Side) : Type 0 where
-  pub declared : S .attrs ≤ own
-  pub last : own < 256
+abbrev pub Numbered : Side → Type 0
+Numbered S = S .attrs ≤ own
 
-attrs-rising : (S : Side) → Numbered S → (b : Bool) → Rising (attrsOf S b)
+attrs-rising : (S : Side) → Numbered S → (b : Bool) → Rising _<_ (attrsOf S b)
 unfolding attrsOf
 attrs-rising S N b = go 0 (S .attrs) (omega arith) b
   where
-    go : (k n : ℕ) → k + n ≤ own → (b : Bool) → Rising (from k n ++ only b (own))
+    go : (k n : ℕ) → k + n ≤ own → (b : Bool) → Rising _<_ (from k n ++ only b own)
     go k zero h true = and-then (λ y m. absurd (List·Memᴰ·not-nil m)) none-left
     go k zero h false = none-left
     go k (suc n) h b = and-then {x = k} (λ y m. above y (List·Memᴰ·append-cases (from (suc k) n) m)) (go (suc k) n (omega arith) b)
       where
-        above : (y : ℕ) → (y ∈ from (suc k) n) ⊎ (y ∈ only b (own)) → k < y
+        above : (y : ℕ) → (y ∈ from (suc k) n) ⊎ (y ∈ only b own) → k < y
         above y (inl m) = let t = from-out (suc k) n m in omega arith
         above y (inr m) = let t = only-out b m in omega (arith, t .1)
 
@@ -94,74 +92,68 @@ attrs-below : (S : Side) → Numbered S → (b : Bool) {a : ℕ} → a ∈ attrs
 unfolding attrsOf
 attrs-below S N b {a} m = go (List·Memᴰ·append-cases (upTo (S .attrs)) m)
   where
-    go : (a ∈ upTo (S .attrs)) ⊎ (a ∈ only b (own)) → a < 256
-    go (inl k) = let t = upTo-out (S .attrs) k in let x = N .declared in let y = N .last in omega arith
-    go (inr k) = let t = only-out b k in let y = N .last in omega (arith, t .1)
+    go : (a ∈ upTo (S .attrs)) ⊎ (a ∈ only b own) → a < 256
+    go (inl k) = let t = upTo-out (S .attrs) k in omega arith
+    go (inr k) = let t = only-out b k in omega (arith, t .1)
 
-module _ (P : Setting) (NU : Numbered (P .users)) (NR : Numbered (P .resources)) where
-  users-asc : (B : Block) (l : ℕ) → Ascending key (userConds P B l)
-  unfolding userConds key
-  users-asc B l =
-      each-asc key (λ a. only (allKnow (P .users) (userIn P B) a) (user a (valuesOf (P .users) (userIn P B) a))) 1 0
-      (λ a. only-asc key (allKnow (P .users) (userIn P B) a) (user a (valuesOf (P .users) (userIn P B) a)))
-      (attrs-rising (P .users) NU (userOwn l))
-      (λ a m x k. let e = ap key (only-out (allKnow (P .users) (userIn P B) a) k .1) in omega arith)
-
-  resources-asc : (B : Block) (l : ℕ) → Ascending key (resourceConds P B l)
-  unfolding resourceConds key
-  resources-asc B l =
-      each-asc key (λ a. only (allKnow (P .resources) (resourceIn P B) a) (resource a (valuesOf (P .resources) (resourceIn P B) a))) 1 256
-      (λ a. only-asc key (allKnow (P .resources) (resourceIn P B) a) (resource a (valuesOf (P .resources) (resourceIn P B) a)))
-      (attrs-rising (P .resources) NR (resourceOwn l))
-      (λ a m x k. let e = ap key (only-out (allKnow (P .resources) (resourceIn P B) a) k .1) in omega arith)
+module _ (P : Setting) (N : (w : Which) → Numbered (P .side w)) where
+  conjuncts-asc : (B : Block) (l : ℕ) (w : Which) → Ascending key (conjuncts P B l w)
+  unfolding conjuncts key
+  conjuncts-asc B l w =
+      each-asc key (λ a. only (allKnow (P .side w) (standsIn P B w) a) (conjunct w a (valuesOf (P .side w) (standsIn P B w) a))) 1 (by w 0 256)
+      (λ a. only-asc key (allKnow (P .side w) (standsIn P B w) a) (conjunct w a (valuesOf (P .side w) (standsIn P B w) a)))
+      (attrs-rising (P .side w) (N w) (ownAt w l))
+      (λ a m x k. let e = ap key (only-out (allKnow (P .side w) (standsIn P B w) a) k .1) in omega arith)
 
   atoms-asc : (B : Block) → Ascending key (atomConds P B)
   unfolding atomConds key
   atoms-asc B =
-      each-asc key (λ a. each (λ b. only (everywhere P B (atom a b)) (atom a b)) (upTo (P .resources .attrs))) 256 512
+      each-asc key (λ a. each (λ b. only (everywhere P B (atom a b)) (atom a b)) (upTo (P .side resource .attrs))) 256 512
       (λ a. each-asc key (λ b. only (everywhere P B (atom a b)) (atom a b)) 1 (512 + 256 * a)
-      (λ b. only-asc key (everywhere P B (atom a b)) (atom a b)) (from-rising 0 (P .resources .attrs))
+      (λ b. only-asc key (everywhere P B (atom a b)) (atom a b)) (from-rising 0 (P .side resource .attrs))
       (λ b m x k. let e = ap key (only-out (everywhere P B (atom a b)) k .1) in omega arith))
-      (from-rising 0 (P .users .attrs))
+      (from-rising 0 (P .side user .attrs))
       (λ a m x k.
-      let t = each-out (λ b. only (everywhere P B (atom a b)) (atom a b)) (upTo (P .resources .attrs)) k in
+      let t = each-out (λ b. only (everywhere P B (atom a b)) (atom a b)) (upTo (P .side resource .attrs)) k in
       let e = ap key (only-out (everywhere P B (atom a (t .0))) (t .2) .1) in
-      let b = upTo-out (P .resources .attrs) (t .1) in
+      let b = upTo-out (P .side resource .attrs) (t .1) in
+      let n = N resource in
       omega arith)
 
   pub cover-asc : (B : Block) (l : ℕ) → Ascending key (cover P B l .conds)
   unfolding cover key
   cover-asc B l =
       append-asc key
-      (append-asc key (users-asc B l) (resources-asc B l) λ x y mx my.
-      let s = userConds-out P B l mx in
-      let t = resourceConds-out P B l my in
-      let a = attrs-below (P .users) NU (userOwn l) (s .1) in
+      (append-asc key (conjuncts-asc B l user) (conjuncts-asc B l resource) λ x y mx my.
+      let s = conjuncts-out P B l user mx in
+      let t = conjuncts-out P B l resource my in
+      let a = attrs-below (P .side user) (N user) (ownAt user l) (s .1) in
       let p = ap key (s .3) in
       let q = ap key (t .3) in
       omega arith)
-      (atoms-asc B) λ x y mx my. last x y (List·Memᴰ·append-cases (userConds P B l) mx) my
+      (atoms-asc B) λ x y mx my. last x y (List·Memᴰ·append-cases (conjuncts P B l user) mx) my
     where
-      last : (x y : Cond) → (x ∈ userConds P B l) ⊎ (x ∈ resourceConds P B l) → y ∈ atomConds P B → key x < key y
-      last x y (inl m) k =
-          let s = userConds-out P B l m in
+      before : (w : Which) (x y : Cond) → x ∈ conjuncts P B l w → y ∈ atomConds P B → key x < key y
+      before w x y m k =
+          let s = conjuncts-out P B l w m in
           let t = atomConds-out P B k in
-          let a = attrs-below (P .users) NU (userOwn l) (s .1) in
+          let a = attrs-below (P .side w) (N w) (ownAt w l) (s .1) in
           let p = ap key (s .3) in
           let q = ap key (t .5) in
+          let b = base w in
           omega arith
-      last x y (inr m) k =
-          let s = resourceConds-out P B l m in
-          let t = atomConds-out P B k in
-          let a = attrs-below (P .resources) NR (resourceOwn l) (s .1) in
-          let p = ap key (s .3) in
-          let q = ap key (t .5) in
-          omega arith
+        where
+          base : (w : Which) → by w 0 256 ≤ 256
+          base user = omega arith
+          base resource = omega arith
+
+      last : (x y : Cond) → (x ∈ conjuncts P B l user) ⊎ (x ∈ conjuncts P B l resource) → y ∈ atomConds P B → key x < key y
+      last x y (inl m) k = before user x y m k
+      last x y (inr m) k = before resource x y m k
 
   key-trim : (c : Cond) → key (trimCond P c) ≡ key c
   unfolding key trimCond
-  key-trim (user a vs) = refl
-  key-trim (resource a vs) = refl
+  key-trim (conjunct w a vs) = refl
   key-trim (atom a b) = refl
 
   -- a written rule's conditions ascend strictly
@@ -171,24 +163,22 @@ module _ (P : Setting) (NU : Numbered (P .users)) (NR : Numbered (P .resources))
 
 -- the values of a conjunct ascend strictly; of an atom there is nothing to say
 abbrev pub Ordinary : Cond → Type 0
-Ordinary (user a vs) = Rising vs
-Ordinary (resource a vs) = Rising vs
+Ordinary (conjunct w a vs) = Rising (Before ltb) vs
 Ordinary (atom a b) = Unit {0}
 
 module _ (P : Setting) where
   trimmed : (c : Cond) → Ordinary c → Ordinary (trimCond P c)
   unfolding trimCond trim
-  trimmed (user a vs) h = keep-rising _ h
-  trimmed (resource a vs) h = h
+  trimmed (conjunct user a vs) h = keep-rising _ h
+  trimmed (conjunct resource a vs) h = h
   trimmed (atom a b) h = tt
 
   cover-values : (B : Block) (l : ℕ) (c : Cond) → c ∈ cover P B l .conds → Ordinary c
   cover-values B l c m = go (cover-cases P B l m)
     where
-      go : (c ∈ userConds P B l) ⊎ (c ∈ resourceConds P B l) ⊎ (c ∈ atomConds P B) → Ordinary c
-      go (inl k) = let t = userConds-out P B l k in subst Ordinary (sym (t .3)) (values-rising (P .users) (userIn P B) (t .0))
-      go (inr (inl k)) = let t = resourceConds-out P B l k in subst Ordinary (sym (t .3)) (values-rising (P .resources) (resourceIn P B) (t .0))
-      go (inr (inr k)) = let t = atomConds-out P B k in subst Ordinary (sym (t .5)) tt
+      go : ((w : Which) × (c ∈ conjuncts P B l w)) ⊎ (c ∈ atomConds P B) → Ordinary c
+      go (inl k) = let t = conjuncts-out P B l (k .0) (k .1) in subst Ordinary (sym (t .3)) (values-rising (P .side (k .0)) (standsIn P B (k .0)) (t .0))
+      go (inr k) = let t = atomConds-out P B k in subst Ordinary (sym (t .5)) tt
 
   -- the values of a written conjunct ascend strictly
   pub written-values : (B : Block) (c : Cond) → c ∈ written P B .conds → Ordinary c
@@ -199,8 +189,7 @@ module _ (P : Setting) where
 
 -- a conjunct lists a value
 abbrev pub Says : Cond → Type 0
-Says (user a vs) = (v : ℕ) × (v ∈ vs)
-Says (resource a vs) = (v : ℕ) × (v ∈ vs)
+Says (conjunct w a vs) = (v : ℕ) × (v ∈ vs)
 Says (atom a b) = Unit {0}
 
 module _ (P : Setting) (L : Lawful P) where
@@ -210,8 +199,7 @@ module _ (P : Setting) (L : Lawful P) where
 
   holds-says : (c : Cond) (u r : ℕ) → Is (holds P c u r) → Says c
   unfolding holds
-  holds-says (user a vs) u r h = met-says (P .users) a vs u h
-  holds-says (resource a vs) u r h = met-says (P .resources) a vs r h
+  holds-says (conjunct w a vs) u r h = met-says (P .side w) a vs (by w u r) h
   holds-says (atom a b) u r h = tt
 
   -- each conjunct of a rule that grants something lists a value

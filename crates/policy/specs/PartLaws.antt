@@ -10,7 +10,7 @@ use Rattle.policy.specs.Covering.{fits}
 use Rattle.policy.specs.Lowest.{lowestFrom, lowestFrom-misses, lowestFrom-passes, lowestFrom-most}
 use Rattle.policy.specs.Roles.{Roles, Part, alike, leads, isPart, parts, blockOf, rolesGrant, someRoleGives}
 use Rattle.policy.specs.RuleLaws.{Lawful}
-use Rattle.policy.specs.Rules.{own, Setting, Rule, meets, attrsOf, holds, grants, allowed, at, Triple, Some, Same, user, resource}
+use Rattle.policy.specs.Rules.{own, Setting, Rule, meets, attrsOf, holds, grants, allowed, at, Triple, Some, Same, user, resource, conjunct}
 use Rattle.policy.specs.Sets.{maskOf, bit-mask}
 use Rattle.policy.specs.Tests.{Is, and-in, and-l, and-r, never, fails, same, iff, iff-in, iff-out, _∈_, any, all-out, all-in, any-in, any-out, keep, keep-in, keep-out, each, each-in, each-out, only, only-in, only-out, upTo, upTo-in, upTo-out, elem, elem-in, elem-out, not-in}
 
@@ -26,11 +26,11 @@ elem-keep : (f : ℕ → Bool) (n r : ℕ) → r < n → elem r (keep f (upTo n)
 elem-keep f n r l = same (elem r (keep f (upTo n))) (f r) (λ h. keep-out f (upTo n) (elem-out r (keep f (upTo n)) h) .1) (λ h. elem-in (keep-in f (upTo-in l) h))
 
 module _ (P : Setting) (R : Roles) where
-  alike-out : (k o q r : ℕ) → r < P .resources .count → Is (alike P R k o q) → R .gives k r o ≡ R .gives k r q
+  alike-out : (k o q r : ℕ) → r < P .side resource .count → Is (alike P R k o q) → R .gives k r o ≡ R .gives k r q
   unfolding alike
   alike-out k o q r l h = iff-out _ _ (all-out (λ r. iff (R .gives k r o) (R .gives k r q)) h (upTo-in l))
 
-  alike-in : (k o q : ℕ) → ((r : ℕ) → r < P .resources .count → R .gives k r o ≡ R .gives k r q) → Is (alike P R k o q)
+  alike-in : (k o q : ℕ) → ((r : ℕ) → r < P .side resource .count → R .gives k r o ≡ R .gives k r q) → Is (alike P R k o q)
   unfolding alike
   alike-in k o q h = all-in _ _ λ r m. iff-in _ _ (h r (upTo-out _ m))
 
@@ -101,38 +101,38 @@ module _ (P : Setting) (R : Roles) where
   unfolding isPart leads blockOf
   part-some {p} m =
       let t = parts-out m in
-      let hu = any-out (λ u. R .held (p .role) u) (upTo (P .users .count)) (and-l (any (λ u. R .held (p .role) u) (upTo (P .users .count))) _ (t .2)) in
-      let hl = and-r (any (λ u. R .held (p .role) u) (upTo (P .users .count))) _ (t .2) in
-      let hr = any-out (λ r. R .gives (p .role) r (p .lead)) (upTo (P .resources .count)) (and-l (any (λ r. R .gives (p .role) r (p .lead)) (upTo (P .resources .count))) _ hl) in
+      let hu = any-out (λ u. R .held (p .role) u) (upTo (P .side user .count)) (and-l (any (λ u. R .held (p .role) u) (upTo (P .side user .count))) _ (t .2)) in
+      let hl = and-r (any (λ u. R .held (p .role) u) (upTo (P .side user .count))) _ (t .2) in
+      let hr = any-out (λ r. R .gives (p .role) r (p .lead)) (upTo (P .side resource .count)) (and-l (any (λ r. R .gives (p .role) r (p .lead)) (upTo (P .side resource .count))) _ hl) in
       record {
         u = hu .0;
         r = hr .0;
         o = p .lead;
-        triple = record { user = upTo-out (P .users .count) (hu .1); resource = upTo-out (P .resources .count) (hr .1); op = t .1 };
+        triple = record { user = upTo-out (P .side user .count) (hu .1); resource = upTo-out (P .side resource .count) (hr .1); op = t .1 };
         inside = and-in (hu .2) (and-in (hr .2) (alike-in (p .role) (p .lead) (p .lead) (λ r l. refl)));
       }
 
   -- what the attributes 255 are: a set of one role lies in somebody's value where they hold it; a resource's value is its own
   pub record Own : Type 0 where
     pub one-role : ℕ → ℕ
-    pub users : (k u : ℕ) → k < R .number → u < P .users .count → meets (P .users) (own) (one-role k ∷ []) u ≡ R .held k u
-    pub resources : (vs : List ℕ) (r : ℕ) → r < P .resources .count → meets (P .resources) (own) vs r ≡ elem r vs
+    pub users : (k u : ℕ) → k < R .number → u < P .side user .count → meets (P .side user) own (one-role k ∷ []) u ≡ R .held k u
+    pub resources : (vs : List ℕ) (r : ℕ) → r < P .side resource .count → meets (P .side resource) own vs r ≡ elem r vs
 
   module _ (L : Lawful P) (O : Own) where
     -- the rule of both 255s for a part
     ownRule : Part → Rule
-    ownRule p = record { ops = maskOf (P .slots) (alike P R (p .role) (p .lead)); conds = user (own) (O .one-role (p .role) ∷ []) ∷ resource (own) (keep (λ r. R .gives (p .role) r (p .lead)) (upTo (P .resources .count))) ∷ [] }
+    ownRule p = record { ops = maskOf (P .slots) (alike P R (p .role) (p .lead)); conds = conjunct user own (O .one-role (p .role) ∷ []) ∷ conjunct resource own (keep (λ r. R .gives (p .role) r (p .lead)) (upTo (P .side resource .count))) ∷ [] }
 
     ownRule-at : (p : Part) → Is (at P 3 (ownRule p))
     unfolding at allowed ownRule attrsOf
     ownRule-at p =
-        and-in (elem-in (Memᴰ·append-right (upTo (P .users .attrs)) (List·Memᴰ·head refl)))
-        (and-in (elem-in (Memᴰ·append-right (upTo (P .resources .attrs)) (List·Memᴰ·head refl))) refl)
+        and-in (elem-in (Memᴰ·append-right (upTo (P .side user .attrs)) (List·Memᴰ·head refl)))
+        (and-in (elem-in (Memᴰ·append-right (upTo (P .side resource .attrs)) (List·Memᴰ·head refl))) refl)
 
     ownRule-exact : (p : Part) → p .role < R .number → Same P (grants P (ownRule p)) (blockOf P R p)
     unfolding grants ownRule holds blockOf
     ownRule-exact p l u r o t =
-        rw (bit-mask (P .slots) (alike P R (p .role) (p .lead)) o (t .op), O .users (p .role) u l (t .user), O .resources (keep (λ r. R .gives (p .role) r (p .lead)) (upTo (P .resources .count))) r (t .resource), elem-keep (λ r. R .gives (p .role) r (p .lead)) (P .resources .count) r (t .resource))
+        rw (bit-mask (P .slots) (alike P R (p .role) (p .lead)) o (t .op), O .users (p .role) u l (t .user), O .resources (keep (λ r. R .gives (p .role) r (p .lead)) (upTo (P .side resource .count))) r (t .resource), elem-keep (λ r. R .gives (p .role) r (p .lead)) (P .side resource .count) r (t .resource))
         (shuffle (alike P R (p .role) (p .lead) o) (R .held (p .role) u) (R .gives (p .role) r (p .lead)))
 
     -- a part fits level 3

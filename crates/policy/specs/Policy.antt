@@ -3,11 +3,11 @@
 use Prim.Native.Nat.{ℕ, zero, suc}
 use lib.Dec.{eqb}
 use lib.ListN.{length, getD}
-use mathlib.Core.Bool.{Bool, true, false, cond, _&&_, _||_, not}
+use mathlib.Core.Bool.{Bool, true, false, cond, _&&_, _||_}
 use mathlib.Core.List.{List}
 use mathlib.Core.Option.{Option, some}
 use Rattle.policy.specs.Roles.{Roles}
-use Rattle.policy.specs.Rules.{own, Side, Setting}
+use Rattle.policy.specs.Rules.{own, Side, Which, by, Setting}
 use Rattle.policy.specs.Sets.{subset, maskOf}
 use Rattle.policy.specs.Tests.{Is, any, upTo}
 
@@ -20,8 +20,7 @@ pub record Table : Type 0 where
   pub value : ℕ → ℕ → Option ℕ
 
 pub record Policy : Type 0 where
-  pub users : Table
-  pub resources : Table
+  pub table : Which → Table
   pub operations : ℕ
   pub roles : ℕ
   -- role, user
@@ -48,7 +47,7 @@ module _ (line : ℕ → ℕ → Bool) where
   reach zero i j = line i j
   reach (suc n) i j = reach n i j || (reach n i n && reach n n j)
 
--- equality where an attribute is single, containment where it is a set
+-- whether a listed value is met: containment, or equality
 abbrev pub order : Bool → ℕ → ℕ → Bool
 order true x y = subset x y
 order false x y = eqb x y
@@ -69,28 +68,25 @@ module _ (F : Policy) where
   unfoldable pub rolesOf : ℕ → ℕ
   rolesOf u = maskOf (F .roles) (λ k. held k u)
 
-  -- "A single attribute must equal one value. A user set must contain one listed set whole;" 255 is a set
-  unfoldable pub userSide : Side
-  userSide = record {
-    count = F .users .count;
-    attrs = length (F .users .kinds);
-    isSet = λ a. eqb a own || kindOf (F .users) a;
-    value = λ a u. cond (eqb a own) (some (rolesOf u)) (F .users .value a u);
-    below = λ a. order (eqb a own || kindOf (F .users) a);
-  }
+  -- the kind of an attribute, and its value for somebody; of the 255s, the user's is a set, the resource's single
+  unfoldable pub isSetAt : Which → ℕ → Bool
+  isSetAt w a = cond (eqb a own) (by w true false) (kindOf (F .table w) a)
 
-  -- "a resource set must equal one." 255 is single
-  unfoldable pub resourceSide : Side
-  resourceSide = record {
-    count = F .resources .count;
-    attrs = length (F .resources .kinds);
-    isSet = λ a. not (eqb a own) && kindOf (F .resources) a;
-    value = λ a r. cond (eqb a own) (some r) (F .resources .value a r);
-    below = λ a. eqb;
+  unfoldable pub valueAt : Which → ℕ → ℕ → Option ℕ
+  valueAt w a x = cond (eqb a own) (some (by w (rolesOf x) x)) (F .table w .value a x)
+
+  -- "A single attribute must equal one value. A user set must contain one listed set whole; a resource set must equal one."
+  unfoldable pub sideOf : Which → Side
+  sideOf w = record {
+    count = F .table w .count;
+    attrs = length (F .table w .kinds);
+    isSet = isSetAt w;
+    value = valueAt w;
+    below = λ a. order (by w (isSetAt w a) false);
   }
 
   unfoldable pub settingOf : Setting
-  settingOf = record { users = userSide; resources = resourceSide; slots = F .operations }
+  settingOf = record { side = sideOf; slots = F .operations }
 
   unfoldable pub rolesIn : Roles
   rolesIn = record { number = F .roles; held = held; gives = F .permitted }

@@ -3,13 +3,13 @@
 use Prim.Native.Nat.{ℕ, _^_}
 use borrow.Author.Tests.{eqb-true, eq-eqb}
 use lib.Dec.{eqb}
-use mathlib.Core.Bool.{Bool, true, false, _||_, or-false}
+use mathlib.Core.Bool.{Bool, true, false, or-false}
 use mathlib.Core.Path.{refl, sym, _∙_}
 use Rattle.policy.specs.MinedLaws.{MinedRules, mined-rules}
 use Rattle.policy.specs.PartLaws.{Own}
-use Rattle.policy.specs.Policy.{Policy, kindOf, order, held, rolesOf, userSide, resourceSide, settingOf, rolesIn}
+use Rattle.policy.specs.Policy.{Policy, order, held, rolesOf, isSetAt, valueAt, sideOf, settingOf, rolesIn}
 use Rattle.policy.specs.RuleLaws.{Lawful}
-use Rattle.policy.specs.Rules.{own, meets}
+use Rattle.policy.specs.Rules.{by, meets}
 use Rattle.policy.specs.Sets.{subset, subset-self, subset-chain, one-subset, bit-mask}
 use Rattle.policy.specs.Tests.{Is, same, any-ext}
 
@@ -23,14 +23,14 @@ order-chain false x y z p q = rw (eqb-true x y p) q
 
 module _ (F : Policy) where
   pub lawful : Lawful (settingOf F)
-  unfolding settingOf userSide resourceSide
-  lawful = record {
-    users = record { self = λ a x. order-self (eqb a own || kindOf (F .users) a) x; chain = λ a x y z. order-chain (eqb a own || kindOf (F .users) a) x y z };
-    resources = record { self = λ a x. order-self false x; chain = λ a x y z. order-chain false x y z };
+  unfolding settingOf sideOf
+  lawful w = record {
+    self = λ a x. order-self (by w (isSetAt F w a) false) x;
+    chain = λ a x y z. order-chain (by w (isSetAt F w a) false) x y z;
   }
 
   pub owned : Own (settingOf F) (rolesIn F)
-  unfolding settingOf userSide resourceSide rolesIn meets rolesOf
+  unfolding settingOf sideOf isSetAt valueAt rolesIn meets rolesOf
   owned = record {
     one-role = λ k. 2 ^ k;
     users = λ k u lk lu. or-false (subset (2 ^ k) (rolesOf F u)) ∙ one-subset k (rolesOf F u) ∙ bit-mask (F .roles) (λ k. held F k u) k lk;

@@ -3,7 +3,7 @@
 use Prim.Native.Nat.{ℕ}
 use mathlib.Core.Bool.{Bool, _&&_, not}
 use mathlib.Core.List.{List}
-use Rattle.policy.specs.Rules.{Setting, Block}
+use Rattle.policy.specs.Rules.{Setting, Block, user, resource}
 use Rattle.policy.specs.Sets.{maskOf}
 use Rattle.policy.specs.Tests.{iff, all, any, each, only, upTo}
 
@@ -21,15 +21,15 @@ pub record Part : Type 0 where
 module _ (P : Setting) (R : Roles) where
   -- two operations of a role have equal sets of assigned resources
   unfoldable pub alike : ℕ → ℕ → ℕ → Bool
-  alike k o q = all (λ r. iff (R .gives k r o) (R .gives k r q)) (upTo (P .resources .count))
+  alike k o q = all (λ r. iff (R .gives k r o) (R .gives k r q)) (upTo (P .side resource .count))
 
   -- the operation is the lowest of a class with a non-empty set of resources
   unfoldable pub leads : ℕ → ℕ → Bool
-  leads k o = any (λ r. R .gives k r o) (upTo (P .resources .count)) && not (any (λ q. alike k q o) (upTo o))
+  leads k o = any (λ r. R .gives k r o) (upTo (P .side resource .count)) && not (any (λ q. alike k q o) (upTo o))
 
   -- "each class of a role with a holder is a part"
   unfoldable pub isPart : ℕ → ℕ → Bool
-  isPart k o = any (λ u. R .held k u) (upTo (P .users .count)) && leads k o
+  isPart k o = any (λ u. R .held k u) (upTo (P .side user .count)) && leads k o
 
   -- "Parts are ordered by role, then lowest operation."
   unfoldable pub parts : List Part

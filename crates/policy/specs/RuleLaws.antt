@@ -1,14 +1,14 @@
 -- A policy's two sides, rules, and what a rule grants.
 -- Assumes nothing.
 use Prim.Native.Nat.{ℕ}
-use Rattle.policy.specs.Rules.{Setting, Cond, Rule, Block, holds, grants, Same, sameBlock, user, resource}
+use Rattle.policy.specs.Rules.{Which, Setting, Cond, Rule, Block, holds, grants, Same, sameBlock, user, resource}
 use Rattle.policy.specs.Sets.{bit}
 use Rattle.policy.specs.SideLaws.{Ordered}
 use Rattle.policy.specs.Tests.{Is, and-in, and-l, and-r, iff, iff-in, iff-out, _∈_, all, all-out, all-in, upTo, upTo-in, upTo-out}
 
-pub record Lawful (P : Setting) : Type 0 where
-  pub users : Ordered (P .users)
-  pub resources : Ordered (P .resources)
+-- what the theory asks of both sides
+abbrev pub Lawful : Setting → Type 0
+Lawful P = (w : Which) → Ordered (P .side w)
 
 module _ (P : Setting) where
   pub grants-in : (ρ : Rule) (u r o : ℕ) → Is (bit (ρ .ops) o) → ((c : Cond) → c ∈ ρ .conds → Is (holds P c u r)) → Is (grants P ρ u r o)
@@ -33,4 +33,4 @@ module _ (P : Setting) where
   unfolding sameBlock
   same-out A B h u r o t =
       iff-out (A u r o) (B u r o)
-      (all-out (λ o. iff (A u r o) (B u r o)) (all-out (λ r. all (λ o. iff (A u r o) (B u r o)) (upTo (P .slots))) (all-out (λ u. all (λ r. all (λ o. iff (A u r o) (B u r o)) (upTo (P .slots))) (upTo (P .resources .count))) h (upTo-in (t .user))) (upTo-in (t .resource))) (upTo-in (t .op)))
+      (all-out (λ o. iff (A u r o) (B u r o)) (all-out (λ r. all (λ o. iff (A u r o) (B u r o)) (upTo (P .slots))) (all-out (λ u. all (λ r. all (λ o. iff (A u r o) (B u r o)) (upTo (P .slots))) (upTo (P .side resource .count))) h (upTo-in (t .user))) (upTo-in (t .resource))) (upTo-in (t .op)))

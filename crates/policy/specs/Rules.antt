@@ -28,10 +28,18 @@ pub record Side : Type 0 where
   -- a listed value of an attribute is met by somebody's value (see Policy for the two sides)
   pub below : ℕ → ℕ → ℕ → Bool
 
--- What rules are about: the users, the resources, and how many operations there are.
+pub data Which : Type 0 where
+  user : Which
+  resource : Which
+
+-- the user's or the resource's of two
+abbrev pub by {ℓ} : {A : Type ℓ} → Which → A → A → A
+by user x y = x
+by resource x y = y
+
+-- What rules are about: the two sides, and how many operations there are.
 pub record Setting : Type 0 where
-  pub users : Side
-  pub resources : Side
+  pub side : Which → Side
   pub slots : ℕ
 
 -- "An atom is one of three forms over one user and one resource attribute: set contains set, set contains single
@@ -61,8 +69,7 @@ linked (some f) x y = formHolds f x y
 -- "A rule has user conjuncts, resource conjuncts, an operation set and atoms. A conjunct is a non-empty set of values
 -- of one attribute; an absent one demands nothing." Conjuncts and atoms together are a rule's conditions.
 pub data Cond : Type 0 where
-  user : ℕ → List ℕ → Cond
-  resource : ℕ → List ℕ → Cond
+  conjunct : Which → ℕ → List ℕ → Cond
   atom : ℕ → ℕ → Cond
 
 pub record Rule : Type 0 where
@@ -94,22 +101,19 @@ module _ (S : Side) where
   attrsOf b = upTo (S .attrs) ++ only b own
 
 -- "Levels: 0 may use no 255, 1 the user one, 2 the resource one, 3 both."
-abbrev pub userOwn : ℕ → Bool
-userOwn l = eqb l 1 || eqb l 3
-
-abbrev pub resourceOwn : ℕ → Bool
-resourceOwn l = eqb l 2 || eqb l 3
+abbrev pub ownAt : Which → ℕ → Bool
+ownAt user l = eqb l 1 || eqb l 3
+ownAt resource l = eqb l 2 || eqb l 3
 
 module _ (P : Setting) where
   -- the form of the atom over two attributes
   abbrev pub atomForm : ℕ → ℕ → Option Form
-  atomForm a b = formOf (P .users .isSet a) (P .resources .isSet b)
+  atomForm a b = formOf (P .side user .isSet a) (P .side resource .isSet b)
 
   -- a condition holds of a user and a resource
   unfoldable pub holds : Cond → ℕ → ℕ → Bool
-  holds (user a vs) u r = meets (P .users) a vs u
-  holds (resource a vs) u r = meets (P .resources) a vs r
-  holds (atom a b) u r = both (linked (atomForm a b)) (P .users .value a u) (P .resources .value b r)
+  holds (conjunct w a vs) u r = meets (P .side w) a vs (by w u r)
+  holds (atom a b) u r = both (linked (atomForm a b)) (P .side user .value a u) (P .side resource .value b r)
 
   -- "A rule grants the triples that meet all of it."
   unfoldable pub grants : Rule → Block
@@ -117,9 +121,8 @@ module _ (P : Setting) where
 
   -- a condition is one of a level: "Neither [255] stands in an atom. User numbers stand in no rule."
   unfoldable pub allowed : ℕ → Cond → Bool
-  allowed l (user a vs) = elem a (attrsOf (P .users) (userOwn l))
-  allowed l (resource a vs) = elem a (attrsOf (P .resources) (resourceOwn l))
-  allowed l (atom a b) = ltb a (P .users .attrs) && ltb b (P .resources .attrs)
+  allowed l (conjunct w a vs) = elem a (attrsOf (P .side w) (ownAt w l))
+  allowed l (atom a b) = ltb a (P .side user .attrs) && ltb b (P .side resource .attrs)
 
   -- every condition of a rule is one of a level
   unfoldable pub at : ℕ → Rule → Bool
@@ -131,8 +134,7 @@ module _ (P : Setting) where
 
   -- a conjunct lists a value, and an atom has one of the three forms
   unfoldable pub wellFormed : Cond → Bool
-  wellFormed (user a vs) = ltb 0 (length vs)
-  wellFormed (resource a vs) = ltb 0 (length vs)
+  wellFormed (conjunct w a vs) = ltb 0 (length vs)
   wellFormed (atom a b) = isSome (atomForm a b)
 
   -- "any rule of this section over the role file's attributes and both 255s, mined or not"
@@ -141,8 +143,8 @@ module _ (P : Setting) where
 
   -- a triple of the policy
   pub record Triple (u r o : ℕ) : Type 0 where
-    pub user : u < P .users .count
-    pub resource : r < P .resources .count
+    pub user : u < P .side user .count
+    pub resource : r < P .side resource .count
     pub op : o < P .slots
 
   -- a set of triples is not empty
@@ -163,7 +165,7 @@ module _ (P : Setting) where
 
   -- the test of it
   unfoldable pub sameBlock : Block → Block → Bool
-  sameBlock A B = all (λ u. all (λ r. all (λ o. iff (A u r o) (B u r o)) (upTo (P .slots))) (upTo (P .resources .count))) (upTo (P .users .count))
+  sameBlock A B = all (λ u. all (λ r. all (λ o. iff (A u r o) (B u r o)) (upTo (P .slots))) (upTo (P .side resource .count))) (upTo (P .side user .count))
 
 -- a rule without its condition number i
 unfoldable pub struck : ℕ → Rule → Rule

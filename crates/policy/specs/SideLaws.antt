@@ -1,13 +1,14 @@
 -- One side of a policy, users or resources: who there is, and what is known of each by attribute.
 -- Assumes nothing.
 use Prim.Native.Nat.{ℕ, _<_}
+use lib.Dec.{ltb}
 use mathlib.Core.Bool.{Bool, false≢true}
 use mathlib.Core.List.{List, List·Memᴰ·head, List·Memᴰ·tail, List·Memᴰ·not-nil}
 use mathlib.Core.Option.{Option, none, some}
 use mathlib.Core.Path.{_≡_, refl, sym, ap}
 use Rattle.policy.specs.Covering.{known, allKnow, valuesOf}
 use Rattle.policy.specs.Rules.{Side, admits, meets}
-use Rattle.policy.specs.Sorted.{sort-in, sort-out, Rising, sort-rising}
+use Rattle.policy.specs.Sorted.{Rising, Before, sort-in, sort-out, sort-rising, numbers}
 use Rattle.policy.specs.Tests.{Is, _∈_, all-out, all-in, any-in, any-out, keep, keep-in, keep-out, each, each-in, each-out, upTo, upTo-in, upTo-out, isSome, isSome-out}
 
 -- what the theory asks of `below`
@@ -30,18 +31,18 @@ admits-in le {vs} {o} {x} {v} e m h = rw e (any-in (λ v. le v x) m h)
 module _ (S : Side) where
   pub values-in : (W : ℕ → Bool) (a : ℕ) {w x : ℕ} → w < S .count → Is (W w) → S .value a w ≡ some x → x ∈ valuesOf S W a
   unfolding valuesOf
-  values-in W a l h e = sort-in (each-in (λ w. known (S .value a w)) (keep-in W (upTo-in l) h) (rw e (List·Memᴰ·head refl)))
+  values-in W a l h e = sort-in ltb numbers (each-in (λ w. known (S .value a w)) (keep-in W (upTo-in l) h) (rw e (List·Memᴰ·head refl)))
 
   pub values-out : (W : ℕ → Bool) (a : ℕ) {x : ℕ} → x ∈ valuesOf S W a → (w : ℕ) × (w < S .count) × Is (W w) × (S .value a w ≡ some x)
   unfolding valuesOf
   values-out W a m =
-      let t = each-out (λ w. known (S .value a w)) (keep W (upTo (S .count))) (sort-out _ m) in
+      let t = each-out (λ w. known (S .value a w)) (keep W (upTo (S .count))) (sort-out ltb _ m) in
       let k = keep-out W (upTo (S .count)) (t .1) in
       (t .0, upTo-out (S .count) (k .0), k .1, known-out (S .value a (t .0)) (t .2))
 
-  pub values-rising : (W : ℕ → Bool) (a : ℕ) → Rising (valuesOf S W a)
+  pub values-rising : (W : ℕ → Bool) (a : ℕ) → Rising (Before ltb) (valuesOf S W a)
   unfolding valuesOf
-  values-rising W a = sort-rising (each (λ w. known (S .value a w)) (keep W (upTo (S .count))))
+  values-rising W a = sort-rising ltb (numbers .chain) (each (λ w. known (S .value a w)) (keep W (upTo (S .count))))
 
   -- everybody of the set meets a conjunct
   abbrev pub AllMeet : (ℕ → Bool) → ℕ → List ℕ → Type 0

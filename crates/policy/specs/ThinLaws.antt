@@ -9,11 +9,11 @@ use mathlib.Core.Logic.{_⊎_, inl, inr}
 use mathlib.Core.Path.{_≡_, refl, _∙_}
 use native.Mathlib.Nat.{le-antisymm}
 use native.Mathlib.Omega.{arith}
-use Rattle.policy.specs.CoverLaws.{userConds-out, resourceConds-out, atomConds-out, cover-cases, exact-fits, fits-exact}
-use Rattle.policy.specs.Covering.{userConds, resourceConds, atomConds, cover, fits, levelOf}
+use Rattle.policy.specs.CoverLaws.{conjuncts-out, atomConds-out, cover-cases, exact-fits, fits-exact}
+use Rattle.policy.specs.Covering.{conjuncts, atomConds, cover, fits, levelOf}
 use Rattle.policy.specs.Lowest.{lowest-passes, lowest-least}
 use Rattle.policy.specs.RuleLaws.{Lawful, grants-in, grants-op, grants-cond, same-in, same-out}
-use Rattle.policy.specs.Rules.{own, Side, Setting, Cond, Rule, Block, meets, attrsOf, userOwn, resourceOwn, holds, grants, allowed, at, ruleLevel, Within, Same, struck, user, resource, atom}
+use Rattle.policy.specs.Rules.{own, Side, Which, Setting, Cond, Rule, Block, meets, attrsOf, ownAt, holds, grants, allowed, at, ruleLevel, Within, Same, struck, user, resource, conjunct, atom}
 use Rattle.policy.specs.SideLaws.{admits-out, admits-in}
 use Rattle.policy.specs.StrikeLaws.{_⊑_, strike-within, strike-passes, strike-final}
 use Rattle.policy.specs.Tests.{Is, and-in, never, same, _∈_, all-out, all-in, only, only-out, upTo, elem, elem-in, elem-out, map-in, map-out}
@@ -26,10 +26,9 @@ module _ (P : Setting) where
   unfolding allowed
   cover-allowed B l {c} m = go (cover-cases P B l m)
     where
-      go : (c ∈ userConds P B l) ⊎ (c ∈ resourceConds P B l) ⊎ (c ∈ atomConds P B) → Is (allowed P l c)
-      go (inl k) = let t = userConds-out P B l k in rw (t .3) (elem-in (t .1))
-      go (inr (inl k)) = let t = resourceConds-out P B l k in rw (t .3) (elem-in (t .1))
-      go (inr (inr k)) = let t = atomConds-out P B k in rw (t .5) (and-in (lt-ltb (t .0) _ (t .2)) (lt-ltb (t .1) _ (t .3)))
+      go : ((w : Which) × (c ∈ conjuncts P B l w)) ⊎ (c ∈ atomConds P B) → Is (allowed P l c)
+      go (inl k) = let t = conjuncts-out P B l (k .0) (k .1) in rw (t .3) (elem-in (t .1))
+      go (inr k) = let t = atomConds-out P B k in rw (t .5) (and-in (lt-ltb (t .0) _ (t .2)) (lt-ltb (t .1) _ (t .3)))
 
   pub cover-at : (B : Block) (l : ℕ) → Is (at P l (cover P B l))
   unfolding at
@@ -37,8 +36,7 @@ module _ (P : Setting) where
 
   pub trim-allowed : (l : ℕ) (c : Cond) → Is (allowed P l c) → Is (allowed P l (trimCond P c))
   unfolding allowed trimCond
-  trim-allowed l (user a vs) h = h
-  trim-allowed l (resource a vs) h = h
+  trim-allowed l (conjunct w a vs) h = h
   trim-allowed l (atom a b) h = h
 
   -- level 3 allows all that any level allows
@@ -46,14 +44,14 @@ module _ (P : Setting) where
   unfolding attrsOf
   attrs-3 S b a h = go (List·Memᴰ·append-cases (upTo (S .attrs)) (elem-out a _ h))
     where
-      go : (a ∈ upTo (S .attrs)) ⊎ (a ∈ only b (own)) → Is (elem a (upTo (S .attrs) ++ only true (own)))
-      go (inl k) = elem-in (Memᴰ·append-left (only true (own)) k)
+      go : (a ∈ upTo (S .attrs)) ⊎ (a ∈ only b own) → Is (elem a (upTo (S .attrs) ++ only true own))
+      go (inl k) = elem-in (Memᴰ·append-left (only true own) k)
       go (inr k) = elem-in (Memᴰ·append-right (upTo (S .attrs)) (List·Memᴰ·head (only-out b k .1)))
 
   allowed-3 : (l : ℕ) (c : Cond) → Is (allowed P l c) → Is (allowed P 3 c)
   unfolding allowed
-  allowed-3 l (user a vs) h = attrs-3 (P .users) (userOwn l) a h
-  allowed-3 l (resource a vs) h = attrs-3 (P .resources) (resourceOwn l) a h
+  allowed-3 l (conjunct user a vs) h = attrs-3 (P .side user) (ownAt user l) a h
+  allowed-3 l (conjunct resource a vs) h = attrs-3 (P .side resource) (ownAt resource l) a h
   allowed-3 l (atom a b) h = h
 
   pub at-3 : (l : ℕ) (ρ : Rule) → Is (at P l ρ) → Is (at P 3 ρ)
@@ -75,14 +73,14 @@ module _ (P : Setting) where
     -- trimming changes nothing
     pub holds-trim : (c : Cond) (u r : ℕ) → holds P (trimCond P c) u r ≡ holds P c u r
     unfolding holds trimCond meets
-    holds-trim (user a vs) u r =
+    holds-trim (conjunct user a vs) u r =
         same _ _
-        (λ h. let t = admits-out (P .users .below a) (trim (P .users .below a) vs) (P .users .value a u) h in
-        admits-in (P .users .below a) (t .1) (trim-out (P .users .below a) vs (t .3)) (t .4))
-        (λ h. let t = admits-out (P .users .below a) vs (P .users .value a u) h in
-        let m = trim-in (P .users .below a) (L .users .self a) (L .users .chain a) vs (t .3) in
-        admits-in (P .users .below a) (t .1) (m .1) (L .users .chain a (m .0) (t .2) (t .0) (m .2) (t .4)))
-    holds-trim (resource a vs) u r = refl
+        (λ h. let t = admits-out (P .side user .below a) (trim (P .side user .below a) vs) (P .side user .value a u) h in
+        admits-in (P .side user .below a) (t .1) (trim-out (P .side user .below a) vs (t .3)) (t .4))
+        (λ h. let t = admits-out (P .side user .below a) vs (P .side user .value a u) h in
+        let m = trim-in (P .side user .below a) (L user .self a) (L user .chain a) vs (t .3) in
+        admits-in (P .side user .below a) (t .1) (m .1) (L user .chain a (m .0) (t .2) (t .0) (m .2) (t .4)))
+    holds-trim (conjunct resource a vs) u r = refl
     holds-trim (atom a b) u r = refl
 
     pub grants-trim : (ρ : Rule) (u r o : ℕ) → grants P (record { ops = ρ .ops; conds = map (trimCond P) (ρ .conds) }) u r o ≡ grants P ρ u r o

@@ -5,7 +5,7 @@ use lib.ListN.{length}
 use mathlib.Core.Bool.{Bool, cond, _&&_, not}
 use mathlib.Core.List.{List, [], _∷_, _++_, map}
 use Rattle.policy.specs.Covering.{cover, levelOf}
-use Rattle.policy.specs.Rules.{Setting, Cond, Rule, Block, grants, sameBlock, struck, user, resource, atom}
+use Rattle.policy.specs.Rules.{by, Setting, Cond, Rule, Block, grants, sameBlock, struck, conjunct, atom}
 use Rattle.policy.specs.Sets.{size}
 use Rattle.policy.specs.Tests.{any, keep, sum}
 
@@ -32,8 +32,7 @@ strike ok pre (c ∷ t) =
 module _ (P : Setting) where
   -- "In user set conjuncts each set that strictly contains another listed set goes." (Among single values none does.)
   unfoldable pub trimCond : Cond → Cond
-  trimCond (user a vs) = user a (trim (P .users .below a) vs)
-  trimCond (resource a vs) = resource a vs
+  trimCond (conjunct w a vs) = conjunct w a (by w (trim (P .side w .below a) vs) vs)
   trimCond (atom a b) = atom a b
 
   -- the rule with these operations and conditions grants just B
@@ -53,18 +52,15 @@ module _ (P : Setting) where
 
   -- the part of a condition in each sum
   unfoldable pub singleCost : Cond → ℕ
-  singleCost (user a vs) = cond (P .users .isSet a) 0 (length vs)
-  singleCost (resource a vs) = cond (P .resources .isSet a) 0 (length vs)
+  singleCost (conjunct w a vs) = cond (P .side w .isSet a) 0 (length vs)
   singleCost (atom a b) = 0
 
   unfoldable pub setCost : Cond → ℕ
-  setCost (user a vs) = cond (P .users .isSet a) (sum size vs) 0
-  setCost (resource a vs) = cond (P .resources .isSet a) (sum size vs) 0
+  setCost (conjunct w a vs) = cond (P .side w .isSet a) (sum size vs) 0
   setCost (atom a b) = 0
 
   unfoldable pub atomCost : Cond → ℕ
-  atomCost (user a vs) = 0
-  atomCost (resource a vs) = 0
+  atomCost (conjunct w a vs) = 0
   atomCost (atom a b) = 1
 
   unfoldable pub cost : Rule → ℕ
