@@ -63,5 +63,5 @@ module _ (P : Setting) where
   atomCost (conjunct w a vs) = 0
   atomCost (atom a b) = 1
 
-  unfoldable pub cost : Rule → ℕ
-  cost ρ = sum singleCost (ρ .conds) + sum setCost (ρ .conds) + size (ρ .ops) + sum atomCost (ρ .conds)
+  unfoldable pub ruleCost : Rule → ℕ
+  ruleCost ρ = sum singleCost (ρ .conds) + sum setCost (ρ .conds) + size (ρ .ops) + sum atomCost (ρ .conds)

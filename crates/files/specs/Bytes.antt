@@ -1,0 +1,76 @@
+-- Numbers and commands as bytes, and reading commands one after the other. 01, sections "The role file" and "The rule file".
+-- Assumes nothing.
+use Prim.Native.Nat.{ℕ, zero, suc, _+_, _*_, _/_, _%_}
+use lib.Dec.{eqb, ltb}
+use lib.ListN.{length}
+use mathlib.Core.Bool.{Bool, true, false, _&&_, _||_}
+use mathlib.Core.List.{List, [], _∷_, _++_}
+use mathlib.Core.Option.{Option, none, some, Option·map}
+use Rattle.files.specs.Answer.{Refusal, Answer, andThen, refused, accepted}
+
+-- "numbers wider than a byte stand low byte first": the number in the first w bytes, and the bytes behind it
+abbrev pub number : ℕ → List ℕ → Option (ℕ × List ℕ)
+number zero bs = some (0, bs)
+number (suc w) [] = none
+number (suc w) (b ∷ bs) = Option·map (λ (p : ℕ × List ℕ). (b + 256 * p .0, p .1)) (number w bs)
+
+-- the operands of the widths listed, and the bytes behind them
+abbrev pub operands : List ℕ → List ℕ → Option (List ℕ × List ℕ)
+operands [] bs = some ([], bs)
+operands (w ∷ ws) bs = elim (number w bs) [ none ↦ none | some p ↦ Option·map (λ (q : List ℕ × List ℕ). (p .0 ∷ q .0, q .1)) (operands ws (p .1)) ]
+
+-- a number written in w bytes
+abbrev pub spread : ℕ → ℕ → List ℕ
+spread zero n = []
+spread (suc w) n = n % 256 ∷ spread w (n / 256)
+
+-- operands written in their widths
+abbrev pub spreadAll : List ℕ → List ℕ → List ℕ
+spreadAll [] xs = []
+spreadAll (w ∷ ws) [] = []
+spreadAll (w ∷ ws) (x ∷ xs) = spread w x ++ spreadAll ws xs
+
+-- "by command byte, then operands as numbers": the first number that differs decides
+abbrev pub before : List ℕ → List ℕ → Bool
+before [] [] = false
+before [] (y ∷ ys) = true
+before (x ∷ xs) [] = false
+before (x ∷ xs) (y ∷ ys) = ltb x y || (eqb x y && before xs ys)
+
+-- A kind of file: its commands, and what is kept while it is read.
+pub record Format (Command State : Type 0) : Type 0 where
+  -- the widths of the operands behind a known command byte; the command that they make
+  pub widths : ℕ → Option (List ℕ)
+  pub command : ℕ → List ℕ → Command
+  pub ends : Command → Bool
+  -- what a command does; it may be refused
+  pub obey : State → Command → Answer State
+  -- the refusals: a byte after the end, an unknown command, a file that ends too early
+  pub late : Refusal
+  pub unknown : Refusal
+  pub short : Refusal
+
+module _ {Command State : Type 0} (T : Format Command State) where
+  -- nothing stands behind the end
+  abbrev pub close : List ℕ → State → Answer State
+  close [] s = accepted s
+  close (b ∷ bs) s = refused (T .late)
+
+  -- reading on with `go` where the command was not the end
+  abbrev pub follow : Bool → (State → List ℕ → Answer State) → List ℕ → State → Answer State
+  follow true go bs s = close bs s
+  follow false go bs s = go s bs
+
+  -- the command with these operands, and then what stands behind it
+  abbrev pub turn : (State → List ℕ → Answer State) → State → ℕ → Option (List ℕ × List ℕ) → Answer State
+  turn go s b none = refused (T .short)
+  turn go s b (some p) = andThen (T .obey s (T .command b (p .0))) (follow (T .ends (T .command b (p .0))) go (p .1))
+
+  -- by command: unknown, cut off, then its own refusals. n is at least the number of commands
+  abbrev pub readOn : ℕ → State → List ℕ → Answer State
+  readOn zero s bs = refused (T .short)
+  readOn (suc n) s [] = refused (T .short)
+  readOn (suc n) s (b ∷ bs) = elim (T .widths b) [ none ↦ refused (T .unknown) | some ws ↦ turn (readOn n) s b (operands ws bs) ]
+
+  abbrev pub read : State → List ℕ → Answer State
+  read s bs = readOn (suc (length bs)) s bs

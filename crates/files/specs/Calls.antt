@@ -1,0 +1,141 @@
+-- What every call answers, as a function of the bytes and numbers handed in. 01, section "Where each call stops".
+-- Assumes nothing.
+use Prim.Native.Nat.{ℕ}
+use lib.Dec.{eqb, ltb, leb}
+use lib.ListN.{length, getD, drop}
+use mathlib.Core.Bool.{Bool, cond, _&&_, not}
+use mathlib.Core.List.{List, [], _∷_, _++_, map}
+use mathlib.Core.Option.{Option, none, some}
+use Rattle.files.specs.Answer.{Answer, unless, andThen, beyond, smallScratch, shortOutput, refused, accepted}
+use Rattle.files.specs.RoleFile.{readRoles}
+use Rattle.files.specs.RuleFile.{Lines, ruleIn, partsIn, listings, linesOf, encodeAll, readRules}
+use Rattle.policy.specs.Merging.{union}
+use Rattle.policy.specs.Mined.{partCount, partBlock, minedGroups, mergeCount, ruleOf}
+use Rattle.policy.specs.Policy.{Policy, settingOf, rolesIn}
+use Rattle.policy.specs.Roles.{Roles, rolesGrant}
+use Rattle.policy.specs.Rules.{Setting, Block, grants, sameBlock, user, resource}
+use Rattle.policy.specs.Tests.{iff, any, each, upTo, sum}
+use Rattle.policy.specs.Thinning.{ruleCost}
+
+-- "The result carries length, parts, rules, merges and total cost"
+pub record Counts : Type 0 where
+  pub size : ℕ
+  pub parts : ℕ
+  pub rules : ℕ
+  pub merges : ℕ
+  pub cost : ℕ
+
+-- the judge's verdicts
+pub data Verdict : Type 0 where
+  -- roles and rules differ at a triple, the first by user, then resource, then operation
+  differ : ℕ → ℕ → ℕ → Verdict
+  -- a rule, the first, grants other than its parts
+  strayRule : ℕ → Verdict
+  -- a part, the first, stands under no rule or several
+  strayPart : ℕ → Verdict
+  sound : Verdict
+
+-- 01's number of each verdict, and the values that come with it
+abbrev pub verdictNumber : Verdict → ℕ
+verdictNumber (differ u r o) = 1
+verdictNumber (strayRule i) = 2
+verdictNumber (strayPart p) = 3
+verdictNumber sound = 0
+
+abbrev pub verdictValues : Verdict → List ℕ
+verdictValues (differ u r o) = u ∷ r ∷ o ∷ []
+verdictValues (strayRule i) = i ∷ []
+verdictValues (strayPart p) = p ∷ []
+verdictValues sound = []
+
+-- the first member that passes
+abbrev pub first : {A : Type 0} → (A → Bool) → List A → Option A
+first f [] = none
+first f (x ∷ xs) = let r = first f xs in cond (f x) (some x) r
+
+module _ (P : Setting) where
+  -- every triple, by user, then resource, then operation
+  unfoldable pub triples : List (ℕ × ℕ × ℕ)
+  triples = each (λ u. each (λ r. map (λ o. (u, r, o)) (upTo (P .slots))) (upTo (P .side resource .count))) (upTo (P .side user .count))
+
+  -- a triple within the sizes
+  unfoldable pub isTriple : ℕ → ℕ → ℕ → Bool
+  isTriple u r o = ltb u (P .side user .count) && (ltb r (P .side resource .count) && ltb o (P .slots))
+
+  -- some rule grants it
+  unfoldable pub rulesGrant : List Lines → Block
+  rulesGrant rules u r o = any (λ ls. grants P (ruleIn P ls) u r o) rules
+
+  module _ (R : Roles) where
+    -- what the parts listed under a rule grant
+    unfoldable pub partsGrant : Lines → Block
+    partsGrant ls = union P (partBlock P R) (partsIn P R ls)
+
+    unfoldable pub firstDifference : List Lines → Option (ℕ × ℕ × ℕ)
+    firstDifference rules = first (λ (t : ℕ × ℕ × ℕ). not (iff (rolesGrant P R (t .0) (t .1) (t .2)) (rulesGrant rules (t .0) (t .1) (t .2)))) triples
+
+    unfoldable pub firstStrayRule : List Lines → Option ℕ
+    firstStrayRule rules = first (λ i. let ls = getD rules i [] in not (sameBlock P (grants P (ruleIn P ls)) (partsGrant ls))) (upTo (length rules))
+
+    unfoldable pub firstStrayPart : List Lines → Option ℕ
+    firstStrayPart rules = first (λ p. not (eqb (listings P R rules p) 1)) (upTo (partCount P R))
+
+    unfoldable pub verdict : List Lines → Verdict
+    verdict rules =
+        elim (firstDifference rules) [
+          | some t ↦ differ (t .0) (t .1) (t .2)
+          | none ↦ elim (firstStrayRule rules) [ some i ↦ strayRule i | none ↦ elim (firstStrayPart rules) [ some p ↦ strayPart p | none ↦ sound ] ]
+        ]
+
+    -- the mined rules' lines: "Mined rules stand in group order"
+    unfoldable pub minedLines : List Lines
+    minedLines = map (λ g. linesOf P R (ruleOf P R g) g) (minedGroups P R)
+
+-- an operation set is W bytes wide: 2 for 16 operations
+module _ (W : ℕ) where
+  module _ (F : Policy) where
+    -- the rule file that a policy is mined to, and the counts that go with it
+    unfoldable pub minedBytes : List ℕ
+    minedBytes = encodeAll W (minedLines (settingOf F) (rolesIn F))
+
+    unfoldable pub minedCounts : Counts
+    minedCounts = record {
+      size = length minedBytes;
+      parts = partCount (settingOf F) (rolesIn F);
+      rules = length (minedGroups (settingOf F) (rolesIn F));
+      merges = mergeCount (settingOf F) (rolesIn F);
+      cost = sum (λ g. ruleCost (settingOf F) (ruleOf (settingOf F) (rolesIn F) g)) (minedGroups (settingOf F) (rolesIn F));
+    }
+
+  -- "8 scratch below 4,096 words of 64 bits; then 1 to 7; then 9 output shorter than the rule file"
+  unfoldable pub mined : List ℕ → ℕ → ℕ → Answer Policy
+  mined file scratch room =
+      unless (leb 4096 scratch) smallScratch
+      (andThen (readRoles W file) (λ F. unless (leb (length (minedBytes F)) room) shortOutput (accepted F)))
+
+  -- mining: the counts, from the file, the words of scratch and the bytes of output
+  unfoldable pub mineAnswer : List ℕ → ℕ → ℕ → Answer Counts
+  mineAnswer file scratch room = andThen (mined file scratch room) (λ F. accepted (minedCounts F))
+
+  -- the output memory after mining: "Output is untouched" by a refusal; else the rule file, and behind it the former bytes
+  unfoldable pub mineOutput : List ℕ → ℕ → List ℕ → List ℕ
+  mineOutput file scratch former =
+      elim (mined file scratch (length former)) [ refused e ↦ former | accepted F ↦ minedBytes F ++ drop (length (minedBytes F)) former ]
+
+  -- "whether the roles grant a given triple, yes or no: 1 to 7, then 5 for a number beyond the sizes"
+  unfoldable pub roleQuestion : List ℕ → ℕ → ℕ → ℕ → Answer Bool
+  roleQuestion file u r o = andThen (readRoles W file) (λ F. unless (isTriple (settingOf F) u r o) beyond (accepted (rolesGrant (settingOf F) (rolesIn F) u r o)))
+
+  -- both files: 1 to 7, then 10 to 13
+  unfoldable pub readBoth : List ℕ → List ℕ → Answer (Policy × List Lines)
+  readBoth file rules = andThen (readRoles W file) (λ F. andThen (readRules W (settingOf F) (rolesIn F) rules) (λ ls. accepted (F, ls)))
+
+  -- "whether some rule grants it: 1 to 7; then the rule file by command: ...; then 5"
+  unfoldable pub ruleQuestion : List ℕ → List ℕ → ℕ → ℕ → ℕ → Answer Bool
+  ruleQuestion file rules u r o =
+      andThen (readBoth file rules)
+      (λ (p : Policy × List Lines). unless (isTriple (settingOf (p .0)) u r o) beyond (accepted (rulesGrant (settingOf (p .0)) (p .1) u r o)))
+
+  -- "as the rule question without the last 5"
+  unfoldable pub judge : List ℕ → List ℕ → Answer Verdict
+  judge file rules = andThen (readBoth file rules) (λ (p : Policy × List Lines). accepted (verdict (settingOf (p .0)) (rolesIn (p .0)) (p .1)))

@@ -1,0 +1,6 @@
+pub mod Answer
+pub mod Bytes
+pub mod RoleFile
+pub mod RuleFile
+pub mod Calls
+pub mod Examples

@@ -1,0 +1,260 @@
+-- The rule file: its commands, writing it, reading it. 01, sections "The rule file" and "Where each call stops".
+-- Assumes nothing.
+use Prim.Native.Nat.{ℕ, _^_}
+use lib.Dec.{eqb, ltb}
+use lib.ListN.{length, getD}
+use mathlib.Core.Bool.{Bool, true, false, cond, _&&_, not}
+use mathlib.Core.List.{List, [], _∷_, _++_, map}
+use mathlib.Core.Option.{Option, none, some}
+use Rattle.files.specs.Answer.{Answer, unless, andThen, rulesCutOff, rulesUnknown, rulesOrder, rulesOperand, refused, accepted}
+use Rattle.files.specs.Bytes.{spreadAll, before, Format, read}
+use Rattle.files.specs.RoleFile.{sameSide}
+use Rattle.policy.specs.Mined.{partCount, partAt}
+use Rattle.policy.specs.Roles.{Roles, parts, classOf}
+use Rattle.policy.specs.Rules.{own, Which, Setting, Cond, Rule, attrsOf, atomForm, user, resource, conjunct, atom}
+use Rattle.policy.specs.Sorted.{sort}
+use Rattle.policy.specs.Tests.{iff, all, any, keep, each, only, upTo, isSome, sum}
+
+pub data RuleCommand : Type 0 where
+  -- 21 opens a rule
+  opens : RuleCommand
+  -- 22 to 25: side, is it a set; attribute, value
+  value : Which → Bool → ℕ → ℕ → RuleCommand
+  -- 26 operations
+  operations : ℕ → RuleCommand
+  -- 27 user attribute, resource attribute
+  link : ℕ → ℕ → RuleCommand
+  -- 28 role, operations
+  part : ℕ → ℕ → RuleCommand
+  -- 2F ends the file
+  ends : RuleCommand
+
+abbrev pub valueByte : Which → Bool → ℕ
+valueByte user false = 0x22
+valueByte user true = 0x23
+valueByte resource false = 0x24
+valueByte resource true = 0x25
+
+abbrev pub byteOf : RuleCommand → ℕ
+byteOf opens = 0x21
+byteOf (value w set a v) = valueByte w set
+byteOf (operations m) = 0x26
+byteOf (link a b) = 0x27
+byteOf (part k m) = 0x28
+byteOf ends = 0x2F
+
+abbrev pub operandsOf : RuleCommand → List ℕ
+operandsOf opens = []
+operandsOf (value w set a v) = a ∷ v ∷ []
+operandsOf (operations m) = m ∷ []
+operandsOf (link a b) = a ∷ b ∷ []
+operandsOf (part k m) = k ∷ m ∷ []
+operandsOf ends = []
+
+-- "ascend strictly by command byte, then operands as numbers"
+abbrev pub precedes : RuleCommand → RuleCommand → Bool
+precedes c d = before (byteOf c ∷ operandsOf c) (byteOf d ∷ operandsOf d)
+
+abbrev pub isOperations : RuleCommand → Bool
+isOperations opens = false
+isOperations (value w set a v) = false
+isOperations (operations m) = true
+isOperations (link a b) = false
+isOperations (part k m) = false
+isOperations ends = false
+
+abbrev pub isPartLine : RuleCommand → Bool
+isPartLine opens = false
+isPartLine (value w set a v) = false
+isPartLine (operations m) = false
+isPartLine (link a b) = false
+isPartLine (part k m) = true
+isPartLine ends = false
+
+-- a rule's lines: its commands between its 21 and the next 21 or 2F
+abbrev pub Lines : Type 0
+Lines = List RuleCommand
+
+-- ---- what a rule's lines say
+
+-- the value that a line lists for an attribute of a side and kind
+abbrev pub listed : Which → Bool → ℕ → RuleCommand → List ℕ
+listed w set a opens = []
+listed w set a (value x s b v) = only (sameSide w x && (iff set s && eqb a b)) v
+listed w set a (operations m) = []
+listed w set a (link x b) = []
+listed w set a (part k m) = []
+listed w set a ends = []
+
+abbrev pub linkOf : RuleCommand → List Cond
+linkOf opens = []
+linkOf (value w set a v) = []
+linkOf (operations m) = []
+linkOf (link a b) = atom a b ∷ []
+linkOf (part k m) = []
+linkOf ends = []
+
+abbrev pub operationsOf : RuleCommand → ℕ
+operationsOf opens = 0
+operationsOf (value w set a v) = 0
+operationsOf (operations m) = m
+operationsOf (link a b) = 0
+operationsOf (part k m) = 0
+operationsOf ends = 0
+
+abbrev pub namesPart : ℕ → ℕ → RuleCommand → Bool
+namesPart k m opens = false
+namesPart k m (value w set a v) = false
+namesPart k m (operations n) = false
+namesPart k m (link a b) = false
+namesPart k m (part j n) = eqb k j && eqb m n
+namesPart k m ends = false
+
+module _ (P : Setting) where
+  -- an attribute's conjunct: the values that the lines list for it
+  unfoldable pub valuesIn : Lines → Which → ℕ → List ℕ
+  valuesIn ls w a = each (listed w (P .side w .isSet a) a) ls
+
+  unfoldable pub conjunctsIn : Lines → Which → List Cond
+  conjunctsIn ls w = each (λ a. only (ltb 0 (length (valuesIn ls w a))) (conjunct w a (valuesIn ls w a))) (attrsOf (P .side w) true)
+
+  -- the rule: its conjuncts by side and attribute, its atoms, its operations
+  unfoldable pub ruleIn : Lines → Rule
+  ruleIn ls = record { ops = sum operationsOf ls; conds = conjunctsIn ls user ++ conjunctsIn ls resource ++ each linkOf ls }
+
+  module _ (R : Roles) where
+    -- a line lists part number p
+    unfoldable pub lists : ℕ → RuleCommand → Bool
+    lists p c = namesPart (partAt P R p .role) (classOf P R (partAt P R p)) c
+
+    -- "A rule's parts are those listed under it": their numbers, in the order of parts
+    unfoldable pub partsIn : Lines → List ℕ
+    partsIn ls = keep (λ p. any (lists p) ls) (upTo (partCount P R))
+
+    -- how often part number p is listed in a file
+    unfoldable pub listings : List Lines → ℕ → ℕ
+    listings rules p = sum (λ ls. length (keep (lists p) ls)) rules
+
+-- ---- writing
+
+-- the lines of a condition
+unfoldable pub condLines : Setting → Cond → Lines
+condLines P (conjunct w a vs) = map (value w (P .side w .isSet a) a) vs
+condLines P (atom a b) = link a b ∷ []
+
+-- the lines of a rule and of the parts under it, in the file's order
+unfoldable pub linesOf : (P : Setting) → Roles → Rule → List ℕ → Lines
+linesOf P R ρ g = sort precedes (each (condLines P) (ρ .conds) ++ (operations (ρ .ops) ∷ map (λ p. part (partAt P R p .role) (classOf P R (partAt P R p))) g))
+
+-- an operation set is W bytes wide: 2 for 16 operations
+module _ (W : ℕ) where
+  abbrev pub ruleWidths : ℕ → Option (List ℕ)
+  ruleWidths b =
+      cond (eqb b 0x21) (some [])
+      (cond (eqb b 0x22) (some (1 ∷ 2 ∷ []))
+      (cond (eqb b 0x23) (some (1 ∷ 8 ∷ []))
+      (cond (eqb b 0x24) (some (1 ∷ 2 ∷ []))
+      (cond (eqb b 0x25) (some (1 ∷ 8 ∷ []))
+      (cond (eqb b 0x26) (some (W ∷ []))
+      (cond (eqb b 0x27) (some (1 ∷ 1 ∷ []))
+      (cond (eqb b 0x28) (some (1 ∷ W ∷ []))
+      (cond (eqb b 0x2F) (some []) none))))))))
+
+  abbrev pub ruleCommand : ℕ → List ℕ → RuleCommand
+  ruleCommand b xs =
+      cond (eqb b 0x21) opens
+      (cond (eqb b 0x22) (value user false (getD xs 0 0) (getD xs 1 0))
+      (cond (eqb b 0x23) (value user true (getD xs 0 0) (getD xs 1 0))
+      (cond (eqb b 0x24) (value resource false (getD xs 0 0) (getD xs 1 0))
+      (cond (eqb b 0x25) (value resource true (getD xs 0 0) (getD xs 1 0))
+      (cond (eqb b 0x26) (operations (getD xs 0 0))
+      (cond (eqb b 0x27) (link (getD xs 0 0) (getD xs 1 0))
+      (cond (eqb b 0x28) (part (getD xs 0 0) (getD xs 1 0)) ends)))))))
+
+  abbrev pub widthsOr : Option (List ℕ) → List ℕ
+  widthsOr none = []
+  widthsOr (some ws) = ws
+
+  -- a command's bytes
+  unfoldable pub encode : RuleCommand → List ℕ
+  encode c = byteOf c ∷ spreadAll (widthsOr (ruleWidths (byteOf c))) (operandsOf c)
+
+  -- the file: each rule's 21 and lines, and behind all of them 2F
+  unfoldable pub encodeAll : List Lines → List ℕ
+  encodeAll rules = each (λ ls. each encode (opens ∷ ls)) rules ++ encode ends
+
+  -- ---- reading beside a policy
+
+  -- the rules that are complete, and the lines of the one that is open
+  pub record Reading : Type 0 where
+    pub complete : List Lines
+    pub current : Option Lines
+
+  module _ (P : Setting) (R : Roles) where
+    -- "255 stands only in 23, with roles as elements, and in 24, with a resource number"
+    abbrev pub ownValue : Which → Bool → ℕ → Bool
+    ownValue user true v = ltb v (2 ^ R .number)
+    ownValue user false v = false
+    ownValue resource true v = false
+    ownValue resource false v = ltb v (P .side resource .count)
+
+    -- "13 an operand beyond its size, of the wrong kind (an atom of a single user attribute and a set resource attribute
+    -- too), a zero operation set, or no part of that file"
+    unfoldable pub legal : RuleCommand → Bool
+    legal opens = true
+    legal (value w set a v) = cond (eqb a own) (ownValue w set v) (ltb a (P .side w .attrs) && iff (P .side w .isSet a) set)
+    legal (operations m) = ltb 0 m && ltb m (2 ^ P .slots)
+    legal (link a b) = ltb a (P .side user .attrs) && (ltb b (P .side resource .attrs) && isSome (atomForm P a b))
+    legal (part k m) = any (λ p. eqb k (p .role) && eqb m (classOf P R p)) (parts P R)
+    legal ends = true
+
+    -- "26 ..., exactly once", "28 ... at least one": seen at the next 21 or 2F
+    unfoldable pub whole : Lines → Bool
+    whole ls = any isOperations ls && any isPartLine ls
+
+    -- the rules once the open one is closed
+    unfoldable pub finished : Reading → Answer (List Lines)
+    finished s = elim (s .current) [ none ↦ accepted (s .complete) | some ls ↦ unless (whole ls) rulesOrder (accepted (s .complete ++ (ls ∷ []))) ]
+
+    -- a line may follow these: it ascends, and is no second 26
+    unfoldable pub follows : Lines → RuleCommand → Bool
+    follows ls c = all (λ d. precedes d c) ls && not (isOperations c && any isOperations ls)
+
+    -- a line of the open rule: "12 out of order", then 13
+    unfoldable pub addLine : Reading → RuleCommand → Answer Reading
+    addLine s c =
+        elim (s .current) [
+          | none ↦ refused rulesOrder
+          | some ls ↦ unless (follows ls c) rulesOrder (unless (legal c) rulesOperand (accepted (record { complete = s .complete; current = some (ls ++ (c ∷ [])) })))
+        ]
+
+    unfoldable pub obeyRule : Reading → RuleCommand → Answer Reading
+    obeyRule s opens = andThen (finished s) (λ done. accepted (record { complete = done; current = some [] }))
+    obeyRule s (value w set a v) = addLine s (value w set a v)
+    obeyRule s (operations m) = addLine s (operations m)
+    obeyRule s (link a b) = addLine s (link a b)
+    obeyRule s (part k m) = addLine s (part k m)
+    obeyRule s ends = andThen (finished s) (λ done. accepted (record { complete = done; current = none }))
+
+    abbrev pub endsFile : RuleCommand → Bool
+    endsFile opens = false
+    endsFile (value w set a v) = false
+    endsFile (operations m) = false
+    endsFile (link a b) = false
+    endsFile (part k m) = false
+    endsFile ends = true
+
+    unfoldable pub ruleFormat : Format RuleCommand Reading
+    ruleFormat = record {
+      widths = ruleWidths;
+      command = ruleCommand;
+      ends = endsFile;
+      obey = obeyRule;
+      late = rulesOrder;
+      unknown = rulesUnknown;
+      short = rulesCutOff;
+    }
+
+    -- a rule file of any length: its rules' lines, in order
+    unfoldable pub readRules : List ℕ → Answer (List Lines)
+    readRules bytes = andThen (read ruleFormat (record { complete = []; current = none }) bytes) (λ s. accepted (s .complete))
