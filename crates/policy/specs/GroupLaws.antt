@@ -1,11 +1,12 @@
 -- The groups that merging leaves, and what their rules come to.
 -- Assumes nothing.
 use Prim.Native.Nat.{ℕ, zero, suc, _+_, _≤_, _<_, min, max}
-use borrow.Author.Tests.{eqb-true, eqb-false, eq-eqb, ne-eqb, ltb-true, ltb-false}
-use lib.Dec.{eqb, ltb}
+use borrow.Author.Tests.{eqb-true, eqb-false, eq-eqb, ne-eqb}
+use lib.Dec.{eqb}
 use lib.ListN.{length, getD}
 use mathlib.Core.Bool.{Bool, true, false, cond, _||_, or-false, or-assoc, or-comm}
-use mathlib.Core.List.{List, [], _∷_, _++_, List·Memᴰ·head, List·Memᴰ·tail}
+use mathlib.Core.List.{List, [], _∷_, _++_, List·Memᴰ·head, List·Memᴰ·tail, List·Memᴰ·not-nil, List·Memᴰ·append-cases}
+use mathlib.Core.Logic.{_⊎_, inl, inr}
 use mathlib.Core.Path.{_≡_, refl, sym, ap, ap₂, _∙_, fun-ext}
 use native.Mathlib.Nat.{add-assoc, add-comm}
 use native.Mathlib.Omega.{arith}
@@ -22,23 +23,23 @@ use Rattle.policy.specs.ThinLaws.{written-exact, fits-same, written-leve
 use Rattle.policy.specs.Thinning.{written}
 
 -- how often a part stands in a group
-abbrev pub count : ℕ → List ℕ → ℕ
-count p [] = 0
-count p (q ∷ t) = cond (eqb p q) 1 0 + count p t
+abbrev pub times : ℕ → List ℕ → ℕ
+times p [] = 0
+times p (q ∷ t) = cond (eqb p q) 1 0 + times p t
 
-pub count-append : (p : ℕ) (g h : List ℕ) → count p (g ++ h) ≡ count p g + count p h
-count-append p [] h = omega arith
-count-append p (q ∷ t) h = let e = count-append p t h in omega arith
+pub times-append : (p : ℕ) (g h : List ℕ) → times p (g ++ h) ≡ times p g + times p h
+times-append p [] h = omega arith
+times-append p (q ∷ t) h = let e = times-append p t h in omega arith
 
-pub count-in : (p : ℕ) {g : List ℕ} → p ∈ g → 0 < count p g
-count-in p (List·Memᴰ·head {x = q} e) = rw (eq-eqb p q e) (omega arith)
-count-in p (List·Memᴰ·tail m) = let h = count-in p m in omega arith
+pub times-in : (p : ℕ) {g : List ℕ} → p ∈ g → 0 < times p g
+times-in p (List·Memᴰ·head {x = q} e) = rw (eq-eqb p q e) (omega arith)
+times-in p (List·Memᴰ·tail m) = let h = times-in p m in omega arith
 
-pub count-out : (p : ℕ) (g : List ℕ) → 0 < count p g → p ∈ g
-count-out p [] h = absurd (omega arith)
-count-out p (q ∷ t) h = go (eqb p q) refl (count-out p t) h
+pub times-out : (p : ℕ) (g : List ℕ) → 0 < times p g → p ∈ g
+times-out p [] h = absurd (omega arith)
+times-out p (q ∷ t) h = go (eqb p q) refl (times-out p t) h
   where
-    go : (b : Bool) → eqb p q ≡ b → (0 < count p t → p ∈ t) → 0 < cond b 1 0 + count p t → p ∈ (q ∷ t)
+    go : (b : Bool) → eqb p q ≡ b → (0 < times p t → p ∈ t) → 0 < cond b 1 0 + times p t → p ∈ (q ∷ t)
     go true e r h = List·Memᴰ·head (eqb-true p q e)
     go false e r h = List·Memᴰ·tail (r (omega arith))
 
@@ -59,11 +60,11 @@ ones-length : (k n : ℕ) → length (ones k n) ≡ n
 ones-length k zero = refl
 ones-length k (suc n) = ap suc (ones-length (suc k) n)
 
-ones-before : (p k n : ℕ) → p < k → total _+_ 0 (count p) (ones k n) ≡ 0
+ones-before : (p k n : ℕ) → p < k → total _+_ 0 (times p) (ones k n) ≡ 0
 ones-before p k zero h = refl
 ones-before p k (suc n) h = let e = ones-before p (suc k) n (omega arith) in rw (ne-eqb p k (omega arith)) (omega arith)
 
-ones-count : (p k n : ℕ) → k ≤ p → p < k + n → total _+_ 0 (count p) (ones k n) ≡ 1
+ones-count : (p k n : ℕ) → k ≤ p → p < k + n → total _+_ 0 (times p) (ones k n) ≡ 1
 ones-count p k zero h l = absurd (omega arith)
 ones-count p k (suc n) h l =
     test (eqb p k)
@@ -83,36 +84,6 @@ ones-ascending n k (suc m) h = and-then {x = k ∷ []} (λ g i. let e = ones-aft
 total-any : {A : Type 0} (f : A → Bool) (l : List A) → total _||_ false f l ≡ any f l
 total-any f [] = refl
 total-any f (x ∷ xs) = ap (λ (b : Bool). f x || b) (total-any f xs)
-
--- a part that is counted once in all stands in one group only
-pub record Owner (p : ℕ) (gs : List (List ℕ)) : Type 0 where
-  pub place : ℕ
-  pub inside : place < length gs
-  pub has : p ∈ getD gs place []
-  pub only-one : (j : ℕ) → j < length gs → p ∈ getD gs j [] → j ≡ place
-
-none-has : (p : ℕ) (gs : List (List ℕ)) → total _+_ 0 (count p) gs ≡ 0 → (j : ℕ) → j < length gs → p ∈ getD gs j [] → ⊥
-none-has p [] e j h m = omega arith
-none-has p (g ∷ t) e zero h m = let k = count-in p m in omega arith
-none-has p (g ∷ t) e (suc j) h m = none-has p t (omega arith) j (omega arith) m
-
-pub owner : (p : ℕ) (gs : List (List ℕ)) → total _+_ 0 (count p) gs ≡ 1 → Owner p gs
-owner p [] e = absurd (omega arith)
-owner p (g ∷ t) e = test (ltb 0 (count p g)) (λ h. here (ltb-true 0 (count p g) h)) (λ h. there (ltb-false 0 (count p g) h) (owner p t))
-  where
-    here-only : 0 < count p g → (j : ℕ) → j < suc (length t) → p ∈ getD (g ∷ t) j [] → j ≡ 0
-    here-only h zero l m = refl
-    here-only h (suc j) l m = absurd (none-has p t (omega arith) j (omega arith) m)
-
-    here : 0 < count p g → Owner p (g ∷ t)
-    here h = record { place = 0; inside = omega arith; has = count-out p g h; only-one = here-only h }
-
-    there-only : count p g ≤ 0 → (o : Owner p t) (j : ℕ) → j < suc (length t) → p ∈ getD (g ∷ t) j [] → j ≡ suc (o .place)
-    there-only h o zero l m = let k = count-in p m in absurd (omega arith)
-    there-only h o (suc j) l m = ap suc (o .only-one j (omega arith) m)
-
-    there : count p g ≤ 0 → (total _+_ 0 (count p) t ≡ 1 → Owner p t) → Owner p (g ∷ t)
-    there h r = let o = r (omega arith) in record { place = suc (o .place); inside = let k = o .inside in omega arith; has = o .has; only-one = there-only h o }
 
 module _ (P : Setting) (block : ℕ → Block) where
   union-append : (g h : List ℕ) (u r o : ℕ) → union P block (g ++ h) u r o ≡ (union P block g u r o || union P block h u r o)
@@ -137,11 +108,30 @@ module _ (P : Setting) (block : ℕ → Block) where
   pub parts-count : (n : ℕ) → n ≡ length (groups P block n) + merged P block n
   parts-count n = let e = runs-count (mergeable P block) _++_ (mined n) in let d = ones-length 0 n in omega arith
 
-  -- every part stands in exactly one group
-  pub part-owner : (n p : ℕ) → p < n → Owner p (groups P block n)
-  part-owner n p h =
-      owner p (groups P block n)
-      (sym (runs-total (mergeable P block) _++_ _+_ 0 add-assoc add-comm (count p) (count-append p) (mined n)) ∙ ones-count p 0 n (omega arith) (omega arith))
+  -- every part stands in exactly one group, and there once
+  pub part-once : (n p : ℕ) → p < n → total _+_ 0 (times p) (groups P block n) ≡ 1
+  part-once n p h = sym (runs-total (mergeable P block) _++_ _+_ 0 add-assoc add-comm (times p) (times-append p) (mined n)) ∙ ones-count p 0 n (omega arith) (omega arith)
+
+  -- and the groups have no other members
+  pub groups-parts : (n : ℕ) → Every (Every (λ p. p < n)) (groups P block n)
+  groups-parts n = runs-every (mergeable P block) _++_ (Every (λ p. p < n)) joined (mined n) alone
+    where
+      joined : (g h : List ℕ) → Every (λ p. p < n) g → Every (λ p. p < n) h → Is (mergeable P block g h) → Every (λ p. p < n) (g ++ h)
+      joined g h a b m p k = go (List·Memᴰ·append-cases g k)
+        where
+          go : (p ∈ g) ⊎ (p ∈ h) → p < n
+          go (inl i) = a p i
+          go (inr i) = b p i
+
+      alone : Every (Every (λ p. p < n)) (ones 0 n)
+      alone g m p k =
+          let t = map-out (λ p. p ∷ []) (from 0 n) m in
+          let e = member-one (rw (t .2) at k) in
+          rw e (upTo-out n (t .1))
+        where
+          member-one : {q : ℕ} → p ∈ (q ∷ []) → p ≡ q
+          member-one (List·Memᴰ·head e) = e
+          member-one (List·Memᴰ·tail m) = absurd (List·Memᴰ·not-nil m)
 
   -- the groups stand in the order of their lowest parts
   pub groups-ascending : (n : ℕ) → Ascending (lowPart n) (groups P block n)

@@ -17,8 +17,10 @@ pub mod StrikeLaws
 pub mod ThinLaws
 pub mod MergeLaws
 pub mod OrderLaws
+pub mod WrittenLaws
 pub mod GroupLaws
 pub mod PartLaws
+pub mod ClassLaws
 pub mod SeniorLaws
 pub mod MinedLaws
 pub mod PolicyLaws

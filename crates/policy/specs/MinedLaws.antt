@@ -7,13 +7,13 @@ use mathlib.Core.List.{List, []}
 use mathlib.Core.Path.{_≡_, refl, ap, _∙_}
 use native.Mathlib.Nat.{zero-add}
 use Rattle.policy.specs.Covering.{cover, fits, levelOf}
-use Rattle.policy.specs.GroupLaws.{lowPart, Owner, parts-count, part-owner, groups-ascending, groups-union, groups-some, groups-fit, rule, no-pair}
+use Rattle.policy.specs.GroupLaws.{times, lowPart, parts-count, part-once, groups-parts, groups-ascending, groups-union, groups-some, groups-fit, rule, no-pair}
+use Rattle.policy.specs.MergeLaws.{total}
 use Rattle.policy.specs.Mined.{partCount, partAt, partBlock, minedGroups, mergeCount, groupBlock, ruleOf}
-use Rattle.policy.specs.OrderLaws.{Says, written-says}
 use Rattle.policy.specs.PartLaws.{part-some, Own, part-fits}
 use Rattle.policy.specs.Roles.{Roles, parts, blockOf, rolesGrant}
 use Rattle.policy.specs.RuleLaws.{Lawful}
-use Rattle.policy.specs.Rules.{Setting, Cond, Rule, grants, at, ruleLevel, Triple, Some, Same, struck}
+use Rattle.policy.specs.Rules.{Setting, Rule, grants, at, ruleLevel, Triple, Some, Same, struck}
 use Rattle.policy.specs.Sorted.{Ascending}
 use Rattle.policy.specs.Tests.{Is, _∈_, any, upTo, getD-in, any-places, any-ext}
 use Rattle.policy.specs.ThinLaws.{written-exact, written-thin, written-level, no-lower}
@@ -23,8 +23,12 @@ module _ (P : Setting) (R : Roles) where
   pub record MinedRules : Type 0 where
     -- the rules grant a triple exactly when the roles do
     pub triples : (u r o : ℕ) → Triple P u r o → any (λ g. grants P (ruleOf P R g) u r o) (minedGroups P R) ≡ rolesGrant P R u r o
-    -- every part is listed under exactly one rule
-    pub listed : (p : ℕ) → p < partCount P R → Owner p (minedGroups P R)
+    -- every part stands in exactly one group, and there once; the groups have no other members
+    pub once : (p : ℕ) → p < partCount P R → total _+_ 0 (times p) (minedGroups P R) ≡ 1
+    pub members : (g : List ℕ) → g ∈ minedGroups P R → (p : ℕ) → p ∈ g → p < partCount P R
+    -- a group's block is not empty, and fits its level
+    pub filled : (g : List ℕ) → g ∈ minedGroups P R → Some P (groupBlock P R g)
+    pub fitting : (g : List ℕ) → g ∈ minedGroups P R → Is (fits P (groupBlock P R g) (levelOf P (groupBlock P R g)))
     -- a rule grants what its parts do
     pub exact : (g : List ℕ) → g ∈ minedGroups P R → Same P (grants P (ruleOf P R g)) (groupBlock P R g)
     -- no rule of a lower level could grant the same
@@ -39,12 +43,9 @@ module _ (P : Setting) (R : Roles) where
     pub level : (g : List ℕ) → g ∈ minedGroups P R → ruleLevel P (ruleOf P R g) ≡ levelOf P (groupBlock P R g)
     -- a rule is the covering rule of its parts at its level, thinned
     pub shape : (g : List ℕ) → g ∈ minedGroups P R → ruleOf P R g ≡ thinned P (groupBlock P R g) (cover P (groupBlock P R g) (ruleLevel P (ruleOf P R g)))
-    -- every conjunct lists a value, and every rule grants something
-    pub says : (g : List ℕ) → g ∈ minedGroups P R → (c : Cond) → c ∈ ruleOf P R g .conds → Says c
-    pub some : (g : List ℕ) → g ∈ minedGroups P R → Some P (grants P (ruleOf P R g))
     -- the groups stand by lowest part
     pub order : Ascending (lowPart (partCount P R)) (minedGroups P R)
-    pub count : partCount P R ≡ length (minedGroups P R) + mergeCount P R
+    pub counted : partCount P R ≡ length (minedGroups P R) + mergeCount P R
 
   module _ (L : Lawful P) (O : Own P R) where
     numbered-fits : (p : ℕ) → p < partCount P R → Is (fits P (partBlock P R p) 3)
@@ -74,15 +75,16 @@ module _ (P : Setting) (R : Roles) where
     mined-rules = record {
       triples = λ u r o t. any-ext (λ g. grants P (ruleOf P R g) u r o) (λ g. groupBlock P R g u r o) (minedGroups P R) (λ g m. written-exact P L (groupBlock P R g) (group-fits g m) u r o t)
           ∙ groups-union P (partBlock P R) (partCount P R) u r o ∙ all-parts u r o;
-      listed = part-owner P (partBlock P R) (partCount P R);
+      once = part-once P (partBlock P R) (partCount P R);
+      members = groups-parts P (partBlock P R) (partCount P R);
+      filled = group-some;
+      fitting = group-fits;
       exact = λ g m. written-exact P L (groupBlock P R g) (group-fits g m);
       lower = λ g m. no-lower P L (groupBlock P R g) (group-fits g m);
       pairs = no-pair P (partBlock P R) L (partCount P R) numbered-fits;
       thin = λ g m. written-thin P L (groupBlock P R g) (group-fits g m);
       level = λ g m. written-level P L (groupBlock P R g) (group-fits g m);
       shape = λ g m. rw (written-level P L (groupBlock P R g) (group-fits g m)) refl;
-      says = λ g m. written-says P L (groupBlock P R g) (group-fits g m) (group-some g m);
-      some = λ g m. let s = group-some g m in record { u = s .u; r = s .r; o = s .o; triple = s .triple; inside = written-exact P L (groupBlock P R g) (group-fits g m) (s .u) (s .r) (s .o) (s .triple) ∙ s .inside };
       order = groups-ascending P (partBlock P R) (partCount P R);
-      count = parts-count P (partBlock P R) (partCount P R);
+      counted = parts-count P (partBlock P R) (partCount P R);
     }

@@ -62,7 +62,7 @@ module _ {A : Type 0} (key : A → ℕ) where
   map-asc f k none-left = none-left
   map-asc f k (and-then {x = g} {xs = t} e p) = and-then {x = f g} (λ y m. let s = map-out f t m in let a = e (s .0) (s .1) in let b = k g in let c = k (s .0) in rw (s .2) (omega arith)) (map-asc f k p)
 
-from-rising : (k n : ℕ) → Rising _<_ (from k n)
+pub from-rising : (k n : ℕ) → Rising _<_ (from k n)
 from-rising k zero = none-left
 from-rising k (suc n) = and-then {x = k} (λ y m. let h = from-out (suc k) n m in omega arith) (from-rising (suc k) n)
 
@@ -192,11 +192,12 @@ abbrev pub Says : Cond → Type 0
 Says (conjunct w a vs) = (v : ℕ) × (v ∈ vs)
 Says (atom a b) = Unit {0}
 
-module _ (P : Setting) (L : Lawful P) where
-  met-says : (S : Side) (a : ℕ) (vs : List ℕ) (w : ℕ) → Is (meets S a vs w) → (v : ℕ) × (v ∈ vs)
-  unfolding meets
-  met-says S a vs w h = let t = admits-out (S .below a) vs (S .value a w) h in (t .2, t .3)
+-- a conjunct that somebody meets lists a value
+pub met-says : (S : Side) (a : ℕ) (vs : List ℕ) (w : ℕ) → Is (meets S a vs w) → (v : ℕ) × (v ∈ vs)
+unfolding meets
+met-says S a vs w h = let t = admits-out (S .below a) vs (S .value a w) h in (t .2, t .3)
 
+module _ (P : Setting) (L : Lawful P) where
   holds-says : (c : Cond) (u r : ℕ) → Is (holds P c u r) → Says c
   unfolding holds
   holds-says (conjunct w a vs) u r h = met-says (P .side w) a vs (by w u r) h

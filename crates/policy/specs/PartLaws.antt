@@ -26,11 +26,11 @@ elem-keep : (f : ℕ → Bool) (n r : ℕ) → r < n → elem r (keep f (upTo n)
 elem-keep f n r l = same (elem r (keep f (upTo n))) (f r) (λ h. keep-out f (upTo n) (elem-out r (keep f (upTo n)) h) .1) (λ h. elem-in (keep-in f (upTo-in l) h))
 
 module _ (P : Setting) (R : Roles) where
-  alike-out : (k o q r : ℕ) → r < P .side resource .count → Is (alike P R k o q) → R .gives k r o ≡ R .gives k r q
+  pub alike-out : (k o q r : ℕ) → r < P .side resource .count → Is (alike P R k o q) → R .gives k r o ≡ R .gives k r q
   unfolding alike
   alike-out k o q r l h = iff-out _ _ (all-out (λ r. iff (R .gives k r o) (R .gives k r q)) h (upTo-in l))
 
-  alike-in : (k o q : ℕ) → ((r : ℕ) → r < P .side resource .count → R .gives k r o ≡ R .gives k r q) → Is (alike P R k o q)
+  pub alike-in : (k o q : ℕ) → ((r : ℕ) → r < P .side resource .count → R .gives k r o ≡ R .gives k r q) → Is (alike P R k o q)
   unfolding alike
   alike-in k o q h = all-in _ _ λ r m. iff-in _ _ (h r (upTo-out _ m))
 

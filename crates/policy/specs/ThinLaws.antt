@@ -108,7 +108,7 @@ module _ (P : Setting) where
           never (same-in P (grants P (struck i (written P B))) B (λ u r o t. e u r o t ∙ written-exact u r o t))
           (strike-final (grantsJust P B (cover P B (levelOf P B) .ops)) (between B (cover P B (levelOf P B) .ops)) [] (map (trimCond P) (cover P B (levelOf P B) .conds)) start i l)
 
-      written-at : Is (at P (levelOf P B) (written P B))
+      pub written-at : Is (at P (levelOf P B) (written P B))
       unfolding at written thinned
       written-at =
           all-in (allowed P (levelOf P B)) _ λ c m.
