@@ -14,10 +14,15 @@ number zero bs = some (0, bs)
 number (suc w) [] = none
 number (suc w) (b ∷ bs) = Option·map (λ (p : ℕ × List ℕ). (b + 256 * p .0, p .1)) (number w bs)
 
+-- one number, and then others, from the bytes behind it
+abbrev pub more : (List ℕ → Option (List ℕ × List ℕ)) → Option (ℕ × List ℕ) → Option (List ℕ × List ℕ)
+more go none = none
+more go (some p) = Option·map (λ (q : List ℕ × List ℕ). (p .0 ∷ q .0, q .1)) (go (p .1))
+
 -- the operands of the widths listed, and the bytes behind them
 abbrev pub operands : List ℕ → List ℕ → Option (List ℕ × List ℕ)
 operands [] bs = some ([], bs)
-operands (w ∷ ws) bs = elim (number w bs) [ none ↦ none | some p ↦ Option·map (λ (q : List ℕ × List ℕ). (p .0 ∷ q .0, q .1)) (operands ws (p .1)) ]
+operands (w ∷ ws) bs = more (operands ws) (number w bs)
 
 -- a number written in w bytes
 abbrev pub spread : ℕ → ℕ → List ℕ
@@ -66,11 +71,16 @@ module _ {Command State : Type 0} (T : Format Command State) where
   turn go s b none = refused (T .short)
   turn go s b (some p) = andThen (T .obey s (T .command b (p .0))) (follow (T .ends (T .command b (p .0))) go (p .1))
 
-  -- by command: unknown, cut off, then its own refusals. n is at least the number of commands
+  -- by command: unknown, cut off, then its own refusals
+  abbrev pub decode : (State → List ℕ → Answer State) → State → ℕ → List ℕ → Option (List ℕ) → Answer State
+  decode go s b bs none = refused (T .unknown)
+  decode go s b bs (some ws) = turn go s b (operands ws bs)
+
+  -- n is more than the number of commands
   abbrev pub readOn : ℕ → State → List ℕ → Answer State
   readOn zero s bs = refused (T .short)
   readOn (suc n) s [] = refused (T .short)
-  readOn (suc n) s (b ∷ bs) = elim (T .widths b) [ none ↦ refused (T .unknown) | some ws ↦ turn (readOn n) s b (operands ws bs) ]
+  readOn (suc n) s (b ∷ bs) = decode (readOn n) s b bs (T .widths b)
 
   abbrev pub read : State → List ℕ → Answer State
   read s bs = readOn (suc (length bs)) s bs

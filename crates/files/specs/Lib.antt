@@ -4,3 +4,5 @@ pub mod RoleFile
 pub mod RuleFile
 pub mod Calls
 pub mod Examples
+pub mod BytesLaws
+pub mod ReadBack

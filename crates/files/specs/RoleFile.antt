@@ -8,7 +8,6 @@ use mathlib.Core.List.{List, [], _∷_, _++_}
 use mathlib.Core.Option.{Option, none, some}
 use Rattle.files.specs.Answer.{Answer, unless, andThen, tooLong, cutOff, unknownCommand, outOfPlace, beyond, wrongKind, ownSenior, accepted}
 use Rattle.files.specs.Bytes.{Format, read}
-use Rattle.policy.specs.GroupLaws.{count}
 use Rattle.policy.specs.Policy.{Table, Policy, kindOf, circular}
 use Rattle.policy.specs.Rules.{Which, by, user, resource}
 use Rattle.policy.specs.Tests.{iff, isSome}

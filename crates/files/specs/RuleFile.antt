@@ -51,6 +51,18 @@ operandsOf (link a b) = a ∷ b ∷ []
 operandsOf (part k m) = k ∷ m ∷ []
 operandsOf ends = []
 
+-- the command of a known byte with its operands
+abbrev pub ruleCommand : ℕ → List ℕ → RuleCommand
+ruleCommand b xs =
+    cond (eqb b 0x21) opens
+    (cond (eqb b 0x22) (value user false (getD xs 0 0) (getD xs 1 0))
+    (cond (eqb b 0x23) (value user true (getD xs 0 0) (getD xs 1 0))
+    (cond (eqb b 0x24) (value resource false (getD xs 0 0) (getD xs 1 0))
+    (cond (eqb b 0x25) (value resource true (getD xs 0 0) (getD xs 1 0))
+    (cond (eqb b 0x26) (operations (getD xs 0 0))
+    (cond (eqb b 0x27) (link (getD xs 0 0) (getD xs 1 0))
+    (cond (eqb b 0x28) (part (getD xs 0 0) (getD xs 1 0)) ends)))))))
+
 -- "ascend strictly by command byte, then operands as numbers"
 abbrev pub precedes : RuleCommand → RuleCommand → Bool
 precedes c d = before (byteOf c ∷ operandsOf c) (byteOf d ∷ operandsOf d)
@@ -94,13 +106,18 @@ linkOf (link a b) = atom a b ∷ []
 linkOf (part k m) = []
 linkOf ends = []
 
-abbrev pub operationsOf : RuleCommand → ℕ
-operationsOf opens = 0
-operationsOf (value w set a v) = 0
-operationsOf (operations m) = m
-operationsOf (link a b) = 0
-operationsOf (part k m) = 0
-operationsOf ends = 0
+-- the operand of a line 26, and of another line what the lines behind it say
+abbrev pub operationsOr : RuleCommand → ℕ → ℕ
+operationsOr opens n = n
+operationsOr (value w set a v) n = n
+operationsOr (operations m) n = m
+operationsOr (link a b) n = n
+operationsOr (part k m) n = n
+operationsOr ends n = n
+
+abbrev pub operationsIn : Lines → ℕ
+operationsIn [] = 0
+operationsIn (c ∷ ls) = operationsOr c (operationsIn ls)
 
 abbrev pub namesPart : ℕ → ℕ → RuleCommand → Bool
 namesPart k m opens = false
@@ -120,7 +137,7 @@ module _ (P : Setting) where
 
   -- the rule: its conjuncts by side and attribute, its atoms, its operations
   unfoldable pub ruleIn : Lines → Rule
-  ruleIn ls = record { ops = sum operationsOf ls; conds = conjunctsIn ls user ++ conjunctsIn ls resource ++ each linkOf ls }
+  ruleIn ls = record { ops = operationsIn ls; conds = conjunctsIn ls user ++ conjunctsIn ls resource ++ each linkOf ls }
 
   module _ (R : Roles) where
     -- a line lists part number p
@@ -159,17 +176,6 @@ module _ (W : ℕ) where
       (cond (eqb b 0x27) (some (1 ∷ 1 ∷ []))
       (cond (eqb b 0x28) (some (1 ∷ W ∷ []))
       (cond (eqb b 0x2F) (some []) none))))))))
-
-  abbrev pub ruleCommand : ℕ → List ℕ → RuleCommand
-  ruleCommand b xs =
-      cond (eqb b 0x21) opens
-      (cond (eqb b 0x22) (value user false (getD xs 0 0) (getD xs 1 0))
-      (cond (eqb b 0x23) (value user true (getD xs 0 0) (getD xs 1 0))
-      (cond (eqb b 0x24) (value resource false (getD xs 0 0) (getD xs 1 0))
-      (cond (eqb b 0x25) (value resource true (getD xs 0 0) (getD xs 1 0))
-      (cond (eqb b 0x26) (operations (getD xs 0 0))
-      (cond (eqb b 0x27) (link (getD xs 0 0) (getD xs 1 0))
-      (cond (eqb b 0x28) (part (getD xs 0 0) (getD xs 1 0)) ends)))))))
 
   abbrev pub widthsOr : Option (List ℕ) → List ℕ
   widthsOr none = []

@@ -1,0 +1,168 @@
+-- The reader takes back every file of rules that ascend, are whole and have legal operands.
+-- Assumes nothing.
+use Prim.Native.Nat.{ℕ, suc}
+use lib.ListN.{length, getD, drop}
+use mathlib.Core.Bool.{Bool, true, false, _&&_, false≢true}
+use mathlib.Core.List.{List, [], _∷_, _++_, append-assoc, List·Memᴰ·head, List·Memᴰ·tail, List·Memᴰ·not-nil, Memᴰ·append-left, Memᴰ·append-right, List·Memᴰ·cases-cons, append-nil}
+use mathlib.Core.Logic.{_⊎_, inl, inr}
+use mathlib.Core.Option.{none, some}
+use mathlib.Core.Path.{_≡_, refl, sym, ap, _∙_, subst}
+use native.Mathlib.Omega.{arith}
+use Rattle.files.specs.Answer.{Answer, accepted}
+use Rattle.files.specs.Bytes.{spreadAll}
+use Rattle.files.specs.BytesLaws.{Fit, before-apart, before-chain, before-equal, Reads, reads-on, reads-end}
+use Rattle.files.specs.RuleFile.{RuleCommand, byteOf, operandsOf, ruleCommand, precedes, isOperations, Lines, ruleWidths, widthsOr, encode, encodeAll, Reading, legal, whole, finished, follows, addLine, obeyRule, endsFile, ruleFormat, readRules, opens, value, operations, link, part, ends}
+use Rattle.policy.specs.MergeLaws.{Every}
+use Rattle.policy.specs.Roles.{Roles}
+use Rattle.policy.specs.Rules.{Setting, user, resource}
+use Rattle.policy.specs.Sorted.{Rising, Before, Strict, and-then}
+use Rattle.policy.specs.Tests.{Is, and-in, and-l, and-r, fails, _∈_, any, all-in, any-out, each, not-in}
+
+-- ---- commands
+
+-- a command is known by its byte and operands
+pub command-of : (c : RuleCommand) → ruleCommand (byteOf c) (operandsOf c) ≡ c
+command-of opens = refl
+command-of (value user false a v) = refl
+command-of (value user true a v) = refl
+command-of (value resource false a v) = refl
+command-of (value resource true a v) = refl
+command-of (operations m) = refl
+command-of (link a b) = refl
+command-of (part k m) = refl
+command-of ends = refl
+
+-- commands are strictly ordered
+pub lines-strict : Strict precedes
+lines-strict = record {
+  apart = λ c d. before-apart (byteOf c ∷ operandsOf c) (byteOf d ∷ operandsOf d);
+  chain = λ c d e. before-chain (byteOf c ∷ operandsOf c) (byteOf d ∷ operandsOf d) (byteOf e ∷ operandsOf e);
+  equal = λ c d p q. sym (command-of c) ∙ ap (λ (l : List ℕ). ruleCommand (getD l 0 0) (drop 1 l)) (before-equal (byteOf c ∷ operandsOf c) (byteOf d ∷ operandsOf d) p q) ∙ command-of d;
+}
+
+-- a line stands within a rule: it is no 21 and no 2F
+abbrev pub inner : RuleCommand → Bool
+inner opens = false
+inner (value w set a v) = true
+inner (operations m) = true
+inner (link a b) = true
+inner (part k m) = true
+inner ends = false
+
+module _ (W : ℕ) where
+  pub widths-of : (c : RuleCommand) → ruleWidths W (byteOf c) ≡ some (widthsOr W (ruleWidths W (byteOf c)))
+  widths-of opens = refl
+  widths-of (value user false a v) = refl
+  widths-of (value user true a v) = refl
+  widths-of (value resource false a v) = refl
+  widths-of (value resource true a v) = refl
+  widths-of (operations m) = refl
+  widths-of (link a b) = refl
+  widths-of (part k m) = refl
+  widths-of ends = refl
+
+  -- a command's operands have room in their widths
+  abbrev pub Fitting : RuleCommand → Type 0
+  Fitting c = Fit (widthsOr W (ruleWidths W (byteOf c))) (operandsOf c)
+
+  module _ (P : Setting) (R : Roles) where
+    inner-ends : (c : RuleCommand) → Is (inner c) → endsFile W P R c ≡ false
+    inner-ends opens h = refl
+    inner-ends (value w set a v) h = refl
+    inner-ends (operations m) h = refl
+    inner-ends (link a b) h = refl
+    inner-ends (part k m) h = refl
+    inner-ends ends h = sym h
+
+    inner-obey : (s : Reading W) (c : RuleCommand) → Is (inner c) → obeyRule W P R s c ≡ addLine W P R s c
+    unfolding obeyRule
+    inner-obey s opens h = absurd (false≢true h)
+    inner-obey s (value w set a v) h = refl
+    inner-obey s (operations m) h = refl
+    inner-obey s (link a b) h = refl
+    inner-obey s (part k m) h = refl
+    inner-obey s ends h = absurd (false≢true h)
+
+    -- a line of a rule that may be written
+    pub record Good (c : RuleCommand) : Type 0 where
+      pub within : Is (inner c)
+      pub legally : Is (legal W P R c)
+      pub room : Fitting c
+
+    -- the lines of a rule that may be written
+    pub record Writable (ls : Lines) : Type 0 where
+      pub rising : Rising (Before precedes) ls
+      pub good : Every Good ls
+      pub single : (c d : RuleCommand) → c ∈ ls → d ∈ ls → Is (isOperations c) → Is (isOperations d) → c ≡ d
+      pub complete : Is (whole W P R ls)
+
+    rising-before : {A : Type 0} {Q : A → A → Type 0} (pre : List A) (c : A) (ls : List A) → Rising Q (pre ++ (c ∷ ls)) → (d : A) → d ∈ pre → Q d c
+    rising-before [] c ls r d m = absurd (List·Memᴰ·not-nil m)
+    rising-before {A = A} {Q = Q} (x ∷ pre) c ls (and-then h r) d m = go (rising-before pre c ls r) (List·Memᴰ·cases-cons m)
+      where
+        go : ((d : A) → d ∈ pre → Q d c) → (d ≡ x) ⊎ (d ∈ pre) → Q d c
+        go rec (inl e) = rw e (h c (Memᴰ·append-right pre (List·Memᴰ·head refl)))
+        go rec (inr k) = rec d k
+
+    -- a good line follows those before it
+    line-follows : (pre : Lines) (c : RuleCommand) (ls : Lines) → Writable (pre ++ (c ∷ ls)) → Is (follows W P R pre c)
+    unfolding follows
+    line-follows pre c ls w =
+        and-in (all-in (λ d. precedes d c) pre (rising-before pre c ls (w .rising)))
+        (not-in (isOperations c && any isOperations pre) (fails (isOperations c && any isOperations pre) second))
+      where
+        second : Is (isOperations c && any isOperations pre) → ⊥
+        second h =
+            let t = any-out isOperations pre (and-r (isOperations c) (any isOperations pre) h) in
+            let p = rising-before pre c ls (w .rising) (t .0) (t .1) in
+            let e = w .single (t .0) c (Memᴰ·append-left (c ∷ ls) (t .1)) (Memᴰ·append-right pre (List·Memᴰ·head refl)) (t .2) (and-l (isOperations c) (any isOperations pre) h) in
+            let q : Is (precedes c c) = rw e at p in
+            lines-strict .apart c c q q
+
+    line-added : (done : List Lines) (pre : Lines) (c : RuleCommand) (ls : Lines) → Writable (pre ++ (c ∷ ls))
+        → obeyRule W P R (record { complete = done; current = some pre }) c ≡ accepted (record { complete = done; current = some (pre ++ (c ∷ [])) })
+    unfolding addLine
+    line-added done pre c ls w =
+        let g = w .good c (Memᴰ·append-right pre (List·Memᴰ·head refl)) in
+        inner-obey (record { complete = done; current = some pre }) c (g .within) ∙ rw (line-follows pre c ls w, g .legally) refl
+
+    -- a rule's lines are read one after the other
+    read-lines : (done : List Lines) (pre ls : Lines) (rest : List ℕ) (a : Answer (Reading W)) → Writable (pre ++ ls)
+        → Reads (ruleFormat W P R) (record { complete = done; current = some (pre ++ ls) }) rest a → Reads (ruleFormat W P R) (record { complete = done; current = some pre }) (each (encode W) ls ++ rest) a
+    unfolding encode ruleFormat
+    read-lines done pre [] rest a w r = subst (λ (l : Lines). Reads (ruleFormat W P R) (record { complete = done; current = some l }) rest a) (append-nil pre) r
+    read-lines done pre (c ∷ ls) rest a w r = line (read-lines done (pre ++ (c ∷ [])) ls rest a (rw append-assoc w) (rw append-assoc r))
+      where
+        line : Reads (ruleFormat W P R) (record { complete = done; current = some (pre ++ (c ∷ [])) }) (each (encode W) ls ++ rest) a → Reads (ruleFormat W P R) (record { complete = done; current = some pre }) (each (encode W) (c ∷ ls) ++ rest) a
+        line r =
+            let g = w .good c (Memᴰ·append-right pre (List·Memᴰ·head refl)) in
+            subst (λ (l : List ℕ). Reads (ruleFormat W P R) (record { complete = done; current = some pre }) (byteOf c ∷ l) a) (sym (append-assoc (spreadAll (widthsOr W (ruleWidths W (byteOf c))) (operandsOf c)) (each (encode W) ls) rest))
+            (reads-on (ruleFormat W P R) (record { complete = done; current = some pre }) (record { complete = done; current = some (pre ++ (c ∷ [])) }) (byteOf c) (widthsOr W (ruleWidths W (byteOf c))) (operandsOf c) (each (encode W) ls ++ rest) a
+            (widths-of c) (g .room) (ap (obeyRule W P R (record { complete = done; current = some pre })) (command-of c) ∙ line-added done pre c ls w) (ap (endsFile W P R) (command-of c) ∙ inner-ends c (g .within)) r)
+
+    -- the rest of a file: rules that may be written, and the end
+    read-rules : (s : Reading W) (done rules : List Lines) → finished W P R s ≡ accepted done → Every Writable rules
+        → Reads (ruleFormat W P R) s (each (λ ls. each (encode W) (opens ∷ ls)) rules ++ encode W ends) (accepted (record { complete = done ++ rules; current = none }))
+    unfolding encode ruleFormat obeyRule finished
+    read-rules s done [] f w =
+        reads-end (ruleFormat W P R) s (record { complete = done ++ []; current = none }) 0x2F refl (rw (f, append-nil done) refl) refl
+    read-rules s done (ls ∷ rules) f w = opened (read-rules (record { complete = done; current = some ls }) (done ++ (ls ∷ [])) rules closed (λ k m. w k (List·Memᴰ·tail m)))
+      where
+        closed : finished W P R (record { complete = done; current = some ls }) ≡ accepted (done ++ (ls ∷ []))
+        closed = rw (w ls (List·Memᴰ·head refl) .complete) refl
+
+        more-rules : List ℕ
+        more-rules = each (λ ls. each (encode W) (opens ∷ ls)) rules ++ encode W ends
+
+        opened : Reads (ruleFormat W P R) (record { complete = done; current = some ls }) more-rules (accepted (record { complete = (done ++ (ls ∷ [])) ++ rules; current = none }))
+            → Reads (ruleFormat W P R) s (each (λ ls. each (encode W) (opens ∷ ls)) (ls ∷ rules) ++ encode W ends) (accepted (record { complete = done ++ (ls ∷ rules); current = none }))
+        opened r =
+            subst (λ (l : List ℕ). Reads (ruleFormat W P R) s (0x21 ∷ l) (accepted (record { complete = done ++ (ls ∷ rules); current = none }))) (sym (append-assoc (each (encode W) ls) (each (λ ls. each (encode W) (opens ∷ ls)) rules) (encode W ends)))
+            (reads-on (ruleFormat W P R) s (record { complete = done; current = some [] }) 0x21 [] [] (each (encode W) ls ++ more-rules) (accepted (record { complete = done ++ (ls ∷ rules); current = none }))
+            refl tt (rw f refl) refl
+            (read-lines done [] ls more-rules (accepted (record { complete = done ++ (ls ∷ rules); current = none })) (w ls (List·Memᴰ·head refl)) (rw append-assoc at r)))
+
+    -- THE LAW: a file of such rules is read back as it was written
+    pub read-back : (rules : List Lines) → Every Writable rules → readRules W P R (encodeAll W rules) ≡ accepted rules
+    unfolding readRules encodeAll finished
+    read-back rules w = rw (read-rules (record { complete = []; current = none }) [] rules refl w (suc (length (encodeAll W rules))) (omega arith)) refl
