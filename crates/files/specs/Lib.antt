@@ -6,3 +6,5 @@ pub mod Calls
 pub mod Examples
 pub mod BytesLaws
 pub mod ReadBack
+pub mod LineLaws
+pub mod WriteLaws

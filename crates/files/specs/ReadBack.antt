@@ -11,7 +11,7 @@ use native.Mathlib.Omega.{arith}
 use Rattle.files.specs.Answer.{Answer, accepted}
 use Rattle.files.specs.Bytes.{spreadAll}
 use Rattle.files.specs.BytesLaws.{Fit, before-apart, before-chain, before-equal, Reads, reads-on, reads-end}
-use Rattle.files.specs.RuleFile.{RuleCommand, byteOf, operandsOf, ruleCommand, precedes, isOperations, Lines, ruleWidths, widthsOr, encode, encodeAll, Reading, legal, whole, finished, follows, addLine, obeyRule, endsFile, ruleFormat, readRules, opens, value, operations, link, part, ends}
+use Rattle.files.specs.RuleFile.{RuleCommand, byteOf, operandsOf, ruleCommand, precedes, isOperations, Lines, Reading, endsFile, whole, finished, follows, legal, addLine, obeyRule, widthsOr, ruleWidths, encode, encodeAll, ruleFormat, readRules, opens, value, operations, link, part, ends}
 use Rattle.policy.specs.MergeLaws.{Every}
 use Rattle.policy.specs.Roles.{Roles}
 use Rattle.policy.specs.Rules.{Setting, user, resource}
@@ -50,7 +50,7 @@ inner (part k m) = true
 inner ends = false
 
 module _ (W : ℕ) where
-  pub widths-of : (c : RuleCommand) → ruleWidths W (byteOf c) ≡ some (widthsOr W (ruleWidths W (byteOf c)))
+  pub widths-of : (c : RuleCommand) → ruleWidths W (byteOf c) ≡ some (widthsOr (ruleWidths W (byteOf c)))
   widths-of opens = refl
   widths-of (value user false a v) = refl
   widths-of (value user true a v) = refl
@@ -63,10 +63,10 @@ module _ (W : ℕ) where
 
   -- a command's operands have room in their widths
   abbrev pub Fitting : RuleCommand → Type 0
-  Fitting c = Fit (widthsOr W (ruleWidths W (byteOf c))) (operandsOf c)
+  Fitting c = Fit (widthsOr (ruleWidths W (byteOf c))) (operandsOf c)
 
   module _ (P : Setting) (R : Roles) where
-    inner-ends : (c : RuleCommand) → Is (inner c) → endsFile W P R c ≡ false
+    inner-ends : (c : RuleCommand) → Is (inner c) → endsFile c ≡ false
     inner-ends opens h = refl
     inner-ends (value w set a v) h = refl
     inner-ends (operations m) h = refl
@@ -74,7 +74,7 @@ module _ (W : ℕ) where
     inner-ends (part k m) h = refl
     inner-ends ends h = sym h
 
-    inner-obey : (s : Reading W) (c : RuleCommand) → Is (inner c) → obeyRule W P R s c ≡ addLine W P R s c
+    inner-obey : (s : Reading) (c : RuleCommand) → Is (inner c) → obeyRule P R s c ≡ addLine P R s c
     unfolding obeyRule
     inner-obey s opens h = absurd (false≢true h)
     inner-obey s (value w set a v) h = refl
@@ -86,7 +86,7 @@ module _ (W : ℕ) where
     -- a line of a rule that may be written
     pub record Good (c : RuleCommand) : Type 0 where
       pub within : Is (inner c)
-      pub legally : Is (legal W P R c)
+      pub legally : Is (legal P R c)
       pub room : Fitting c
 
     -- the lines of a rule that may be written
@@ -94,7 +94,7 @@ module _ (W : ℕ) where
       pub rising : Rising (Before precedes) ls
       pub good : Every Good ls
       pub single : (c d : RuleCommand) → c ∈ ls → d ∈ ls → Is (isOperations c) → Is (isOperations d) → c ≡ d
-      pub complete : Is (whole W P R ls)
+      pub complete : Is (whole ls)
 
     rising-before : {A : Type 0} {Q : A → A → Type 0} (pre : List A) (c : A) (ls : List A) → Rising Q (pre ++ (c ∷ ls)) → (d : A) → d ∈ pre → Q d c
     rising-before [] c ls r d m = absurd (List·Memᴰ·not-nil m)
@@ -105,7 +105,7 @@ module _ (W : ℕ) where
         go rec (inr k) = rec d k
 
     -- a good line follows those before it
-    line-follows : (pre : Lines) (c : RuleCommand) (ls : Lines) → Writable (pre ++ (c ∷ ls)) → Is (follows W P R pre c)
+    line-follows : (pre : Lines) (c : RuleCommand) (ls : Lines) → Writable (pre ++ (c ∷ ls)) → Is (follows pre c)
     unfolding follows
     line-follows pre c ls w =
         and-in (all-in (λ d. precedes d c) pre (rising-before pre c ls (w .rising)))
@@ -120,14 +120,14 @@ module _ (W : ℕ) where
             lines-strict .apart c c q q
 
     line-added : (done : List Lines) (pre : Lines) (c : RuleCommand) (ls : Lines) → Writable (pre ++ (c ∷ ls))
-        → obeyRule W P R (record { complete = done; current = some pre }) c ≡ accepted (record { complete = done; current = some (pre ++ (c ∷ [])) })
+        → obeyRule P R (record { complete = done; current = some pre }) c ≡ accepted (record { complete = done; current = some (pre ++ (c ∷ [])) })
     unfolding addLine
     line-added done pre c ls w =
         let g = w .good c (Memᴰ·append-right pre (List·Memᴰ·head refl)) in
         inner-obey (record { complete = done; current = some pre }) c (g .within) ∙ rw (line-follows pre c ls w, g .legally) refl
 
     -- a rule's lines are read one after the other
-    read-lines : (done : List Lines) (pre ls : Lines) (rest : List ℕ) (a : Answer (Reading W)) → Writable (pre ++ ls)
+    read-lines : (done : List Lines) (pre ls : Lines) (rest : List ℕ) (a : Answer (Reading)) → Writable (pre ++ ls)
         → Reads (ruleFormat W P R) (record { complete = done; current = some (pre ++ ls) }) rest a → Reads (ruleFormat W P R) (record { complete = done; current = some pre }) (each (encode W) ls ++ rest) a
     unfolding encode ruleFormat
     read-lines done pre [] rest a w r = subst (λ (l : Lines). Reads (ruleFormat W P R) (record { complete = done; current = some l }) rest a) (append-nil pre) r
@@ -136,19 +136,19 @@ module _ (W : ℕ) where
         line : Reads (ruleFormat W P R) (record { complete = done; current = some (pre ++ (c ∷ [])) }) (each (encode W) ls ++ rest) a → Reads (ruleFormat W P R) (record { complete = done; current = some pre }) (each (encode W) (c ∷ ls) ++ rest) a
         line r =
             let g = w .good c (Memᴰ·append-right pre (List·Memᴰ·head refl)) in
-            subst (λ (l : List ℕ). Reads (ruleFormat W P R) (record { complete = done; current = some pre }) (byteOf c ∷ l) a) (sym (append-assoc (spreadAll (widthsOr W (ruleWidths W (byteOf c))) (operandsOf c)) (each (encode W) ls) rest))
-            (reads-on (ruleFormat W P R) (record { complete = done; current = some pre }) (record { complete = done; current = some (pre ++ (c ∷ [])) }) (byteOf c) (widthsOr W (ruleWidths W (byteOf c))) (operandsOf c) (each (encode W) ls ++ rest) a
-            (widths-of c) (g .room) (ap (obeyRule W P R (record { complete = done; current = some pre })) (command-of c) ∙ line-added done pre c ls w) (ap (endsFile W P R) (command-of c) ∙ inner-ends c (g .within)) r)
+            subst (λ (l : List ℕ). Reads (ruleFormat W P R) (record { complete = done; current = some pre }) (byteOf c ∷ l) a) (sym (append-assoc (spreadAll (widthsOr (ruleWidths W (byteOf c))) (operandsOf c)) (each (encode W) ls) rest))
+            (reads-on (ruleFormat W P R) (record { complete = done; current = some pre }) (record { complete = done; current = some (pre ++ (c ∷ [])) }) (byteOf c) (widthsOr (ruleWidths W (byteOf c))) (operandsOf c) (each (encode W) ls ++ rest) a
+            (widths-of c) (g .room) (ap (obeyRule P R (record { complete = done; current = some pre })) (command-of c) ∙ line-added done pre c ls w) (ap (endsFile) (command-of c) ∙ inner-ends c (g .within)) r)
 
     -- the rest of a file: rules that may be written, and the end
-    read-rules : (s : Reading W) (done rules : List Lines) → finished W P R s ≡ accepted done → Every Writable rules
+    read-rules : (s : Reading) (done rules : List Lines) → finished s ≡ accepted done → Every Writable rules
         → Reads (ruleFormat W P R) s (each (λ ls. each (encode W) (opens ∷ ls)) rules ++ encode W ends) (accepted (record { complete = done ++ rules; current = none }))
     unfolding encode ruleFormat obeyRule finished
     read-rules s done [] f w =
         reads-end (ruleFormat W P R) s (record { complete = done ++ []; current = none }) 0x2F refl (rw (f, append-nil done) refl) refl
     read-rules s done (ls ∷ rules) f w = opened (read-rules (record { complete = done; current = some ls }) (done ++ (ls ∷ [])) rules closed (λ k m. w k (List·Memᴰ·tail m)))
       where
-        closed : finished W P R (record { complete = done; current = some ls }) ≡ accepted (done ++ (ls ∷ []))
+        closed : finished (record { complete = done; current = some ls }) ≡ accepted (done ++ (ls ∷ []))
         closed = rw (w ls (List·Memᴰ·head refl) .complete) refl
 
         more-rules : List ℕ

@@ -159,11 +159,79 @@ unfoldable pub condLines : Setting → Cond → Lines
 condLines P (conjunct w a vs) = map (value w (P .side w .isSet a) a) vs
 condLines P (atom a b) = link a b ∷ []
 
--- the lines of a rule and of the parts under it, in the file's order
-unfoldable pub linesOf : (P : Setting) → Roles → Rule → List ℕ → Lines
-linesOf P R ρ g = sort precedes (each (condLines P) (ρ .conds) ++ (operations (ρ .ops) ∷ map (λ p. part (partAt P R p .role) (classOf P R (partAt P R p))) g))
+-- the lines of a rule and of the parts under it: all of them, and in the file's order
+unfoldable pub allLines : (P : Setting) → Roles → Rule → List ℕ → Lines
+allLines P R ρ g = each (condLines P) (ρ .conds) ++ (operations (ρ .ops) ∷ map (λ p. part (partAt P R p .role) (classOf P R (partAt P R p))) g)
 
--- an operation set is W bytes wide: 2 for 16 operations
+unfoldable pub linesOf : (P : Setting) → Roles → Rule → List ℕ → Lines
+linesOf P R ρ g = sort precedes (allLines P R ρ g)
+
+-- ---- reading beside a policy
+
+-- the rules that are complete, and the lines of the one that is open
+pub record Reading : Type 0 where
+  pub complete : List Lines
+  pub current : Option Lines
+
+abbrev pub endsFile : RuleCommand → Bool
+endsFile opens = false
+endsFile (value w set a v) = false
+endsFile (operations m) = false
+endsFile (link a b) = false
+endsFile (part k m) = false
+endsFile ends = true
+
+-- "26 ..., exactly once", "28 ... at least one": seen at the next 21 or 2F
+unfoldable pub whole : Lines → Bool
+whole ls = any isOperations ls && any isPartLine ls
+
+-- the rules once the open one is closed
+unfoldable pub finished : Reading → Answer (List Lines)
+finished s = elim (s .current) [ none ↦ accepted (s .complete) | some ls ↦ unless (whole ls) rulesOrder (accepted (s .complete ++ (ls ∷ []))) ]
+
+-- a line may follow these: it ascends, and is no second 26
+unfoldable pub follows : Lines → RuleCommand → Bool
+follows ls c = all (λ d. precedes d c) ls && not (isOperations c && any isOperations ls)
+
+module _ (P : Setting) (R : Roles) where
+  -- "255 stands only in 23, with roles as elements, and in 24, with a resource number"
+  abbrev pub ownValue : Which → Bool → ℕ → Bool
+  ownValue user true v = ltb v (2 ^ R .number)
+  ownValue user false v = false
+  ownValue resource true v = false
+  ownValue resource false v = ltb v (P .side resource .count)
+
+  -- "13 an operand beyond its size, of the wrong kind (an atom of a single user attribute and a set resource attribute
+  -- too), a zero operation set, or no part of that file"
+  unfoldable pub legal : RuleCommand → Bool
+  legal opens = true
+  legal (value w set a v) = cond (eqb a own) (ownValue w set v) (ltb a (P .side w .attrs) && iff (P .side w .isSet a) set)
+  legal (operations m) = ltb 0 m && ltb m (2 ^ P .slots)
+  legal (link a b) = ltb a (P .side user .attrs) && (ltb b (P .side resource .attrs) && isSome (atomForm P a b))
+  legal (part k m) = any (λ p. eqb k (p .role) && eqb m (classOf P R p)) (parts P R)
+  legal ends = true
+
+  -- a line of the open rule: "12 out of order", then 13
+  unfoldable pub addLine : Reading → RuleCommand → Answer Reading
+  addLine s c =
+      elim (s .current) [
+        | none ↦ refused rulesOrder
+        | some ls ↦ unless (follows ls c) rulesOrder (unless (legal c) rulesOperand (accepted (record { complete = s .complete; current = some (ls ++ (c ∷ [])) })))
+      ]
+
+  unfoldable pub obeyRule : Reading → RuleCommand → Answer Reading
+  obeyRule s opens = andThen (finished s) (λ done. accepted (record { complete = done; current = some [] }))
+  obeyRule s (value w set a v) = addLine s (value w set a v)
+  obeyRule s (operations m) = addLine s (operations m)
+  obeyRule s (link a b) = addLine s (link a b)
+  obeyRule s (part k m) = addLine s (part k m)
+  obeyRule s ends = andThen (finished s) (λ done. accepted (record { complete = done; current = none }))
+
+abbrev pub widthsOr : Option (List ℕ) → List ℕ
+widthsOr none = []
+widthsOr (some ws) = ws
+
+-- ---- bytes. An operation set is W bytes wide: 2 for 16 operations
 module _ (W : ℕ) where
   abbrev pub ruleWidths : ℕ → Option (List ℕ)
   ruleWidths b =
@@ -177,10 +245,6 @@ module _ (W : ℕ) where
       (cond (eqb b 0x28) (some (1 ∷ W ∷ []))
       (cond (eqb b 0x2F) (some []) none))))))))
 
-  abbrev pub widthsOr : Option (List ℕ) → List ℕ
-  widthsOr none = []
-  widthsOr (some ws) = ws
-
   -- a command's bytes
   unfoldable pub encode : RuleCommand → List ℕ
   encode c = byteOf c ∷ spreadAll (widthsOr (ruleWidths (byteOf c))) (operandsOf c)
@@ -189,73 +253,13 @@ module _ (W : ℕ) where
   unfoldable pub encodeAll : List Lines → List ℕ
   encodeAll rules = each (λ ls. each encode (opens ∷ ls)) rules ++ encode ends
 
-  -- ---- reading beside a policy
-
-  -- the rules that are complete, and the lines of the one that is open
-  pub record Reading : Type 0 where
-    pub complete : List Lines
-    pub current : Option Lines
-
   module _ (P : Setting) (R : Roles) where
-    -- "255 stands only in 23, with roles as elements, and in 24, with a resource number"
-    abbrev pub ownValue : Which → Bool → ℕ → Bool
-    ownValue user true v = ltb v (2 ^ R .number)
-    ownValue user false v = false
-    ownValue resource true v = false
-    ownValue resource false v = ltb v (P .side resource .count)
-
-    -- "13 an operand beyond its size, of the wrong kind (an atom of a single user attribute and a set resource attribute
-    -- too), a zero operation set, or no part of that file"
-    unfoldable pub legal : RuleCommand → Bool
-    legal opens = true
-    legal (value w set a v) = cond (eqb a own) (ownValue w set v) (ltb a (P .side w .attrs) && iff (P .side w .isSet a) set)
-    legal (operations m) = ltb 0 m && ltb m (2 ^ P .slots)
-    legal (link a b) = ltb a (P .side user .attrs) && (ltb b (P .side resource .attrs) && isSome (atomForm P a b))
-    legal (part k m) = any (λ p. eqb k (p .role) && eqb m (classOf P R p)) (parts P R)
-    legal ends = true
-
-    -- "26 ..., exactly once", "28 ... at least one": seen at the next 21 or 2F
-    unfoldable pub whole : Lines → Bool
-    whole ls = any isOperations ls && any isPartLine ls
-
-    -- the rules once the open one is closed
-    unfoldable pub finished : Reading → Answer (List Lines)
-    finished s = elim (s .current) [ none ↦ accepted (s .complete) | some ls ↦ unless (whole ls) rulesOrder (accepted (s .complete ++ (ls ∷ []))) ]
-
-    -- a line may follow these: it ascends, and is no second 26
-    unfoldable pub follows : Lines → RuleCommand → Bool
-    follows ls c = all (λ d. precedes d c) ls && not (isOperations c && any isOperations ls)
-
-    -- a line of the open rule: "12 out of order", then 13
-    unfoldable pub addLine : Reading → RuleCommand → Answer Reading
-    addLine s c =
-        elim (s .current) [
-          | none ↦ refused rulesOrder
-          | some ls ↦ unless (follows ls c) rulesOrder (unless (legal c) rulesOperand (accepted (record { complete = s .complete; current = some (ls ++ (c ∷ [])) })))
-        ]
-
-    unfoldable pub obeyRule : Reading → RuleCommand → Answer Reading
-    obeyRule s opens = andThen (finished s) (λ done. accepted (record { complete = done; current = some [] }))
-    obeyRule s (value w set a v) = addLine s (value w set a v)
-    obeyRule s (operations m) = addLine s (operations m)
-    obeyRule s (link a b) = addLine s (link a b)
-    obeyRule s (part k m) = addLine s (part k m)
-    obeyRule s ends = andThen (finished s) (λ done. accepted (record { complete = done; current = none }))
-
-    abbrev pub endsFile : RuleCommand → Bool
-    endsFile opens = false
-    endsFile (value w set a v) = false
-    endsFile (operations m) = false
-    endsFile (link a b) = false
-    endsFile (part k m) = false
-    endsFile ends = true
-
     unfoldable pub ruleFormat : Format RuleCommand Reading
     ruleFormat = record {
       widths = ruleWidths;
       command = ruleCommand;
       ends = endsFile;
-      obey = obeyRule;
+      obey = obeyRule P R;
       late = rulesOrder;
       unknown = rulesUnknown;
       short = rulesCutOff;

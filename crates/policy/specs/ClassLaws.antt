@@ -6,15 +6,15 @@ use lib.Dec.{ltb}
 use lib.ListN.{length, getD}
 use mathlib.Core.List.{List}
 use mathlib.Core.Path.{_≡_, refl, sym, ap, ap₂, _∙_}
-use native.Mathlib.Nat.{mul-suc}
+use native.Mathlib.Nat.{mul-le-mul-left, mul-suc}
 use native.Mathlib.Omega.{arith}
 use Rattle.policy.specs.Mined.{partCount, partAt}
-use Rattle.policy.specs.OrderLaws.{each-asc, only-asc, from-rising, key}
+use Rattle.policy.specs.OrderLaws.{key}
 use Rattle.policy.specs.PartLaws.{alike-in, parts-out}
 use Rattle.policy.specs.Roles.{Roles, Part, alike, leads, isPart, parts, classOf}
 use Rattle.policy.specs.Rules.{Setting, user, resource}
 use Rattle.policy.specs.Sets.{bit, maskOf, bit-mask}
-use Rattle.policy.specs.Sorted.{Ascending, none-left, and-then}
+use Rattle.policy.specs.Sorted.{Ascending, each-rising, only-rising, from-rising, none-left, and-then}
 use Rattle.policy.specs.Tests.{Is, and-r, never, test, _∈_, any, any-in, each, each-out, only, only-out, upTo, upTo-in, upTo-out, getD-in, not-out}
 use Rattle.policy.specs.WrittenLaws.{mask-lt}
 
@@ -33,16 +33,22 @@ module _ (P : Setting) (R : Roles) where
   parts-ascending : Ascending partKey (parts P R)
   unfolding parts partKey
   parts-ascending =
-      each-asc partKey (λ k. each (λ o. only (isPart P R k o) (record { role = k; lead = o })) (upTo (P .slots))) (P .slots) 0
-      (λ k. each-asc partKey (λ o. only (isPart P R k o) (record { role = k; lead = o })) 1 (P .slots * k)
-      (λ o. only-asc partKey (isPart P R k o) (record { role = k; lead = o })) (from-rising 0 (P .slots))
-      (λ o m x i. let e = ap partKey (only-out (isPart P R k o) i .1) in omega arith))
+      each-rising (λ k. each (λ o. only (isPart P R k o) (record { role = k; lead = o })) (upTo (P .slots)))
+      (λ k. each-rising (λ o. only (isPart P R k o) (record { role = k; lead = o }))
+      (λ o. only-rising (isPart P R k o) (record { role = k; lead = o }))
+      (λ o q ma mb h x y mx my.
+      let e = ap partKey (only-out (isPart P R k o) mx .1) in
+      let d = ap partKey (only-out (isPart P R k q) my .1) in
+      omega arith)
+      (from-rising 0 (P .slots)))
+      (λ k j ma mb h x y mx my.
+      let s = each-out (λ o. only (isPart P R k o) (record { role = k; lead = o })) (upTo (P .slots)) mx in
+      let t = each-out (λ o. only (isPart P R j o) (record { role = j; lead = o })) (upTo (P .slots)) my in
+      let e = ap partKey (only-out (isPart P R k (s .0)) (s .2) .1) in
+      let d = ap partKey (only-out (isPart P R j (t .0)) (t .2) .1) in
+      let b = upTo-out (P .slots) (s .1) in
+      omega (arith, mul-suc (P .slots) k, mul-le-mul-left (P .slots) h))
       (from-rising 0 (R .number))
-      (λ k m x i.
-      let t = each-out (λ o. only (isPart P R k o) (record { role = k; lead = o })) (upTo (P .slots)) i in
-      let e = ap partKey (only-out (isPart P R k (t .0)) (t .2) .1) in
-      let b = upTo-out (P .slots) (t .1) in
-      omega (arith, mul-suc (P .slots) k))
 
   -- a part has one number
   pub part-number : (p q : ℕ) → p < partCount P R → q < partCount P R → partAt P R p ≡ partAt P R q → p ≡ q

@@ -3,17 +3,16 @@
 use Prim.Native.Nat.{ℕ, zero, suc, _+_, _*_, _≤_, _<_}
 use lib.Dec.{ltb}
 use mathlib.Core.Bool.{Bool, true, false, cond}
-use mathlib.Core.List.{List, [], _∷_, _++_, List·Memᴰ·head, List·Memᴰ·tail, List·Memᴰ·not-nil, List·Memᴰ·append-cases, map}
+use mathlib.Core.List.{List, [], _∷_, _++_, List·Memᴰ·not-nil, List·Memᴰ·append-cases, map}
 use mathlib.Core.Logic.{_⊎_, inl, inr}
 use mathlib.Core.Path.{_≡_, refl, sym, ap, _∙_, subst}
-use native.Mathlib.Nat.{mul-le-mul-left}
 use native.Mathlib.Omega.{arith}
 use Rattle.policy.specs.CoverLaws.{conjuncts-out, atomConds-out, cover-cases}
 use Rattle.policy.specs.Covering.{allKnow, valuesOf, standsIn, everywhere, conjuncts, atomConds, cover, fits, levelOf}
 use Rattle.policy.specs.RuleLaws.{Lawful, grants-cond}
 use Rattle.policy.specs.Rules.{own, Side, Which, by, Setting, Cond, Rule, Block, meets, attrsOf, ownAt, holds, grants, Some, user, resource, conjunct, atom}
 use Rattle.policy.specs.SideLaws.{admits-out, values-rising}
-use Rattle.policy.specs.Sorted.{Rising, Ascending, Before, keep-rising, none-left, and-then}
+use Rattle.policy.specs.Sorted.{Rising, Ascending, Before, keep-rising, append-rising, each-rising, only-rising, from-rising, none-left, and-then}
 use Rattle.policy.specs.StrikeLaws.{strike-within}
 use Rattle.policy.specs.Tests.{Is, _∈_, each, each-out, only, only-out, from, upTo, from-out, upTo-out, map-out}
 use Rattle.policy.specs.ThinLaws.{written-exact}
@@ -22,33 +21,6 @@ use Rattle.policy.specs.Thinning.{trim, strike, trimCond, grantsJust, th
 -- ---- ascending lists
 
 module _ {A : Type 0} (key : A → ℕ) where
-  pub append-asc : {s t : List A} → Ascending key s → Ascending key t → ((x y : A) → x ∈ s → y ∈ t → key x < key y) → Ascending key (s ++ t)
-  append-asc none-left q h = q
-  append-asc {t = t} (and-then {x = g} {xs = s} e p) q h = and-then (λ y m. go y (List·Memᴰ·append-cases s m)) (append-asc p q (λ x y mx my. h x y (List·Memᴰ·tail mx) my))
-    where
-      go : (y : A) → (y ∈ s) ⊎ (y ∈ t) → key g < key y
-      go y (inl m) = e y m
-      go y (inr m) = h g y (List·Memᴰ·head refl) m
-
-  -- a list for each of ascending numbers, each list within its own stretch
-  pub each-asc : (g : ℕ → List A) (width : ℕ) (base : ℕ) → ((a : ℕ) → Ascending key (g a)) → {l : List ℕ} → Rising _<_ l
-      → ((a : ℕ) → a ∈ l → (x : A) → x ∈ g a → (base + width * a ≤ key x) × (key x < base + width * suc a)) → Ascending key (each g l)
-  each-asc g width base i none-left h = none-left
-  each-asc g width base i (and-then {x = a} {xs = l} e r) h =
-      append-asc (i a) (each-asc g width base i r (λ b m. h b (List·Memᴰ·tail m))) λ x y mx my.
-      let t = each-out g l my in
-      let k = h a (List·Memᴰ·head refl) x mx in
-      let j = h (t .0) (List·Memᴰ·tail (t .1)) y (t .2) in
-      let d = e (t .0) (t .1) in
-      apart a (t .0) (key x) (key y) d (k .1) (j .0)
-    where
-      apart : (a b p q : ℕ) → a < b → p < base + width * suc a → base + width * b ≤ q → p < q
-      apart a b p q l x y = omega (arith, mul-le-mul-left width l)
-
-  pub only-asc : (b : Bool) (x : A) → Ascending key (only b x)
-  only-asc true x = and-then (λ y m. absurd (List·Memᴰ·not-nil m)) none-left
-  only-asc false x = none-left
-
   -- striking keeps the order
   pub strike-asc : (ok : List A → Bool) (pre : List A) {t : List A} → Ascending key t → Ascending key (strike ok pre t)
   strike-asc ok pre none-left = none-left
@@ -62,10 +34,6 @@ module _ {A : Type 0} (key : A → ℕ) where
   map-asc f k none-left = none-left
   map-asc f k (and-then {x = g} {xs = t} e p) = and-then {x = f g} (λ y m. let s = map-out f t m in let a = e (s .0) (s .1) in let b = k g in let c = k (s .0) in rw (s .2) (omega arith)) (map-asc f k p)
 
-pub from-rising : (k n : ℕ) → Rising _<_ (from k n)
-from-rising k zero = none-left
-from-rising k (suc n) = and-then {x = k} (λ y m. let h = from-out (suc k) n m in omega arith) (from-rising (suc k) n)
-
 -- ---- the order of conditions: users' conjuncts, resources', atoms, each by attribute
 unfoldable pub key : Cond → ℕ
 key (conjunct w a vs) = by w 0 256 + a
@@ -75,7 +43,7 @@ key (atom a b) = 512 + (256 * a + b)
 abbrev pub Numbered : Side → Type 0
 Numbered S = S .attrs ≤ own
 
-attrs-rising : (S : Side) → Numbered S → (b : Bool) → Rising _<_ (attrsOf S b)
+pub attrs-rising : (S : Side) → Numbered S → (b : Bool) → Rising _<_ (attrsOf S b)
 unfolding attrsOf
 attrs-rising S N b = go 0 (S .attrs) (omega arith) b
   where
@@ -88,7 +56,7 @@ attrs-rising S N b = go 0 (S .attrs) (omega arith) b
         above y (inl m) = let t = from-out (suc k) n m in omega arith
         above y (inr m) = let t = only-out b m in omega (arith, t .1)
 
-attrs-below : (S : Side) → Numbered S → (b : Bool) {a : ℕ} → a ∈ attrsOf S b → a < 256
+pub attrs-below : (S : Side) → Numbered S → (b : Bool) {a : ℕ} → a ∈ attrsOf S b → a < 256
 unfolding attrsOf
 attrs-below S N b {a} m = go (List·Memᴰ·append-cases (upTo (S .attrs)) m)
   where
@@ -100,31 +68,40 @@ module _ (P : Setting) (N : (w : Which) → Numbered (P .side w)) where
   conjuncts-asc : (B : Block) (l : ℕ) (w : Which) → Ascending key (conjuncts P B l w)
   unfolding conjuncts key
   conjuncts-asc B l w =
-      each-asc key (λ a. only (allKnow (P .side w) (standsIn P B w) a) (conjunct w a (valuesOf (P .side w) (standsIn P B w) a))) 1 (by w 0 256)
-      (λ a. only-asc key (allKnow (P .side w) (standsIn P B w) a) (conjunct w a (valuesOf (P .side w) (standsIn P B w) a)))
+      each-rising (λ a. only (allKnow (P .side w) (standsIn P B w) a) (conjunct w a (valuesOf (P .side w) (standsIn P B w) a)))
+      (λ a. only-rising (allKnow (P .side w) (standsIn P B w) a) (conjunct w a (valuesOf (P .side w) (standsIn P B w) a)))
+      (λ a b ma mb h x y mx my.
+      let e = ap key (only-out (allKnow (P .side w) (standsIn P B w) a) mx .1) in
+      let d = ap key (only-out (allKnow (P .side w) (standsIn P B w) b) my .1) in
+      omega arith)
       (attrs-rising (P .side w) (N w) (ownAt w l))
-      (λ a m x k. let e = ap key (only-out (allKnow (P .side w) (standsIn P B w) a) k .1) in omega arith)
 
   atoms-asc : (B : Block) → Ascending key (atomConds P B)
   unfolding atomConds key
   atoms-asc B =
-      each-asc key (λ a. each (λ b. only (everywhere P B (atom a b)) (atom a b)) (upTo (P .side resource .attrs))) 256 512
-      (λ a. each-asc key (λ b. only (everywhere P B (atom a b)) (atom a b)) 1 (512 + 256 * a)
-      (λ b. only-asc key (everywhere P B (atom a b)) (atom a b)) (from-rising 0 (P .side resource .attrs))
-      (λ b m x k. let e = ap key (only-out (everywhere P B (atom a b)) k .1) in omega arith))
-      (from-rising 0 (P .side user .attrs))
-      (λ a m x k.
-      let t = each-out (λ b. only (everywhere P B (atom a b)) (atom a b)) (upTo (P .side resource .attrs)) k in
-      let e = ap key (only-out (everywhere P B (atom a (t .0))) (t .2) .1) in
-      let b = upTo-out (P .side resource .attrs) (t .1) in
+      each-rising (λ a. each (λ b. only (everywhere P B (atom a b)) (atom a b)) (upTo (P .side resource .attrs)))
+      (λ a. each-rising (λ b. only (everywhere P B (atom a b)) (atom a b))
+      (λ b. only-rising (everywhere P B (atom a b)) (atom a b))
+      (λ b c ma mb h x y mx my.
+      let e = ap key (only-out (everywhere P B (atom a b)) mx .1) in
+      let d = ap key (only-out (everywhere P B (atom a c)) my .1) in
+      omega arith)
+      (from-rising 0 (P .side resource .attrs)))
+      (λ a c ma mb h x y mx my.
+      let s = each-out (λ b. only (everywhere P B (atom a b)) (atom a b)) (upTo (P .side resource .attrs)) mx in
+      let t = each-out (λ b. only (everywhere P B (atom c b)) (atom c b)) (upTo (P .side resource .attrs)) my in
+      let e = ap key (only-out (everywhere P B (atom a (s .0))) (s .2) .1) in
+      let d = ap key (only-out (everywhere P B (atom c (t .0))) (t .2) .1) in
+      let b = upTo-out (P .side resource .attrs) (s .1) in
       let n = N resource in
       omega arith)
+      (from-rising 0 (P .side user .attrs))
 
   pub cover-asc : (B : Block) (l : ℕ) → Ascending key (cover P B l .conds)
   unfolding cover key
   cover-asc B l =
-      append-asc key
-      (append-asc key (conjuncts-asc B l user) (conjuncts-asc B l resource) λ x y mx my.
+      append-rising
+      (append-rising (conjuncts-asc B l user) (conjuncts-asc B l resource) λ x y mx my.
       let s = conjuncts-out P B l user mx in
       let t = conjuncts-out P B l resource my in
       let a = attrs-below (P .side user) (N user) (ownAt user l) (s .1) in
