@@ -108,7 +108,7 @@ operations-in m (c ∷ ls) k h = test (isOperations c) here (λ q. other-line c 
     later q (inl e) = absurd (false≢true (sym q ∙ ap isOperations (sym e)))
     later q (inr i) = i
 
-own-3 : (w : Which) → ownAt w 3 ≡ true
+pub own-3 : (w : Which) → ownAt w 3 ≡ true
 own-3 user = refl
 own-3 resource = refl
 

@@ -1,25 +1,31 @@
 -- A rule's lines may be written, and list its parts and no others.
 -- Assumes nothing.
-use Prim.Native.Nat.{ℕ, suc, _+_, _≤_, _<_}
-use borrow.Author.Tests.{ltb-true, ltb-false}
-use lib.Dec.{ltb}
+use Prim.Native.Nat.{ℕ, zero, suc, _+_, _*_, _^_, _≤_, _<_}
+use borrow.Author.Tests.{eq-eqb, ne-eqb, ltb-true, ltb-false, lt-ltb}
+use lib.Dec.{eqb, ltb}
 use lib.ListN.{length}
-use mathlib.Core.Bool.{Bool, true, false, cond, _||_}
-use mathlib.Core.List.{List, [], _∷_, List·Memᴰ·head, List·Memᴰ·tail, map}
+use lib.Pow.{pow-add}
+use mathlib.Core.Bool.{Bool, true, false, cond, _&&_, _||_}
+use mathlib.Core.List.{List, [], _∷_, List·Memᴰ·head, List·Memᴰ·tail, List·Memᴰ·append-cases, map}
+use mathlib.Core.Logic.{_⊎_, inl, inr}
+use mathlib.Core.Option.{some}
 use mathlib.Core.Path.{_≡_, refl, sym, ap, ap₂, _∙_}
+use native.Mathlib.Nat.{pow-suc, mul-suc, pow-le-pow-right}
 use native.Mathlib.Omega.{arith}
 use Rattle.files.specs.Calls.{partsGrant}
-use Rattle.files.specs.LineLaws.{names-out, names-in, partLine, line-out, line-in, lines-rising, part-line, of-part}
-use Rattle.files.specs.ReadBack.{lines-strict}
-use Rattle.files.specs.RuleFile.{RuleCommand, lists, partsIn, listings, linesOf}
-use Rattle.policy.specs.ClassLaws.{class-number}
+use Rattle.files.specs.LineLaws.{names-out, names-in, own-3, Sayable, partLine, LineOf, line-out, line-in, lines-rising, operations-line, part-line, of-value, of-link, of-operations, of-part}
+use Rattle.files.specs.ReadBack.{lines-strict, Roomy, Good, Writable}
+use Rattle.files.specs.RuleFile.{RuleCommand, isOperations, isPartLine, lists, partsIn, listings, linesOf, whole, ownValue, legal, value}
+use Rattle.policy.specs.ClassLaws.{part-in, class-number, class-lt}
 use Rattle.policy.specs.GroupLaws.{times, times-in, times-out, union-same, rule}
 use Rattle.policy.specs.MergeLaws.{total, Every}
 use Rattle.policy.specs.Mined.{partCount, partAt, partBlock, groupBlock}
-use Rattle.policy.specs.Roles.{Roles, classOf}
-use Rattle.policy.specs.Rules.{Setting, Rule, at}
+use Rattle.policy.specs.OrderLaws.{Numbered, attrs-below}
+use Rattle.policy.specs.PartLaws.{parts-out}
+use Rattle.policy.specs.Roles.{Roles, Part, classOf}
+use Rattle.policy.specs.Rules.{own, Which, Setting, Rule, attrsOf, allowed, at, wellFormed, user, resource, conjunct, atom}
 use Rattle.policy.specs.Sorted.{Rising, none-left, and-then}
-use Rattle.policy.specs.Tests.{Is, never, test, fails, same, _∈_, any, any-in, any-out, keep, keep-in, keep-out, upTo, upTo-in, upTo-out, elem, elem-in, elem-out, sum}
+use Rattle.policy.specs.Tests.{Is, and-in, and-l, and-r, never, test, fails, same, iff-in, _∈_, any, any-in, any-out, keep, keep-in, keep-out, only, only-out, upTo, upTo-in, upTo-out, elem, elem-in, elem-out, sum}
 
 -- ---- counting
 
@@ -97,3 +103,101 @@ listings-times P R rule gs members p l e =
     sum-map (λ g. linesOf P R (rule g) g) (λ ls. length (keep (lists P R p) ls)) (times p) gs
     (λ g m. listed-times P R (rule g) g (members g m) p l (let h = total-member (times p) m in omega arith))
     ∙ e
+
+-- ---- what the widths of operands ask of a policy
+
+pub record Encodable (W : ℕ) (P : Setting) (R : Roles) : Type 0 where
+  -- attributes are numbered below 255
+  pub numbered : (w : Which) → P .side w .attrs < own
+  -- values have room in two bytes, sets in eight
+  pub sized : (w : Which) (a x v : ℕ) → x < P .side w .count → P .side w .value a x ≡ some v → v < 256 ^ cond (P .side w .isSet a) 8 2
+  -- the values of the 255s are roles and resource numbers
+  pub owned : (w : Which) (x v : ℕ) → x < P .side w .count → P .side w .value own x ≡ some v → Is (ownValue P R w (P .side w .isSet own) v)
+  pub narrow : P .slots ≤ 8 * W
+  pub few : R .number ≤ 256
+
+-- a set of at most 8 × W numbers has room in W bytes
+pub mask-room : (W n m : ℕ) → n ≤ 8 * W → m < 2 ^ n → m < 256 ^ W
+mask-room W n m h l = let p = pow-le-pow-right {n = 2} (omega arith) h in let e = bytes-bits W in omega arith
+  where
+    bytes-bits : (W : ℕ) → 2 ^ (8 * W) ≡ 256 ^ W
+    bytes-bits zero = refl
+    bytes-bits (suc W) = ap (λ (n : ℕ). 2 ^ n) (mul-suc 8 W) ∙ eight (8 * W) ∙ ap (λ (n : ℕ). n * 256) (bytes-bits W) ∙ sym (pow-suc 256 W)
+      where
+        eight : (n : ℕ) → 2 ^ (n + 8) ≡ 2 ^ n * 256
+        eight n = pow-add 2 n 8
+
+module _ (W : ℕ) (P : Setting) (R : Roles) (E : Encodable W P R) where
+  value-room : (w : Which) (set : Bool) (a v : ℕ) → a < 256 → v < 256 ^ cond set 8 2 → Roomy W (value w set a v)
+  value-room user false a v h k = (h, (k, tt))
+  value-room user true a v h k = (h, (k, tt))
+  value-room resource false a v h k = (h, (k, tt))
+  value-room resource true a v h k = (h, (k, tt))
+
+  attr-numbered : (w : Which) → Numbered (P .side w)
+  attr-numbered w = let h = E .numbered w in omega arith
+
+  value-legal : (w : Which) (a x v : ℕ) → a ∈ attrsOf (P .side w) true → x < P .side w .count → P .side w .value a x ≡ some v → Is (legal P R (value w (P .side w .isSet a) a v))
+  unfolding legal attrsOf
+  value-legal w a x v m l e = go (List·Memᴰ·append-cases (upTo (P .side w .attrs)) m)
+    where
+      go : (a ∈ upTo (P .side w .attrs)) ⊎ (a ∈ only true own) → Is (legal P R (value w (P .side w .isSet a) a v))
+      go (inl k) =
+          let h = upTo-out (P .side w .attrs) k in
+          let n = E .numbered w in
+          rw (ne-eqb a own (omega arith)) (and-in (lt-ltb a (P .side w .attrs) h) (iff-in (P .side w .isSet a) (P .side w .isSet a) refl))
+      go (inr k) = let d = only-out true k .1 in rw (eq-eqb a own d) (owned-at d)
+        where
+          owned-at : a ≡ own → Is (ownValue P R w (P .side w .isSet a) v)
+          owned-at d = rw d (E .owned w x v l (rw d at e))
+
+  module _ (ρ : Rule) (g : List ℕ) (S : Sayable P R ρ g) where
+    good-line : (c : RuleCommand) → LineOf P R ρ g c → Good W P R c
+    unfolding allowed wellFormed legal
+    good-line c (of-value w a vs v m k e) =
+        let had = S .had (conjunct w a vs) m v k in
+        let n : a ∈ attrsOf (P .side w) true = elem-out a (attrsOf (P .side w) true) (rw (own-3 w) at (S .permitted (conjunct w a vs) m)) in
+        rw e (record {
+          within = refl;
+          legally = value-legal w a (had .0) v n (had .1) (had .2);
+          room = value-room w (P .side w .isSet a) a v (attrs-below (P .side w) (attr-numbered w) true n) (E .sized w a (had .0) v (had .1) (had .2));
+        })
+    good-line c (of-link a b m e) =
+        let h = S .permitted (atom a b) m in
+        let la = and-l (ltb a (P .side user .attrs)) (ltb b (P .side resource .attrs)) h in
+        let lb = and-r (ltb a (P .side user .attrs)) (ltb b (P .side resource .attrs)) h in
+        let pa = ltb-true a (P .side user .attrs) la in
+        let pb = ltb-true b (P .side resource .attrs) lb in
+        let na = E .numbered user in
+        let nb = E .numbered resource in
+        rw e (record {
+          within = refl;
+          legally = and-in la (and-in lb (S .formed (atom a b) m));
+          room = (omega arith, (omega arith, tt));
+        })
+    good-line c (of-operations e) =
+        rw e (record {
+          within = refl;
+          legally = and-in (lt-ltb 0 (ρ .ops) (S .operable)) (lt-ltb (ρ .ops) (2 ^ P .slots) (S .bounded));
+          room = (mask-room W (P .slots) (ρ .ops) (E .narrow) (S .bounded), tt);
+        })
+    good-line c (of-part p m e) =
+        let q = partAt P R p in
+        let i = part-in P R p (S .members p m) in
+        let k = parts-out P R i in
+        let n = E .few in
+        rw e (record {
+          within = refl;
+          legally = any-in (λ (s : Part). eqb (q .role) (s .role) && eqb (classOf P R q) (classOf P R s)) i (and-in (eq-eqb (q .role) (q .role) refl) (eq-eqb (classOf P R q) (classOf P R q) refl));
+          room = (omega (arith, k .0), (mask-room W (P .slots) (classOf P R q) (E .narrow) (class-lt P R q), tt));
+        })
+
+    -- THE LAW: such a rule's lines may be written
+    pub writable : Writable W P R (linesOf P R ρ g)
+    unfolding whole
+    writable = record {
+      rising = lines-rising P R ρ g;
+      good = λ c m. good-line c (line-out P R ρ g m);
+      single = λ c d mc md hc hd. operations-line P R ρ g (line-out P R ρ g mc) hc ∙ sym (operations-line P R ρ g (line-out P R ρ g md) hd);
+      complete = and-in (any-in isOperations (line-in P R ρ g (of-operations refl)) refl) (any-in isPartLine (line-in P R ρ g (of-part (S .some-part .0) (S .some-part .1) refl)) refl);
+    }
