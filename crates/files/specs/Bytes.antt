@@ -15,14 +15,14 @@ number (suc w) [] = none
 number (suc w) (b ∷ bs) = Option·map (λ (p : ℕ × List ℕ). (b + 256 * p .0, p .1)) (number w bs)
 
 -- one number, and then others, from the bytes behind it
-abbrev pub more : (List ℕ → Option (List ℕ × List ℕ)) → Option (ℕ × List ℕ) → Option (List ℕ × List ℕ)
-more go none = none
-more go (some p) = Option·map (λ (q : List ℕ × List ℕ). (p .0 ∷ q .0, q .1)) (go (p .1))
+abbrev pub oneMore : (List ℕ → Option (List ℕ × List ℕ)) → Option (ℕ × List ℕ) → Option (List ℕ × List ℕ)
+oneMore go none = none
+oneMore go (some p) = Option·map (λ (q : List ℕ × List ℕ). (p .0 ∷ q .0, q .1)) (go (p .1))
 
 -- the operands of the widths listed, and the bytes behind them
 abbrev pub operands : List ℕ → List ℕ → Option (List ℕ × List ℕ)
 operands [] bs = some ([], bs)
-operands (w ∷ ws) bs = more (operands ws) (number w bs)
+operands (w ∷ ws) bs = oneMore (operands ws) (number w bs)
 
 -- a number written in w bytes
 abbrev pub spread : ℕ → ℕ → List ℕ

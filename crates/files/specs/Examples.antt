@@ -7,7 +7,7 @@ use mathlib.Core.List.{List, [], _∷_}
 use mathlib.Core.Path.{_≡_, refl}
 use Rattle.files.specs.Answer.{numberOf, Answer, refused, accepted}
 use Rattle.files.specs.Calls.{Counts, triples, isTriple, rulesGrant, partsGrant, firstDifference, firstStrayRule, firstStrayPart, verdict, minedLines, minedBytes, minedCounts, mined, mineAnswer, mineOutput, roleQuestion, readBoth, ruleQuestion, judge}
-use Rattle.files.specs.RoleFile.{blank, withTable, withKind, withValue, withAssigned, withPermitted, withLine, obeyRole, roleFormat, readRoles}
+use Rattle.files.specs.RoleFile.{blank, withTable, withKind, withValue, withAssigned, withPermitted, withLine, takeKind, takeValue, takeAssignment, takePermission, takeLine, takeSizes, obeyRole, roleFormat, readRoles}
 use Rattle.files.specs.RuleFile.{valuesIn, conjunctsIn, ruleIn, lists, partsIn, listings, condLines, allLines, linesOf, whole, finished, follows, legal, addLine, obeyRule, encode, encodeAll, ruleFormat, readRules}
 use Rattle.policy.specs.Covering.{allKnow, valuesOf, opIn, pairIn, standsIn, everywhere, conjuncts, atomConds, cover, fits, levelOf}
 use Rattle.policy.specs.Lowest.{lowest}
@@ -52,5 +52,5 @@ table =
     ∷ []
 
 pub shown : all (λ (r : Row). sameList (r .said) (r .wanted)) table ≡ true
-unfolding allKnow valuesOf opIn pairIn standsIn everywhere conjuncts atomConds cover fits levelOf lowest union mergeable groups merged partCount partAt partBlock minedGroups mergeCount groupBlock ruleOf senior circular held rolesOf isSetAt valueAt sideOf settingOf rolesIn alike leads isPart parts blockOf classOf rolesGrant someRoleGives meets attrsOf holds grants allowed ruleLevel wellFormed ofSection sameBlock struck bit subset size trim trimCond grantsJust thinned written singleCost setCost atomCost ruleCost triples isTriple rulesGrant partsGrant firstDifference firstStrayRule firstStrayPart verdict minedLines minedBytes minedCounts mined mineAnswer mineOutput roleQuestion readBoth ruleQuestion judge blank withTable withKind withValue withAssigned withPermitted withLine obeyRole roleFormat readRoles valuesIn conjunctsIn ruleIn lists partsIn listings condLines linesOf allLines encode encodeAll legal whole finished follows addLine obeyRule ruleFormat readRules table fileA
+unfolding allKnow valuesOf opIn pairIn standsIn everywhere conjuncts atomConds cover fits levelOf lowest union mergeable groups merged partCount partAt partBlock minedGroups mergeCount groupBlock ruleOf senior circular held rolesOf isSetAt valueAt sideOf settingOf rolesIn alike leads isPart parts blockOf classOf rolesGrant someRoleGives meets attrsOf holds grants allowed ruleLevel wellFormed ofSection sameBlock struck bit subset size trim trimCond grantsJust thinned written singleCost setCost atomCost ruleCost triples isTriple rulesGrant partsGrant firstDifference firstStrayRule firstStrayPart verdict minedLines minedBytes minedCounts mined mineAnswer mineOutput roleQuestion readBoth ruleQuestion judge blank withTable withKind withValue withAssigned withPermitted withLine takeKind takeValue takeAssignment takePermission takeLine takeSizes obeyRole roleFormat readRoles valuesIn conjunctsIn ruleIn lists partsIn listings condLines linesOf allLines encode encodeAll legal whole finished follows addLine obeyRule ruleFormat readRules table fileA
 shown = refl

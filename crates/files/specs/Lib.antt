@@ -8,3 +8,4 @@ pub mod BytesLaws
 pub mod ReadBack
 pub mod LineLaws
 pub mod WriteLaws
+pub mod SoundLaws

@@ -21,7 +21,7 @@ use Rattle.policy.specs.Sorted.{Rising, Ascending, Before, sort-in, sort-out, s
 use Rattle.policy.specs.Tests.{Is, and-in, and-l, and-r, or-out, test, iff, iff-in, iff-out, _∈_, each, each-in, each-out, only, only-in, only-out, elem-out, map-in, map-out}
 use Rattle.policy.specs.WrittenLaws.{AllHad}
 
-same-side : (w x : Which) → Is (sameSide w x) → w ≡ x
+pub same-side : (w x : Which) → Is (sameSide w x) → w ≡ x
 same-side user user h = refl
 same-side user resource h = absurd (false≢true h)
 same-side resource user h = absurd (false≢true h)

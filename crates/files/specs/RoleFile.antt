@@ -149,49 +149,64 @@ isDeclaring nothing = false
 isDeclaring declaring = true
 isDeclaring telling = false
 
--- a command of 03 to 07 and 0F: "4 out of place", where 01 was not read; then its own tests
-abbrev pub tell : Loading → Answer Policy → Answer Loading
-tell s r = unless (not (isNothing (s .phase))) outOfPlace (andThen r (λ F. accepted (record { phase = telling; policy = F })))
+abbrev pub isEnd : RoleCommand → Bool
+isEnd (sizes u r o k) = false
+isEnd (declare side kind) = false
+isEnd (give set side a x v) = false
+isEnd (assign k u) = false
+isEnd (permit k r o) = false
+isEnd (line j k) = false
+isEnd end = true
+
+-- "4 out of place", tested before what else the command is asked; and the phase after it
+abbrev pub enter : Bool → Phase → Answer Policy → Answer Loading
+enter place phase r = unless place outOfPlace (andThen r (λ F. accepted (record { phase = phase; policy = F })))
+
+module _ (F : Policy) where
+  -- 02: "a seventh attribute" is beyond the limit
+  unfoldable pub takeKind : ℕ → ℕ → Answer Policy
+  takeKind side kind = unless (ltb side 2 && ltb kind 2 && ltb (length (F .table (sideBy side) .kinds)) 6) beyond (accepted (withKind F (sideBy side) (eqb kind 1)))
+
+  -- 03 and 04: "5 an operand beyond its limit or declared size; 6 wrong kind, or a value given twice"
+  unfoldable pub takeValue : Bool → ℕ → ℕ → ℕ → ℕ → Answer Policy
+  takeValue set side a x v =
+      let t = F .table (sideBy side) in
+      unless (ltb side 2 && ltb a (length (t .kinds)) && ltb x (t .count)) beyond
+      (unless (iff (kindOf t a) set && not (isSome (t .value a x))) wrongKind
+      (accepted (withValue F (sideBy side) a x v)))
+
+  unfoldable pub takeAssignment : ℕ → ℕ → Answer Policy
+  takeAssignment k u = unless (ltb k (F .roles) && ltb u (F .table user .count)) beyond (accepted (withAssigned F k u))
+
+  unfoldable pub takePermission : ℕ → ℕ → ℕ → Answer Policy
+  takePermission k r o = unless (ltb k (F .roles) && ltb r (F .table resource .count) && ltb o (F .operations)) beyond (accepted (withPermitted F k r o))
+
+  unfoldable pub takeLine : ℕ → ℕ → Answer Policy
+  takeLine j k = unless (ltb j (F .roles) && ltb k (F .roles)) beyond (accepted (withLine F j k))
+
+-- before the first command
+abbrev pub fresh : Loading
+fresh = record { phase = nothing; policy = blank 0 0 0 0 }
+
+-- after the last
+abbrev pub settle : Loading → Answer Policy
+settle s = unless (not (circular (s .policy))) ownSenior (accepted (s .policy))
 
 -- an operation set is W bytes wide in the rule file, so there are at most 8 × W operations: 16 where W is 2
 module _ (W : ℕ) where
-  -- "at most 64, 64, 16, 32"; "Only after 01 or another 02", "at most 6 a side"; "5 an operand beyond its limit or declared
-  -- size, a seventh attribute; 6 wrong kind, or a value given twice"
-  unfoldable pub obeyRole : Loading → RoleCommand → Answer Loading
-  obeyRole s (sizes u r o k) =
-      unless (isNothing (s .phase)) outOfPlace
-      (unless (leb u 64 && leb r 64 && leb o (8 * W) && leb k 32) beyond
-      (accepted (record { phase = declaring; policy = blank u r o k })))
-  obeyRole s (declare side kind) =
-      unless (isDeclaring (s .phase)) outOfPlace
-      (unless (ltb side 2 && ltb kind 2 && ltb (length (s .policy .table (sideBy side) .kinds)) 6) beyond
-      (accepted (record { phase = declaring; policy = withKind (s .policy) (sideBy side) (eqb kind 1) })))
-  obeyRole s (give set side a x v) =
-      let F = s .policy in
-      let t = F .table (sideBy side) in
-      tell s
-      (unless (ltb side 2 && ltb a (length (t .kinds)) && ltb x (t .count)) beyond
-      (unless (iff (kindOf t a) set && not (isSome (t .value a x))) wrongKind
-      (accepted (withValue F (sideBy side) a x v))))
-  obeyRole s (assign k u) =
-      let F = s .policy in
-      tell s (unless (ltb k (F .roles) && ltb u (F .table user .count)) beyond (accepted (withAssigned F k u)))
-  obeyRole s (permit k r o) =
-      let F = s .policy in
-      tell s (unless (ltb k (F .roles) && ltb r (F .table resource .count) && ltb o (F .operations)) beyond (accepted (withPermitted F k r o)))
-  obeyRole s (line j k) =
-      let F = s .policy in
-      tell s (unless (ltb j (F .roles) && ltb k (F .roles)) beyond (accepted (withLine F j k)))
-  obeyRole s end = tell s (accepted (s .policy))
+  -- 01: "at most 64, 64, 16, 32; zero is allowed"
+  unfoldable pub takeSizes : ℕ → ℕ → ℕ → ℕ → Answer Policy
+  takeSizes u r o k = unless (leb u 64 && leb r 64 && leb o (8 * W) && leb k 32) beyond (accepted (blank u r o k))
 
-  abbrev pub isEnd : RoleCommand → Bool
-  isEnd (sizes u r o k) = false
-  isEnd (declare side kind) = false
-  isEnd (give set side a x v) = false
-  isEnd (assign k u) = false
-  isEnd (permit k r o) = false
-  isEnd (line j k) = false
-  isEnd end = true
+  -- 01 "First, and only once", 02 "Only after 01 or another 02", the others behind 01
+  unfoldable pub obeyRole : Loading → RoleCommand → Answer Loading
+  obeyRole s (sizes u r o k) = enter (isNothing (s .phase)) declaring (takeSizes u r o k)
+  obeyRole s (declare side kind) = enter (isDeclaring (s .phase)) declaring (takeKind (s .policy) side kind)
+  obeyRole s (give set side a x v) = enter (not (isNothing (s .phase))) telling (takeValue (s .policy) set side a x v)
+  obeyRole s (assign k u) = enter (not (isNothing (s .phase))) telling (takeAssignment (s .policy) k u)
+  obeyRole s (permit k r o) = enter (not (isNothing (s .phase))) telling (takePermission (s .policy) k r o)
+  obeyRole s (line j k) = enter (not (isNothing (s .phase))) telling (takeLine (s .policy) j k)
+  obeyRole s end = enter (not (isNothing (s .phase))) telling (accepted (s .policy))
 
   unfoldable pub roleFormat : Format RoleCommand Loading
   roleFormat = record {
@@ -206,7 +221,4 @@ module _ (W : ℕ) where
 
   -- "1 too long. Then by command ... Last, where no command was refused: 7 a role is its own senior."
   unfoldable pub readRoles : List ℕ → Answer Policy
-  readRoles bytes =
-      unless (leb (length bytes) 65535) tooLong
-      (andThen (read roleFormat (record { phase = nothing; policy = blank 0 0 0 0 }) bytes)
-      (λ s. unless (not (circular (s .policy))) ownSenior (accepted (s .policy))))
+  readRoles bytes = unless (leb (length bytes) 65535) tooLong (andThen (read roleFormat fresh bytes) settle)
