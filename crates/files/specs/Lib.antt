@@ -9,3 +9,5 @@ pub mod ReadBack
 pub mod LineLaws
 pub mod WriteLaws
 pub mod SoundLaws
+pub mod Demand3
+pub mod DemandLaws
