@@ -48,6 +48,13 @@ verdictValues (strayRule i) = i ∷ []
 verdictValues (strayPart p) = p ∷ []
 verdictValues sound = []
 
+-- "1 and the first triple ...; else 2 and the first rule ...; else 3 and the first part ...; else 0"
+abbrev pub decided : Option (ℕ × ℕ × ℕ) → Option ℕ → Option ℕ → Verdict
+decided (some t) i p = differ (t .0) (t .1) (t .2)
+decided none (some i) p = strayRule i
+decided none none (some p) = strayPart p
+decided none none none = sound
+
 -- the first member that passes
 abbrev pub first : {A : Type 0} → (A → Bool) → List A → Option A
 first f [] = none
@@ -81,11 +88,7 @@ module _ (P : Setting) where
     firstStrayPart rules = first (λ p. not (eqb (listings P R rules p) 1)) (upTo (partCount P R))
 
     unfoldable pub verdict : List Lines → Verdict
-    verdict rules =
-        elim (firstDifference rules) [
-          | some t ↦ differ (t .0) (t .1) (t .2)
-          | none ↦ elim (firstStrayRule rules) [ some i ↦ strayRule i | none ↦ elim (firstStrayPart rules) [ some p ↦ strayPart p | none ↦ sound ] ]
-        ]
+    verdict rules = decided (firstDifference rules) (firstStrayRule rules) (firstStrayPart rules)
 
     -- the mined rules' lines: "Mined rules stand in group order"
     unfoldable pub minedLines : List Lines

@@ -11,3 +11,4 @@ pub mod WriteLaws
 pub mod SoundLaws
 pub mod Demand3
 pub mod DemandLaws
+pub mod CallLaws

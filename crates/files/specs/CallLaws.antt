@@ -1,0 +1,221 @@
+-- What holds of the calls: the output memory, the third demand at the mining call, and what the questions and the judge say of
+-- mined bytes.
+-- Assumes nothing.
+use Prim.Native.Nat.{ℕ, _+_, _≤_}
+use borrow.Author.Tests.{eq-eqb, ltb-true, leb-true, le-leb}
+use lib.Dec.{eqb, ltb, leb}
+use lib.ListN.{length, getD, drop, take, length-drop}
+use mathlib.Core.Bool.{Bool, true, false, false≢true, not}
+use mathlib.Core.List.{List, [], _∷_, _++_, List·Memᴰ·head, List·Memᴰ·tail, map}
+use mathlib.Core.Option.{none}
+use mathlib.Core.Path.{_≡_, refl, sym, ap, _∙_}
+use native.Mathlib.Omega.{arith}
+use Rattle.files.specs.Answer.{Refusal, Answer, unless, andThen, smallScratch, shortOutput, refused, accepted}
+use Rattle.files.specs.BytesLaws.{Bytes, carried}
+use Rattle.files.specs.Calls.{Counts, first, triples, isTriple, rulesGrant, partsGrant, firstDifference, firstStrayRule, firstStrayPart, verdict, minedBytes, minedCounts, mined, mineAnswer, mineOutput, roleQuestion, readBoth, ruleQuestion, judge, sound}
+use Rattle.files.specs.Demand3.{Demand3}
+use Rattle.files.specs.DemandLaws.{demand-3}
+use Rattle.files.specs.RoleFile.{readRoles}
+use Rattle.files.specs.RuleFile.{ruleIn, listings}
+use Rattle.files.specs.SoundLaws.{Sound, read-sound, encodable}
+use Rattle.policy.specs.Mined.{partCount}
+use Rattle.policy.specs.Policy.{Policy, Senior, senior, settingOf, rolesIn}
+use Rattle.policy.specs.PolicyLaws.{lawful, mined-of}
+use Rattle.policy.specs.Roles.{Roles, rolesGrant}
+use Rattle.policy.specs.RuleLaws.{same-in}
+use Rattle.policy.specs.Rules.{Setting, grants, Triple, sameBlock, user, resource}
+use Rattle.policy.specs.SeniorLaws.{reach-out, reach-in}
+use Rattle.policy.specs.Tests.{Is, and-l, and-r, test, iff, iff-in, _∈_, each, each-out, upTo, upTo-out, map-out, getD-in}
+
+-- ---- answers
+
+abbrev isAccepted : {A : Type 0} → Answer A → Bool
+isAccepted (refused e) = false
+isAccepted (accepted a) = true
+
+unless-out : {A : Type 0} (b : Bool) (e : Refusal) (r : Answer A) {a : A} → unless b e r ≡ accepted a → Is b × (r ≡ accepted a)
+unless-out true e r h = (refl, h)
+unless-out false e r h = absurd (false≢true (ap isAccepted h))
+
+then-out : {A B : Type 0} (r : Answer A) (f : A → Answer B) {b : B} → andThen r f ≡ accepted b → (a : A) × (r ≡ accepted a) × (f a ≡ accepted b)
+then-out (refused e) f h = absurd (false≢true (ap isAccepted h))
+then-out (accepted a) f h = (a, refl, h)
+
+-- ---- lists
+
+take-front : (s t : List ℕ) → take (length s) (s ++ t) ≡ s
+take-front [] t = refl
+take-front (x ∷ xs) t = ap (λ (l : List ℕ). x ∷ l) (take-front xs t)
+
+drop-front : (s t : List ℕ) → drop (length s) (s ++ t) ≡ t
+drop-front [] t = refl
+drop-front (x ∷ xs) t = drop-front xs t
+
+length-append : (s t : List ℕ) → length (s ++ t) ≡ length s + length t
+length-append [] t = omega arith
+length-append (x ∷ xs) t = let e = length-append xs t in omega arith
+
+first-none : {A : Type 0} (f : A → Bool) (l : List A) → ((x : A) → x ∈ l → f x ≡ false) → first f l ≡ none
+first-none f [] h = refl
+first-none f (x ∷ xs) h = rw (h x (List·Memᴰ·head refl)) (first-none f xs (λ y m. h y (List·Memᴰ·tail m)))
+
+-- ---- the mining call
+
+module _ (W : ℕ) where
+  -- what an acceptance says
+  pub record Mining (file : List ℕ) (scratch room : ℕ) (F : Policy) : Type 0 where
+    pub enough : 4096 ≤ scratch
+    pub reading : readRoles W file ≡ accepted F
+    pub room-left : length (minedBytes W F) ≤ room
+
+  mined-out : (file : List ℕ) (scratch room : ℕ) (F : Policy) → mined W file scratch room ≡ accepted F → Mining file scratch room F
+  unfolding mined
+  mined-out file scratch room F h =
+      let s = unless-out (leb 4096 scratch) smallScratch (andThen (readRoles W file) (λ F. unless (leb (length (minedBytes W F)) room) shortOutput (accepted F))) h in
+      let t = then-out (readRoles W file) (λ F. unless (leb (length (minedBytes W F)) room) shortOutput (accepted F)) (s .1) in
+      let k = unless-out (leb (length (minedBytes W (t .0))) room) shortOutput (accepted (t .0)) (t .2) in
+      let e : t .0 ≡ F = cc in
+      record {
+        enough = leb-true 4096 scratch (s .0);
+        reading = rw e at (t .1);
+        room-left = leb-true (length (minedBytes W F)) room (rw e at (k .0));
+      }
+
+  answer-out : (file : List ℕ) (scratch room : ℕ) (c : Counts) → mineAnswer W file scratch room ≡ accepted c → (F : Policy) × (mined W file scratch room ≡ accepted F) × (c ≡ minedCounts W F)
+  unfolding mineAnswer
+  answer-out file scratch room c h =
+      let t = then-out (mined W file scratch room) (λ F. accepted (minedCounts W F)) h in
+      let e : c ≡ minedCounts W (t .0) = cc in
+      (t .0, t .1, e)
+
+  output-of : (file : List ℕ) (scratch : ℕ) (former : List ℕ) (F : Policy) → mined W file scratch (length former) ≡ accepted F
+      → mineOutput W file scratch former ≡ minedBytes W F ++ drop (length (minedBytes W F)) former
+  unfolding mineOutput
+  output-of file scratch former F h = ap (λ (r : Answer Policy). elim r as (λ _. List ℕ) [ refused e ↦ former | accepted F ↦ minedBytes W F ++ drop (length (minedBytes W F)) former ]) h
+
+  -- "Output is untouched": after a refusal it holds its former bytes
+  pub refused-output : (file : List ℕ) (scratch : ℕ) (former : List ℕ) (e : Refusal) → mineAnswer W file scratch (length former) ≡ refused e → mineOutput W file scratch former ≡ former
+  unfolding mineAnswer mineOutput
+  refused-output file scratch former e h = go (mined W file scratch (length former)) h
+    where
+      go : (r : Answer Policy) → andThen r (λ F. accepted (minedCounts W F)) ≡ refused e → (elim r as (λ _. List ℕ) [ refused e ↦ former | accepted F ↦ minedBytes W F ++ drop (length (minedBytes W F)) former ]) ≡ former
+      go (refused d) k = refl
+      go (accepted F) k = absurd (false≢true (ap isAccepted (sym k)))
+
+  -- after an acceptance it is as long as before, and behind the answer's bytes it holds the former ones
+  pub record Behind (former after : List ℕ) (c : Counts) : Type 0 where
+    pub as-long : length after ≡ length former
+    pub inside : c .size ≤ length former
+    pub kept : drop (c .size) after ≡ drop (c .size) former
+
+  pub accepted-output : (file : List ℕ) (scratch : ℕ) (former : List ℕ) (c : Counts) → mineAnswer W file scratch (length former) ≡ accepted c → Behind former (mineOutput W file scratch former) c
+  unfolding minedCounts
+  accepted-output file scratch former c h =
+      let t = answer-out file scratch (length former) c h in
+      let m = mined-out file scratch (length former) (t .0) (t .1) in
+      let bytes = minedBytes W (t .0) in
+      let o = output-of file scratch former (t .0) (t .1) in
+      let room = m .room-left in
+      rw (t .2, o) (record {
+        as-long = let a = length-append bytes (drop (length bytes) former) in let b = length-drop (length bytes) former in omega arith;
+        inside = room;
+        kept = drop-front bytes (drop (length bytes) former);
+      })
+
+  -- the amount of scratch changes nothing, once it is enough
+  pub scratch-free : (file : List ℕ) (m n room : ℕ) → 4096 ≤ m → 4096 ≤ n → mineAnswer W file m room ≡ mineAnswer W file n room
+  unfolding mineAnswer mined
+  scratch-free file m n room p q = rw (le-leb 4096 m p, le-leb 4096 n q) refl
+
+  -- and of the output memory only its length counts: the answer's bytes are the same whatever it held
+  pub former-free : (file : List ℕ) (scratch : ℕ) (former other : List ℕ) (c : Counts) → length former ≡ length other → mineAnswer W file scratch (length former) ≡ accepted c
+      → take (c .size) (mineOutput W file scratch former) ≡ take (c .size) (mineOutput W file scratch other)
+  unfolding minedCounts
+  former-free file scratch former other c e h = let t = answer-out file scratch (length former) c h in go (t .0) c (t .1) (t .2)
+    where
+      go : (F : Policy) (c : Counts) → mined W file scratch (length former) ≡ accepted F → c ≡ minedCounts W F → take (c .size) (mineOutput W file scratch former) ≡ take (c .size) (mineOutput W file scratch other)
+      go F c m k =
+          let front : (l : List ℕ) → mined W file scratch (length l) ≡ accepted F → take (length (minedBytes W F)) (mineOutput W file scratch l) ≡ minedBytes W F =
+          λ l n. ap (take (length (minedBytes W F))) (output-of file scratch l F n) ∙ take-front (minedBytes W F) (drop (length (minedBytes W F)) l) in
+          rw k (front former m ∙ sym (front other (rw e at m)))
+
+  -- the demand, of the policy of any accepted role file
+  pub policy-demand : (file : List ℕ) → Bytes file → (F : Policy) → readRoles W file ≡ accepted F → Demand3 W (settingOf F) (rolesIn F) (minedBytes W F) (minedCounts W F)
+  unfolding minedBytes minedCounts
+  policy-demand file b F h =
+      demand-3 W (settingOf F) (rolesIn F) (lawful F) (mined-of F) (encodable W F (carried (Sound W) (readRoles W file) (read-sound W file b) h)) (minedCounts W F) refl refl refl refl refl
+
+  -- THE THIRD DEMAND: of "the output's first bytes up to the length returned", whatever scratch and output held
+  pub third-demand : (file : List ℕ) → Bytes file → (scratch : ℕ) (former : List ℕ) (c : Counts) → mineAnswer W file scratch (length former) ≡ accepted c
+      → (F : Policy) × (readRoles W file ≡ accepted F) × Demand3 W (settingOf F) (rolesIn F) (take (c .size) (mineOutput W file scratch former)) c
+  unfolding minedCounts
+  third-demand file b scratch former c h = let t = answer-out file scratch (length former) c h in go (t .0) c (t .1) (t .2)
+    where
+      go : (F : Policy) (c : Counts) → mined W file scratch (length former) ≡ accepted F → c ≡ minedCounts W F → (F : Policy) × (readRoles W file ≡ accepted F) × Demand3 W (settingOf F) (rolesIn F) (take (c .size) (mineOutput W file scratch former)) c
+      go F c m k =
+          let r = mined-out file scratch (length former) F m .reading in
+          let e : take (length (minedBytes W F)) (mineOutput W file scratch former) ≡ minedBytes W F = ap (take (length (minedBytes W F))) (output-of file scratch former F m) ∙ take-front (minedBytes W F) (drop (length (minedBytes W F)) former) in
+          (F, r, rw (k, e) (policy-demand file b F r))
+
+-- ---- the questions and the judge, of mined bytes
+
+triple-out : (P : Setting) (t : ℕ × ℕ × ℕ) → t ∈ triples P → Triple P (t .0) (t .1) (t .2)
+unfolding triples
+triple-out P t m =
+    let a = each-out (λ u. each (λ r. map (λ o. (u, r, o)) (upTo (P .slots))) (upTo (P .side resource .count))) (upTo (P .side user .count)) m in
+    let b = each-out (λ r. map (λ o. (a .0, r, o)) (upTo (P .slots))) (upTo (P .side resource .count)) (a .2) in
+    let c = map-out (λ o. (a .0, b .0, o)) (upTo (P .slots)) (b .2) in
+    rw (c .2) (record { user = upTo-out (P .side user .count) (a .1); resource = upTo-out (P .side resource .count) (b .1); op = upTo-out (P .slots) (c .1) })
+
+not-so : (b : Bool) → Is b → not b ≡ false
+not-so b h = rw h
+
+-- rules of which the demand holds are sound
+demand-sound : (W : ℕ) (P : Setting) (R : Roles) (bytes : List ℕ) (c : Counts) (D : Demand3 W P R bytes c) → verdict P R (D .rules) ≡ sound
+unfolding verdict firstDifference firstStrayRule firstStrayPart
+demand-sound W P R bytes c D =
+    rw (
+      first-none (λ (t : ℕ × ℕ × ℕ). not (iff (rolesGrant P R (t .0) (t .1) (t .2)) (rulesGrant P (D .rules) (t .0) (t .1) (t .2)))) (triples P)
+          (λ t m. not-so _ (iff-in (rolesGrant P R (t .0) (t .1) (t .2)) (rulesGrant P (D .rules) (t .0) (t .1) (t .2)) (sym (D .same (t .0) (t .1) (t .2) (triple-out P t m))))),
+      first-none (λ i. let ls = getD (D .rules) i [] in not (sameBlock P (grants P (ruleIn P ls)) (partsGrant P R ls))) (upTo (length (D .rules)))
+          (λ i m. let ls = getD (D .rules) i [] in not-so _ (same-in P (grants P (ruleIn P ls)) (partsGrant P R ls) (D .exact ls (getD-in (D .rules) [] i (upTo-out (length (D .rules)) m))))),
+      first-none (λ p. not (eqb (listings P R (D .rules) p) 1)) (upTo (partCount P R))
+          (λ p m. not-so _ (eq-eqb (listings P R (D .rules) p) 1 (D .once p (upTo-out (partCount P R) m)))),
+    ) refl
+
+module _ (W : ℕ) (file : List ℕ) (b : Bytes file) (F : Policy) (h : readRoles W file ≡ accepted F) where
+  both-read : readBoth W file (minedBytes W F) ≡ accepted (F, policy-demand W file b F h .rules)
+  unfolding readBoth
+  both-read = rw (h, policy-demand W file b F h .taken) refl
+
+  -- the judge finds nothing amiss in mined bytes
+  pub mined-judged : judge W file (minedBytes W F) ≡ accepted sound
+  unfolding judge
+  mined-judged = rw (both-read, demand-sound W (settingOf F) (rolesIn F) (minedBytes W F) (minedCounts W F) (policy-demand W file b F h)) refl
+
+  -- and the rules answer every question as the roles do
+  pub mined-questions : (u r o : ℕ) → ruleQuestion W file (minedBytes W F) u r o ≡ roleQuestion W file u r o
+  unfolding ruleQuestion roleQuestion isTriple
+  mined-questions u r o =
+      rw (both-read, h)
+      (test (isTriple (settingOf F) u r o)
+      (λ k. rw (k, policy-demand W file b F h .same u r o (inside k)) refl)
+      (λ k. rw k refl))
+    where
+      inside : Is (isTriple (settingOf F) u r o) → Triple (settingOf F) u r o
+      inside k =
+          let d = and-r (ltb u (settingOf F .side user .count)) _ k in
+          record {
+            user = ltb-true u (settingOf F .side user .count) (and-l (ltb u (settingOf F .side user .count)) _ k);
+            resource = ltb-true r (settingOf F .side resource .count) (and-l (ltb r (settingOf F .side resource .count)) _ d);
+            op = ltb-true o (settingOf F .slots) (and-r (ltb r (settingOf F .side resource .count)) _ d);
+          }
+
+  -- seniors are the roles reached by one or more lines 07
+  pub seniors-reached : (k s : ℕ) → Senior (F .line) k s → Is (senior F k s)
+  unfolding senior
+  seniors-reached k s m = reach-in (F .line) (F .roles) (λ i j l. carried (Sound W) (readRoles W file) (read-sound W file b) h .lines i j l .1) m
+
+  pub reached-seniors : (k s : ℕ) → Is (senior F k s) → Senior (F .line) k s
+  unfolding senior
+  reached-seniors k s m = reach-out (F .line) (F .roles) k s m
