@@ -1,31 +1,32 @@
 -- What holds of the calls: the output memory, the third demand at the mining call, and what the questions and the judge say of
 -- mined bytes.
 -- Assumes nothing.
-use Prim.Native.Nat.{ℕ, _+_, _≤_}
-use borrow.Author.Tests.{eq-eqb, ltb-true, leb-true, le-leb}
+use Prim.Native.Nat.{ℕ, _+_, _≤_, _<_}
+use borrow.Author.Tests.{eqb-true, eq-eqb, ltb-true, leb-true, le-leb}
 use lib.Dec.{eqb, ltb, leb}
 use lib.ListN.{length, getD, drop, take, length-drop}
-use mathlib.Core.Bool.{Bool, true, false, false≢true, not}
-use mathlib.Core.List.{List, [], _∷_, _++_, List·Memᴰ·head, List·Memᴰ·tail, map}
-use mathlib.Core.Option.{none}
+use mathlib.Core.Bool.{Bool, true, false, cond, false≢true, not}
+use mathlib.Core.List.{List, [], _∷_, _++_, List·Memᴰ·head, List·Memᴰ·tail, List·Memᴰ·not-nil, map, List·Memᴰ·cases-cons}
+use mathlib.Core.Logic.{_⊎_, inl, inr}
+use mathlib.Core.Option.{Option, none, some}
 use mathlib.Core.Path.{_≡_, refl, sym, ap, _∙_}
 use native.Mathlib.Omega.{arith}
 use Rattle.files.specs.Answer.{Refusal, Answer, unless, andThen, smallScratch, shortOutput, refused, accepted}
 use Rattle.files.specs.BytesLaws.{Bytes, carried}
-use Rattle.files.specs.Calls.{Counts, first, triples, isTriple, rulesGrant, partsGrant, firstDifference, firstStrayRule, firstStrayPart, verdict, minedBytes, minedCounts, mined, mineAnswer, mineOutput, roleQuestion, readBoth, ruleQuestion, judge, sound}
+use Rattle.files.specs.Calls.{Counts, Verdict, decided, first, triples, isTriple, rulesGrant, partsGrant, firstDifference, firstStrayRule, firstStrayPart, verdict, minedBytes, minedCounts, mined, mineAnswer, mineOutput, roleQuestion, readBoth, ruleQuestion, judge, differ, strayRule, strayPart, sound}
 use Rattle.files.specs.Demand3.{Demand3}
 use Rattle.files.specs.DemandLaws.{demand-3}
 use Rattle.files.specs.RoleFile.{readRoles}
-use Rattle.files.specs.RuleFile.{ruleIn, listings}
+use Rattle.files.specs.RuleFile.{Lines, ruleIn, listings}
 use Rattle.files.specs.SoundLaws.{Sound, read-sound, encodable}
 use Rattle.policy.specs.Mined.{partCount}
 use Rattle.policy.specs.Policy.{Policy, Senior, senior, settingOf, rolesIn}
 use Rattle.policy.specs.PolicyLaws.{lawful, mined-of}
 use Rattle.policy.specs.Roles.{Roles, rolesGrant}
-use Rattle.policy.specs.RuleLaws.{same-in}
-use Rattle.policy.specs.Rules.{Setting, grants, Triple, sameBlock, user, resource}
+use Rattle.policy.specs.RuleLaws.{same-in, same-out}
+use Rattle.policy.specs.Rules.{Setting, grants, Triple, Same, sameBlock, user, resource}
 use Rattle.policy.specs.SeniorLaws.{reach-out, reach-in}
-use Rattle.policy.specs.Tests.{Is, and-l, and-r, test, iff, iff-in, _∈_, each, each-out, upTo, upTo-out, map-out, getD-in}
+use Rattle.policy.specs.Tests.{Is, and-l, and-r, test, iff, iff-in, iff-out, _∈_, each, each-in, each-out, upTo, upTo-in, upTo-out, map-in, map-out, getD-in, isSome}
 
 -- ---- answers
 
@@ -169,6 +170,59 @@ triple-out P t m =
 
 not-so : (b : Bool) → Is b → not b ≡ false
 not-so b h = rw h
+
+first-none-out : {A : Type 0} (f : A → Bool) (l : List A) → isSome (first f l) ≡ false → (x : A) → x ∈ l → f x ≡ false
+first-none-out f [] h x m = absurd (List·Memᴰ·not-nil m)
+first-none-out f (y ∷ ys) h x m = go (f y) refl h (List·Memᴰ·cases-cons m) (first-none-out f ys)
+  where
+    go : (b : Bool) → f y ≡ b → isSome (cond b (some y) (first f ys)) ≡ false → (x ≡ y) ⊎ (x ∈ ys) → (isSome (first f ys) ≡ false → (x : _) → x ∈ ys → f x ≡ false) → f x ≡ false
+    go true e q k r = absurd (false≢true (sym q))
+    go false e q (inl d) r = rw d e
+    go false e q (inr n) r = r q x n
+
+triple-in : (P : Setting) (u r o : ℕ) → Triple P u r o → (u, r, o) ∈ triples P
+unfolding triples
+triple-in P u r o t =
+    each-in (λ u. each (λ r. map (λ o. (u, r, o)) (upTo (P .slots))) (upTo (P .side resource .count))) (upTo-in (t .user))
+    (each-in (λ r. map (λ o. (u, r, o)) (upTo (P .slots))) (upTo-in (t .resource)) (map-in (λ o. (u, r, o)) (upTo-in (t .op))))
+
+not-false : (b : Bool) → not b ≡ false → Is b
+not-false true h = refl
+not-false false h = sym h
+
+-- what the judge's 0 says
+pub record Judged (P : Setting) (R : Roles) (rules : List Lines) : Type 0 where
+  pub same : (u r o : ℕ) → Triple P u r o → rolesGrant P R u r o ≡ rulesGrant P rules u r o
+  pub exact : (i : ℕ) → i < length rules → Same P (grants P (ruleIn P (getD rules i []))) (partsGrant P R (getD rules i []))
+  pub once : (p : ℕ) → p < partCount P R → listings P R rules p ≡ 1
+
+pub sound-means : (P : Setting) (R : Roles) (rules : List Lines) → verdict P R rules ≡ sound → Judged P R rules
+unfolding verdict firstDifference firstStrayRule firstStrayPart
+sound-means P R rules h = record {
+  same = λ u r o t.
+      iff-out (rolesGrant P R u r o) (rulesGrant P rules u r o)
+      (not-false _ (first-none-out (λ (t : ℕ × ℕ × ℕ). not (iff (rolesGrant P R (t .0) (t .1) (t .2)) (rulesGrant P rules (t .0) (t .1) (t .2)))) (triples P) (nothing-found .0) (u, r, o) (triple-in P u r o t)));
+  exact = λ i l.
+      let ls = getD rules i [] in
+      same-out P (grants P (ruleIn P ls)) (partsGrant P R ls)
+      (not-false _ (first-none-out (λ i. let ls = getD rules i [] in not (sameBlock P (grants P (ruleIn P ls)) (partsGrant P R ls))) (upTo (length rules)) (nothing-found .1) i (upTo-in l)));
+  once = λ p l. eqb-true (listings P R rules p) 1 (not-false _ (first-none-out (λ p. not (eqb (listings P R rules p) 1)) (upTo (partCount P R)) (nothing-found .2) p (upTo-in l)));
+}
+  where
+    isSound : Verdict → Bool
+    isSound (differ u r o) = false
+    isSound (strayRule i) = false
+    isSound (strayPart p) = false
+    isSound sound = true
+
+    none-of : (d : Option (ℕ × ℕ × ℕ)) (i p : Option ℕ) → decided d i p ≡ sound → (isSome d ≡ false) × (isSome i ≡ false) × (isSome p ≡ false)
+    none-of (some t) i p e = absurd (false≢true (ap isSound e))
+    none-of none (some i) p e = absurd (false≢true (ap isSound e))
+    none-of none none (some p) e = absurd (false≢true (ap isSound e))
+    none-of none none none e = (refl, refl, refl)
+
+    nothing-found : (isSome (firstDifference P R rules) ≡ false) × (isSome (firstStrayRule P R rules) ≡ false) × (isSome (firstStrayPart P R rules) ≡ false)
+    nothing-found = none-of (firstDifference P R rules) (firstStrayRule P R rules) (firstStrayPart P R rules) h
 
 -- rules of which the demand holds are sound
 demand-sound : (W : ℕ) (P : Setting) (R : Roles) (bytes : List ℕ) (c : Counts) (D : Demand3 W P R bytes c) → verdict P R (D .rules) ≡ sound

@@ -1,17 +1,18 @@
 -- A role file as tables, and the policy and the roles that it states.
 -- Assumes nothing.
-use Prim.Native.Nat.{ℕ, _^_}
+use Prim.Native.Nat.{ℕ, _^_, _<_}
 use borrow.Author.Tests.{eqb-true, eq-eqb}
 use lib.Dec.{eqb}
-use mathlib.Core.Bool.{Bool, true, false, or-false}
-use mathlib.Core.Path.{refl, sym, _∙_}
+use mathlib.Core.Bool.{Bool, true, false, _&&_, or-false}
+use mathlib.Core.Path.{_≡_, refl, sym, _∙_}
 use Rattle.policy.specs.MinedLaws.{MinedRules, mined-rules}
-use Rattle.policy.specs.PartLaws.{Own}
-use Rattle.policy.specs.Policy.{Policy, order, held, rolesOf, isSetAt, valueAt, sideOf, settingOf, rolesIn}
+use Rattle.policy.specs.PartLaws.{alike-out, roles-grant, Own}
+use Rattle.policy.specs.Policy.{Policy, order, senior, held, rolesOf, isSetAt, valueAt, sideOf, settingOf, rolesIn}
+use Rattle.policy.specs.Roles.{Part, blockOf, rolesGrant, someRoleGives}
 use Rattle.policy.specs.RuleLaws.{Lawful}
-use Rattle.policy.specs.Rules.{by, meets}
+use Rattle.policy.specs.Rules.{by, meets, Triple, resource}
 use Rattle.policy.specs.Sets.{subset, subset-self, subset-chain, one-subset, bit-mask}
-use Rattle.policy.specs.Tests.{Is, same, any-ext}
+use Rattle.policy.specs.Tests.{Is, and-in, and-l, and-r, or-r, same, any, any-in, upTo, upTo-in, any-ext}
 
 order-self : (b : Bool) (x : ℕ) → Is (order b x x)
 order-self true x = subset-self x
@@ -40,3 +41,20 @@ module _ (F : Policy) where
   -- the third demand, of the rules of every policy
   pub mined-of : MinedRules (settingOf F) (rolesIn F)
   mined-of = mined-rules (settingOf F) (rolesIn F) lawful owned
+
+  -- the roles grant what a role that the user holds is assigned itself
+  pub granted : (u r o : ℕ) → Triple (settingOf F) u r o → rolesGrant (settingOf F) (rolesIn F) u r o ≡ any (λ k. held F k u && F .permitted k r o) (upTo (F .roles))
+  unfolding someRoleGives rolesIn
+  granted u r o t = roles-grant (settingOf F) (rolesIn F) u r o t
+
+  -- "inherited permissions never enter a block"
+  pub block-own : (p : Part) (u r o : ℕ) → r < settingOf F .side resource .count → Is (blockOf (settingOf F) (rolesIn F) p u r o) → Is (F .permitted (p .role) r o)
+  unfolding blockOf rolesIn
+  block-own p u r o l h =
+      let k = and-r (held F (p .role) u) _ h in
+      sym (alike-out (settingOf F) (rolesIn F) (p .role) (p .lead) o r l (and-r (F .permitted (p .role) r (p .lead)) _ k)) ∙ and-l (F .permitted (p .role) r (p .lead)) _ k
+
+  -- "the users assigned to it or to a senior"
+  pub holders-inherit : (k s u : ℕ) → s < F .roles → Is (senior F k s) → Is (F .assigned s u) → Is (held F k u)
+  unfolding held
+  holders-inherit k s u l p q = or-r (F .assigned k u) (any-in (λ s. senior F k s && F .assigned s u) (upTo-in l) (and-in p q))

@@ -1,0 +1,1 @@
+// The examples of the paper, computed from the definitions (specs/).
