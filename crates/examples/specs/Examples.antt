@@ -10,15 +10,15 @@ use Rattle.files.specs.Calls.{Counts, triples, isTriple, rulesGrant, partsGrant
 use Rattle.files.specs.RoleFile.{blank, withTable, withKind, withValue, withAssigned, withPermitted, withLine, takeKind, takeValue, takeAssignment, takePermission, takeLine, takeSizes, obeyRole, roleFormat, readRoles}
 use Rattle.files.specs.RuleFile.{valuesIn, conjunctsIn, ruleIn, lists, partsIn, listings, condLines, allLines, linesOf, whole, finished, follows, legal, addLine, obeyRule, encode, encodeAll, ruleFormat, readRules}
 use Rattle.policy.specs.Covering.{allKnow, valuesOf, opIn, pairIn, standsIn, everywhere, conjuncts, atomConds, cover, fits, levelOf}
-use Rattle.policy.specs.Lowest.{lowest}
 use Rattle.policy.specs.Merging.{union, mergeable, groups, merged}
 use Rattle.policy.specs.Mined.{partCount, partAt, partBlock, minedGroups, mergeCount, groupBlock, ruleOf}
 use Rattle.policy.specs.Policy.{senior, circular, held, rolesOf, isSetAt, valueAt, sideOf, settingOf, rolesIn}
 use Rattle.policy.specs.Roles.{alike, leads, isPart, parts, blockOf, classOf, rolesGrant, someRoleGives}
 use Rattle.policy.specs.Rules.{meets, attrsOf, holds, grants, allowed, ruleLevel, wellFormed, ofSection, sameBlock, struck}
-use Rattle.policy.specs.Sets.{bit, subset, size}
-use Rattle.policy.specs.Tests.{all}
 use Rattle.policy.specs.Thinning.{trim, trimCond, grantsJust, thinned, written, singleCost, setCost, atomCost, ruleCost}
+use Rattle.sets.specs.Lowest.{lowest}
+use Rattle.sets.specs.Sets.{bit, subset, size}
+use Rattle.sets.specs.Tests.{all}
 
 -- a row: what the definitions say, and what 01 says
 pub record Row : Type 0 where

@@ -26,7 +26,7 @@ use Rattle.policy.specs.Roles.{Roles, rolesGrant}
 use Rattle.policy.specs.RuleLaws.{same-in, same-out}
 use Rattle.policy.specs.Rules.{Setting, grants, Triple, Same, sameBlock, user, resource}
 use Rattle.policy.specs.SeniorLaws.{reach-out, reach-in}
-use Rattle.policy.specs.Tests.{Is, and-l, and-r, test, iff, iff-in, iff-out, _∈_, each, each-in, each-out, upTo, upTo-in, upTo-out, map-in, map-out, getD-in, isSome}
+use Rattle.sets.specs.Tests.{Is, and-l, and-r, test, iff, iff-in, iff-out, _∈_, each, each-in, each-out, upTo, upTo-in, upTo-out, map-in, map-out, getD-in, isSome}
 
 -- ---- answers
 

@@ -14,8 +14,8 @@ use Rattle.policy.specs.Mined.{partCount, partBlock, minedGroups, mergeCount, r
 use Rattle.policy.specs.Policy.{Policy, settingOf, rolesIn}
 use Rattle.policy.specs.Roles.{Roles, rolesGrant}
 use Rattle.policy.specs.Rules.{Setting, Block, grants, sameBlock, user, resource}
-use Rattle.policy.specs.Tests.{iff, any, each, upTo, sum}
 use Rattle.policy.specs.Thinning.{ruleCost}
+use Rattle.sets.specs.Tests.{iff, any, each, upTo, sum}
 
 -- "The result carries length, parts, rules, merges and total cost"
 pub record Counts : Type 0 where

@@ -13,9 +13,9 @@ use Rattle.policy.specs.GroupLaws.{lowPart}
 use Rattle.policy.specs.Mined.{partCount, minedGroups, mergeCount, ruleOf}
 use Rattle.policy.specs.Roles.{Roles, rolesGrant}
 use Rattle.policy.specs.Rules.{Setting, Rule, grants, ruleLevel, ofSection, Triple, Same, struck}
-use Rattle.policy.specs.Sorted.{Ascending}
-use Rattle.policy.specs.Tests.{Is, _∈_, sum}
 use Rattle.policy.specs.Thinning.{thinned, ruleCost}
+use Rattle.sets.specs.Sorted.{Ascending}
+use Rattle.sets.specs.Tests.{Is, _∈_, sum}
 
 -- W bytes for a set of operations; P and R are the policy and the roles that the role file states
 pub record Demand3 (W : ℕ) (P : Setting) (R : Roles) (bytes : List ℕ) (c : Counts) : Type 0 where

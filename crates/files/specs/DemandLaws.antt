@@ -14,7 +14,6 @@ use Rattle.files.specs.ReadBack.{Writable, read-back}
 use Rattle.files.specs.RuleFile.{Lines, ruleIn, listings, linesOf, encodeAll, readRules}
 use Rattle.files.specs.WriteLaws.{parts-back, listings-times, Encodable, writable}
 use Rattle.policy.specs.Covering.{cover, levelOf}
-use Rattle.policy.specs.Lowest.{lowest}
 use Rattle.policy.specs.MergeLaws.{Every}
 use Rattle.policy.specs.Merging.{merges, union, merged}
 use Rattle.policy.specs.Mined.{partCount, partBlock, minedGroups, mergeCount, groupBlock, ruleOf}
@@ -23,10 +22,11 @@ use Rattle.policy.specs.OrderLaws.{Numbered, written-asc, written-values}
 use Rattle.policy.specs.Roles.{Roles, parts, rolesGrant}
 use Rattle.policy.specs.RuleLaws.{Lawful}
 use Rattle.policy.specs.Rules.{Which, Setting, Rule, grants, at, ruleLevel, wellFormed, ofSection, Triple, Same, struck}
-use Rattle.policy.specs.Sets.{size}
-use Rattle.policy.specs.Tests.{Is, and-l, same, _∈_, all, any, any-out, map-out, getD-in, any-ext, sum}
 use Rattle.policy.specs.Thinning.{thinned, ruleCost}
 use Rattle.policy.specs.WrittenLaws.{written-had, written-ops-lt, written-ops-some, written-allowed, written-formed, written-of-section}
+use Rattle.sets.specs.Lowest.{lowest}
+use Rattle.sets.specs.Sets.{size}
+use Rattle.sets.specs.Tests.{Is, and-l, same, _∈_, all, any, any-out, map-out, getD-in, any-ext, sum}
 
 length-map : {A B : Type 0} (f : A → B) (l : List A) → length (map f l) ≡ length l
 length-map f [] = refl

@@ -17,9 +17,9 @@ use Rattle.policy.specs.Mined.{partCount, partAt}
 use Rattle.policy.specs.OrderLaws.{key, Numbered, attrs-rising, attrs-below, Ordinary}
 use Rattle.policy.specs.Roles.{Roles, classOf}
 use Rattle.policy.specs.Rules.{Which, by, Setting, Cond, Rule, attrsOf, ownAt, allowed, at, wellFormed, user, resource, conjunct, atom}
-use Rattle.policy.specs.Sorted.{Rising, Ascending, Before, sort-in, sort-out, sort-rising, rising-ext, append-rising, each-rising, only-rising, numbers, asc-unique, none-left, and-then}
-use Rattle.policy.specs.Tests.{Is, and-in, and-l, and-r, or-out, test, iff, iff-in, iff-out, _∈_, each, each-in, each-out, only, only-in, only-out, elem-out, map-in, map-out}
 use Rattle.policy.specs.WrittenLaws.{AllHad}
+use Rattle.sets.specs.Sorted.{Rising, Ascending, Before, sort-in, sort-out, sort-rising, rising-ext, append-rising, each-rising, only-rising, numbers, asc-unique, none-left, and-then}
+use Rattle.sets.specs.Tests.{Is, and-in, and-l, and-r, or-out, test, iff, iff-in, iff-out, _∈_, each, each-in, each-out, only, only-in, only-out, elem-out, map-in, map-out}
 
 pub same-side : (w x : Which) → Is (sameSide w x) → w ≡ x
 same-side user user h = refl

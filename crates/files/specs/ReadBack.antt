@@ -15,8 +15,8 @@ use Rattle.files.specs.RuleFile.{RuleCommand, byteOf, operandsOf, ruleCo
 use Rattle.policy.specs.MergeLaws.{Every}
 use Rattle.policy.specs.Roles.{Roles}
 use Rattle.policy.specs.Rules.{Setting, user, resource}
-use Rattle.policy.specs.Sorted.{Rising, Before, Strict, and-then}
-use Rattle.policy.specs.Tests.{Is, and-in, and-l, and-r, fails, _∈_, any, all-in, any-out, each, not-in}
+use Rattle.sets.specs.Sorted.{Rising, Before, Strict, and-then}
+use Rattle.sets.specs.Tests.{Is, and-in, and-l, and-r, fails, _∈_, any, all-in, any-out, each, not-in}
 
 -- ---- commands
 

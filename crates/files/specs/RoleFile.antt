@@ -10,7 +10,7 @@ use Rattle.files.specs.Answer.{Answer, unless, andThen, tooLong, cutOff,
 use Rattle.files.specs.Bytes.{Format, read}
 use Rattle.policy.specs.Policy.{Table, Policy, kindOf, circular}
 use Rattle.policy.specs.Rules.{Which, by, user, resource}
-use Rattle.policy.specs.Tests.{iff, isSome}
+use Rattle.sets.specs.Tests.{iff, isSome}
 
 -- "A command is one byte with fixed operands"
 pub data RoleCommand : Type 0 where

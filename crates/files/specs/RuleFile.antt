@@ -12,8 +12,8 @@ use Rattle.files.specs.RoleFile.{sameSide}
 use Rattle.policy.specs.Mined.{partCount, partAt}
 use Rattle.policy.specs.Roles.{Roles, parts, classOf}
 use Rattle.policy.specs.Rules.{own, Which, Setting, Cond, Rule, attrsOf, atomForm, user, resource, conjunct, atom}
-use Rattle.policy.specs.Sorted.{sort}
-use Rattle.policy.specs.Tests.{iff, all, any, keep, each, only, upTo, isSome, sum}
+use Rattle.sets.specs.Sorted.{sort}
+use Rattle.sets.specs.Tests.{iff, all, any, keep, each, only, upTo, isSome, sum}
 
 pub data RuleCommand : Type 0 where
   -- 21 opens a rule

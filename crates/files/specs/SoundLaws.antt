@@ -21,9 +21,9 @@ use Rattle.files.specs.WriteLaws.{Encodable}
 use Rattle.policy.specs.Policy.{Table, Policy, kindOf, circular, held, rolesOf, isSetAt, valueAt, sideOf, settingOf, rolesIn}
 use Rattle.policy.specs.PolicyLaws.{owned}
 use Rattle.policy.specs.Rules.{own, Which, by, user, resource}
-use Rattle.policy.specs.Sets.{maskOf}
-use Rattle.policy.specs.Tests.{Is, and-l, and-r, or-out, test, iff, iff-out, isSome}
 use Rattle.policy.specs.WrittenLaws.{mask-lt}
+use Rattle.sets.specs.Sets.{maskOf}
+use Rattle.sets.specs.Tests.{Is, and-l, and-r, or-out, test, iff, iff-out, isSome}
 
 -- one side's table
 pub record SoundTable (t : Table) : Type 0 where

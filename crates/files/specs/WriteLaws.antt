@@ -24,8 +24,8 @@ use Rattle.policy.specs.OrderLaws.{Numbered, attrs-below}
 use Rattle.policy.specs.PartLaws.{parts-out}
 use Rattle.policy.specs.Roles.{Roles, Part, classOf}
 use Rattle.policy.specs.Rules.{own, Which, Setting, Rule, attrsOf, allowed, at, wellFormed, user, resource, conjunct, atom}
-use Rattle.policy.specs.Sorted.{Rising, none-left, and-then}
-use Rattle.policy.specs.Tests.{Is, and-in, and-l, and-r, never, test, fails, same, iff-in, _∈_, any, any-in, any-out, keep, keep-in, keep-out, only, only-out, upTo, upTo-in, upTo-out, elem, elem-in, elem-out, sum}
+use Rattle.sets.specs.Sorted.{Rising, none-left, and-then}
+use Rattle.sets.specs.Tests.{Is, and-in, and-l, and-r, never, test, fails, same, iff-in, _∈_, any, any-in, any-out, keep, keep-in, keep-out, only, only-out, upTo, upTo-in, upTo-out, elem, elem-in, elem-out, sum}
 
 -- ---- counting
 

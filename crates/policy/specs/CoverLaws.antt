@@ -9,9 +9,9 @@ use mathlib.Core.Path.{_≡_, refl, sym, _∙_}
 use Rattle.policy.specs.Covering.{allKnow, valuesOf, opIn, pairIn, standsIn, everywhere, conjuncts, atomConds, cover, fits}
 use Rattle.policy.specs.RuleLaws.{Lawful, grants-in, grants-op, grants-cond, same-in, same-out}
 use Rattle.policy.specs.Rules.{Which, by, Setting, Cond, Rule, Block, attrsOf, ownAt, holds, grants, allowed, at, Triple, Within, Same, user, resource, conjunct, atom}
-use Rattle.policy.specs.Sets.{bit-mask}
 use Rattle.policy.specs.SideLaws.{AllMeet, side-known, side-self, side-least}
-use Rattle.policy.specs.Tests.{Is, and-l, and-r, same, imp, imp-in, imp-out, _∈_, all, any, all-out, all-in, any-in, any-out, each, each-in, each-out, only, only-in, only-out, upTo, upTo-in, upTo-out, elem-out}
+use Rattle.sets.specs.Sets.{bit-mask}
+use Rattle.sets.specs.Tests.{Is, and-l, and-r, same, imp, imp-in, imp-out, _∈_, all, any, all-out, all-in, any-in, any-out, each, each-in, each-out, only, only-in, only-out, upTo, upTo-in, upTo-out, elem-out}
 
 module _ (P : Setting) where
   -- ---- what these tests say

@@ -5,11 +5,11 @@ use lib.Dec.{ltb}
 use mathlib.Core.Bool.{Bool}
 use mathlib.Core.List.{List, [], _∷_, _++_}
 use mathlib.Core.Option.{Option, none, some}
-use Rattle.policy.specs.Lowest.{lowest}
 use Rattle.policy.specs.Rules.{Side, Which, Setting, Cond, Rule, Block, attrsOf, ownAt, holds, grants, sameBlock, user, resource, conjunct, atom}
-use Rattle.policy.specs.Sets.{maskOf}
-use Rattle.policy.specs.Sorted.{sort}
-use Rattle.policy.specs.Tests.{imp, all, any, keep, each, only, upTo, isSome}
+use Rattle.sets.specs.Lowest.{lowest}
+use Rattle.sets.specs.Sets.{maskOf}
+use Rattle.sets.specs.Sorted.{sort}
+use Rattle.sets.specs.Tests.{imp, all, any, keep, each, only, upTo, isSome}
 
 abbrev pub known : Option ℕ → List ℕ
 known none = []

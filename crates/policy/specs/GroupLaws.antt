@@ -12,15 +12,15 @@ use native.Mathlib.Nat.{add-assoc, add-comm}
 use native.Mathlib.Omega.{arith}
 use Rattle.policy.specs.CoverLaws.{exact-fits}
 use Rattle.policy.specs.Covering.{fits, levelOf}
-use Rattle.policy.specs.Lowest.{lowest-most, lowest-passes, lowest-some}
 use Rattle.policy.specs.MergeLaws.{total, Every, Runs, run-runs, runs-apart, runs-count, runs-total, runs-every, runs-ascending, apart-at}
 use Rattle.policy.specs.Merging.{ones, union, mergeable, groups, merged}
 use Rattle.policy.specs.RuleLaws.{Lawful}
 use Rattle.policy.specs.Rules.{Setting, Rule, Block, grants, at, ruleLevel, Some, Same}
-use Rattle.policy.specs.Sorted.{Ascending, none-left, and-then}
-use Rattle.policy.specs.Tests.{Is, or-l, never, test, same, _∈_, any, any-in, any-out, from, upTo, from-out, upTo-in, upTo-out, map-out, getD-in}
 use Rattle.policy.specs.ThinLaws.{written-exact, fits-same, written-level}
 use Rattle.policy.specs.Thinning.{written}
+use Rattle.sets.specs.Lowest.{lowest-most, lowest-passes, lowest-some}
+use Rattle.sets.specs.Sorted.{Ascending, none-left, and-then}
+use Rattle.sets.specs.Tests.{Is, or-l, never, test, same, _∈_, any, any-in, any-out, from, upTo, from-out, upTo-in, upTo-out, map-out, getD-in}
 
 -- how often a part stands in a group
 abbrev pub times : ℕ → List ℕ → ℕ

@@ -1,7 +1,3 @@
-pub mod Tests
-pub mod Sorted
-pub mod Sets
-pub mod Lowest
 pub mod Rules
 pub mod Roles
 pub mod Policy

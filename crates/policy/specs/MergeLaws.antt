@@ -8,8 +8,8 @@ use mathlib.Core.Option.{Option, none, some, Option·map}
 use mathlib.Core.Path.{_≡_, refl, sym, ap, _∙_, subst, fun-ext}
 use native.Mathlib.Omega.{arith}
 use Rattle.policy.specs.Merging.{absorb, step, run, merges}
-use Rattle.policy.specs.Sorted.{Ascending, and-then}
-use Rattle.policy.specs.Tests.{Is, _∈_, getD-in}
+use Rattle.sets.specs.Sorted.{Ascending, and-then}
+use Rattle.sets.specs.Tests.{Is, _∈_, getD-in}
 
 -- what all members make together
 abbrev pub total {ℓ} : {A : Type ℓ} {M : Type 0} → (M → M → M) → M → (A → M) → List A → M

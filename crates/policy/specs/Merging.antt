@@ -6,7 +6,7 @@ use mathlib.Core.List.{List, [], _∷_, _++_, map}
 use mathlib.Core.Option.{Option, none, some, Option·map}
 use Rattle.policy.specs.Covering.{fits, levelOf}
 use Rattle.policy.specs.Rules.{Setting, Block}
-use Rattle.policy.specs.Tests.{any, from, upTo}
+use Rattle.sets.specs.Tests.{any, from, upTo}
 
 -- Over any kind of group: `ok` says whether two may become one, `join` makes the one.
 module _ {A : Type 0} (ok : A → A → Bool) (join : A → A → A) where

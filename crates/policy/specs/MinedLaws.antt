@@ -14,10 +14,10 @@ use Rattle.policy.specs.PartLaws.{part-some, Own, part-fits}
 use Rattle.policy.specs.Roles.{Roles, parts, blockOf, rolesGrant}
 use Rattle.policy.specs.RuleLaws.{Lawful}
 use Rattle.policy.specs.Rules.{Setting, Rule, grants, at, ruleLevel, Triple, Some, Same, struck}
-use Rattle.policy.specs.Sorted.{Ascending}
-use Rattle.policy.specs.Tests.{Is, _∈_, any, upTo, getD-in, any-places, any-ext}
 use Rattle.policy.specs.ThinLaws.{written-exact, written-thin, written-level, no-lower}
 use Rattle.policy.specs.Thinning.{thinned, written}
+use Rattle.sets.specs.Sorted.{Ascending}
+use Rattle.sets.specs.Tests.{Is, _∈_, any, upTo, getD-in, any-places, any-ext}
 
 module _ (P : Setting) (R : Roles) where
   pub record MinedRules : Type 0 where

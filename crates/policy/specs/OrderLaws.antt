@@ -12,11 +12,11 @@ use Rattle.policy.specs.Covering.{allKnow, valuesOf, standsIn, everywher
 use Rattle.policy.specs.RuleLaws.{Lawful, grants-cond}
 use Rattle.policy.specs.Rules.{own, Side, Which, by, Setting, Cond, Rule, Block, meets, attrsOf, ownAt, holds, grants, Some, user, resource, conjunct, atom}
 use Rattle.policy.specs.SideLaws.{admits-out, values-rising}
-use Rattle.policy.specs.Sorted.{Rising, Ascending, Before, keep-rising, append-rising, each-rising, only-rising, from-rising, none-left, and-then}
 use Rattle.policy.specs.StrikeLaws.{strike-within}
-use Rattle.policy.specs.Tests.{Is, _∈_, each, each-out, only, only-out, from, upTo, from-out, upTo-out, map-out}
 use Rattle.policy.specs.ThinLaws.{written-exact}
 use Rattle.policy.specs.Thinning.{trim, strike, trimCond, grantsJust, thinned, written}
+use Rattle.sets.specs.Sorted.{Rising, Ascending, Before, keep-rising, append-rising, each-rising, only-rising, from-rising, none-left, and-then}
+use Rattle.sets.specs.Tests.{Is, _∈_, each, each-out, only, only-out, from, upTo, from-out, upTo-out, map-out}
 
 -- ---- ascending lists
 

@@ -7,12 +7,12 @@ use mathlib.Core.Path.{_≡_, refl, ap, _∙_}
 use native.Mathlib.Omega.{arith}
 use Rattle.policy.specs.CoverLaws.{exact-fits}
 use Rattle.policy.specs.Covering.{fits}
-use Rattle.policy.specs.Lowest.{lowestFrom, lowestFrom-misses, lowestFrom-passes, lowestFrom-most}
 use Rattle.policy.specs.Roles.{Roles, Part, alike, leads, isPart, parts, blockOf, rolesGrant, someRoleGives}
 use Rattle.policy.specs.RuleLaws.{Lawful}
 use Rattle.policy.specs.Rules.{own, Setting, Rule, meets, attrsOf, holds, grants, allowed, at, Triple, Some, Same, user, resource, conjunct}
-use Rattle.policy.specs.Sets.{maskOf, bit-mask}
-use Rattle.policy.specs.Tests.{Is, and-in, and-l, and-r, never, fails, same, iff, iff-in, iff-out, _∈_, any, all-out, all-in, any-in, any-out, keep, keep-in, keep-out, each, each-in, each-out, only, only-in, only-out, upTo, upTo-in, upTo-out, elem, elem-in, elem-out, not-in}
+use Rattle.sets.specs.Lowest.{lowestFrom, lowestFrom-misses, lowestFrom-passes, lowestFrom-most}
+use Rattle.sets.specs.Sets.{maskOf, bit-mask}
+use Rattle.sets.specs.Tests.{Is, and-in, and-l, and-r, never, fails, same, iff, iff-in, iff-out, _∈_, any, all-out, all-in, any-in, any-out, keep, keep-in, keep-out, each, each-in, each-out, only, only-in, only-out, upTo, upTo-in, upTo-out, elem, elem-in, elem-out, not-in}
 
 shuffle : (a b c : Bool) → (a && (b && (c && true))) ≡ (b && (c && a))
 shuffle true true true = refl

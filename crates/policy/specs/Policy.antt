@@ -8,8 +8,8 @@ use mathlib.Core.List.{List}
 use mathlib.Core.Option.{Option, some}
 use Rattle.policy.specs.Roles.{Roles}
 use Rattle.policy.specs.Rules.{own, Side, Which, by, Setting}
-use Rattle.policy.specs.Sets.{subset, maskOf}
-use Rattle.policy.specs.Tests.{Is, any, upTo}
+use Rattle.sets.specs.Sets.{subset, maskOf}
+use Rattle.sets.specs.Tests.{Is, any, upTo}
 
 -- one side's size, attributes and values
 pub record Table : Type 0 where

@@ -11,8 +11,8 @@ use Rattle.policy.specs.Policy.{Policy, order, senior, held, rolesOf, is
 use Rattle.policy.specs.Roles.{Part, blockOf, rolesGrant, someRoleGives}
 use Rattle.policy.specs.RuleLaws.{Lawful}
 use Rattle.policy.specs.Rules.{by, meets, Triple, resource}
-use Rattle.policy.specs.Sets.{subset, subset-self, subset-chain, one-subset, bit-mask}
-use Rattle.policy.specs.Tests.{Is, and-in, and-l, and-r, or-r, same, any, any-in, upTo, upTo-in, any-ext}
+use Rattle.sets.specs.Sets.{subset, subset-self, subset-chain, one-subset, bit-mask}
+use Rattle.sets.specs.Tests.{Is, and-in, and-l, and-r, or-r, same, any, any-in, upTo, upTo-in, any-ext}
 
 order-self : (b : Bool) (x : ℕ) → Is (order b x x)
 order-self true x = subset-self x

@@ -4,8 +4,8 @@ use Prim.Native.Nat.{ℕ}
 use mathlib.Core.Bool.{Bool, _&&_, not}
 use mathlib.Core.List.{List}
 use Rattle.policy.specs.Rules.{Setting, Block, user, resource}
-use Rattle.policy.specs.Sets.{maskOf}
-use Rattle.policy.specs.Tests.{iff, all, any, each, only, upTo}
+use Rattle.sets.specs.Sets.{maskOf}
+use Rattle.sets.specs.Tests.{iff, all, any, each, only, upTo}
 
 -- how many roles there are; who holds one; the resources and operations assigned to one, without what it inherits
 pub record Roles : Type 0 where

@@ -2,9 +2,9 @@
 -- Assumes nothing.
 use Prim.Native.Nat.{ℕ}
 use Rattle.policy.specs.Rules.{Which, Setting, Cond, Rule, Block, holds, grants, Same, sameBlock, user, resource}
-use Rattle.policy.specs.Sets.{bit}
 use Rattle.policy.specs.SideLaws.{Ordered}
-use Rattle.policy.specs.Tests.{Is, and-in, and-l, and-r, iff, iff-in, iff-out, _∈_, all, all-out, all-in, upTo, upTo-in, upTo-out}
+use Rattle.sets.specs.Sets.{bit}
+use Rattle.sets.specs.Tests.{Is, and-in, and-l, and-r, iff, iff-in, iff-out, _∈_, all, all-out, all-in, upTo, upTo-in, upTo-out}
 
 -- what the theory asks of both sides
 abbrev pub Lawful : Setting → Type 0

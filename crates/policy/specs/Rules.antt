@@ -7,9 +7,9 @@ use mathlib.Core.Bool.{Bool, true, false, _&&_, _||_}
 use mathlib.Core.List.{List, _++_}
 use mathlib.Core.Option.{Option, none, some}
 use mathlib.Core.Path.{_≡_}
-use Rattle.policy.specs.Lowest.{lowest}
-use Rattle.policy.specs.Sets.{bit, subset}
-use Rattle.policy.specs.Tests.{Is, iff, all, any, only, upTo, elem, without, isSome}
+use Rattle.sets.specs.Lowest.{lowest}
+use Rattle.sets.specs.Sets.{bit, subset}
+use Rattle.sets.specs.Tests.{Is, iff, all, any, only, upTo, elem, without, isSome}
 
 -- "Attribute 255 is, for users, the set of roles they hold and, for resources, the resource's own number."
 abbrev pub own : ℕ

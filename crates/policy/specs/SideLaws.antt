@@ -8,8 +8,8 @@ use mathlib.Core.Option.{Option, none, some}
 use mathlib.Core.Path.{_≡_, refl, sym, ap}
 use Rattle.policy.specs.Covering.{known, allKnow, valuesOf}
 use Rattle.policy.specs.Rules.{Side, admits, meets}
-use Rattle.policy.specs.Sorted.{Rising, Before, sort-in, sort-out, sort-rising, numbers}
-use Rattle.policy.specs.Tests.{Is, _∈_, all-out, all-in, any-in, any-out, keep, keep-in, keep-out, each, each-in, each-out, upTo, upTo-in, upTo-out, isSome, isSome-out}
+use Rattle.sets.specs.Sorted.{Rising, Before, sort-in, sort-out, sort-rising, numbers}
+use Rattle.sets.specs.Tests.{Is, _∈_, all-out, all-in, any-in, any-out, keep, keep-in, keep-out, each, each-in, each-out, upTo, upTo-in, upTo-out, isSome, isSome-out}
 
 -- what the theory asks of `below`
 pub record Ordered (S : Side) : Type 0 where

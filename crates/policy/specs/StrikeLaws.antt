@@ -7,8 +7,8 @@ use mathlib.Core.List.{List, [], _∷_, _++_, append-assoc, List·Memᴰ·head, 
 use mathlib.Core.Logic.{_⊎_, inl, inr}
 use mathlib.Core.Path.{_≡_, refl}
 use native.Mathlib.Omega.{arith}
-use Rattle.policy.specs.Tests.{Is, never, fails, _∈_, without}
 use Rattle.policy.specs.Thinning.{strike}
+use Rattle.sets.specs.Tests.{Is, never, fails, _∈_, without}
 
 -- all members of one list stand in the other
 abbrev pub _⊑_ {ℓ} : {A : Type ℓ} → List A → List A → Type ℓ

@@ -11,14 +11,14 @@ use native.Mathlib.Nat.{le-antisymm}
 use native.Mathlib.Omega.{arith}
 use Rattle.policy.specs.CoverLaws.{conjuncts-out, atomConds-out, cover-cases, exact-fits, fits-exact}
 use Rattle.policy.specs.Covering.{conjuncts, atomConds, cover, fits, levelOf}
-use Rattle.policy.specs.Lowest.{lowest-passes, lowest-least}
 use Rattle.policy.specs.RuleLaws.{Lawful, grants-in, grants-op, grants-cond, same-in, same-out}
 use Rattle.policy.specs.Rules.{own, Side, Which, Setting, Cond, Rule, Block, meets, attrsOf, ownAt, holds, grants, allowed, at, ruleLevel, Within, Same, struck, user, resource, conjunct, atom}
 use Rattle.policy.specs.SideLaws.{admits-out, admits-in}
 use Rattle.policy.specs.StrikeLaws.{_⊑_, strike-within, strike-passes, strike-final}
-use Rattle.policy.specs.Tests.{Is, and-in, never, same, _∈_, all-out, all-in, only, only-out, upTo, elem, elem-in, elem-out, map-in, map-out}
 use Rattle.policy.specs.Thinning.{trim, trimCond, grantsJust, thinned, written}
 use Rattle.policy.specs.TrimLaws.{trim-out, trim-in}
+use Rattle.sets.specs.Lowest.{lowest-passes, lowest-least}
+use Rattle.sets.specs.Tests.{Is, and-in, never, same, _∈_, all-out, all-in, only, only-out, upTo, elem, elem-in, elem-out, map-in, map-out}
 
 module _ (P : Setting) where
   -- the conditions of a covering rule are of its level, and trimming leaves them there

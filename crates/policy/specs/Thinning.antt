@@ -6,8 +6,8 @@ use mathlib.Core.Bool.{Bool, cond, _&&_, not}
 use mathlib.Core.List.{List, [], _∷_, _++_, map}
 use Rattle.policy.specs.Covering.{cover, levelOf}
 use Rattle.policy.specs.Rules.{by, Setting, Cond, Rule, Block, grants, sameBlock, struck, conjunct, atom}
-use Rattle.policy.specs.Sets.{size}
-use Rattle.policy.specs.Tests.{any, keep, sum}
+use Rattle.sets.specs.Sets.{size}
+use Rattle.sets.specs.Tests.{any, keep, sum}
 
 -- ---- sets that strictly contain another listed set
 

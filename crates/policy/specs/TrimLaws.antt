@@ -5,8 +5,8 @@ use mathlib.Core.Bool.{Bool, true, false, not}
 use mathlib.Core.List.{List, [], _∷_, List·Memᴰ·head, List·Memᴰ·tail, List·Memᴰ·not-nil}
 use mathlib.Core.Logic.{_⊎_, inl, inr}
 use mathlib.Core.Path.{_≡_, refl, sym}
-use Rattle.policy.specs.Tests.{Is, and-l, and-r, never, test, fails, _∈_, any, any-out, keep-in, keep-out}
 use Rattle.policy.specs.Thinning.{strictly, trim}
+use Rattle.sets.specs.Tests.{Is, and-l, and-r, never, test, fails, _∈_, any, any-out, keep-in, keep-out}
 
 module _ (le : ℕ → ℕ → Bool) where
   pub trim-out : (vs : List ℕ) {v : ℕ} → v ∈ trim le vs → v ∈ vs

@@ -16,13 +16,13 @@ use Rattle.policy.specs.Covering.{opIn, standsIn, conjuncts, atomConds, 
 use Rattle.policy.specs.OrderLaws.{met-says}
 use Rattle.policy.specs.RuleLaws.{Lawful, grants-cond}
 use Rattle.policy.specs.Rules.{Which, by, Setting, Form, linked, Cond, Block, both, atomForm, holds, allowed, at, wellFormed, ofSection, Some, user, resource, conjunct, atom}
-use Rattle.policy.specs.Sets.{bit, bit-none, maskOf, bit-mask}
 use Rattle.policy.specs.SideLaws.{values-out}
 use Rattle.policy.specs.StrikeLaws.{strike-within}
-use Rattle.policy.specs.Tests.{Is, and-in, never, test, _∈_, all-out, all-in, map-out, isSome}
 use Rattle.policy.specs.ThinLaws.{at-3, written-exact, written-at}
 use Rattle.policy.specs.Thinning.{trimCond, grantsJust, thinned, written}
 use Rattle.policy.specs.TrimLaws.{trim-out}
+use Rattle.sets.specs.Sets.{bit, bit-none, maskOf, bit-mask}
+use Rattle.sets.specs.Tests.{Is, and-in, never, test, _∈_, all-out, all-in, map-out, isSome}
 
 -- ---- masks
 

@@ -10,7 +10,7 @@ use mathlib.Core.Bool.{Bool, true, false, cond, _&&_, false≢true}
 use mathlib.Core.Path.{_≡_, refl, sym, ap, ap₂, _∙_}
 use native.Mathlib.Nat.{pow-suc, mod-lt, div-div-eq-div-mul, pow-succ', div-one, mul-mod-left, mul-div-cancel}
 use native.Mathlib.Omega.{arith}
-use Rattle.policy.specs.Tests.{Is, and-in, and-l, and-r, test, same, keep, upTo}
+use Rattle.sets.specs.Tests.{Is, and-in, and-l, and-r, test, same, keep, upTo}
 
 -- n is in the set
 unfoldable pub bit : ℕ → ℕ → Bool

@@ -8,7 +8,7 @@ use mathlib.Core.Path.{_≡_, refl}
 use native.Mathlib.Decide.{decLt}
 use native.Mathlib.Nat.{add-zero, add-suc, suc-add}
 use native.Mathlib.Omega.{arith}
-use Rattle.policy.specs.Tests.{Is, never, test}
+use Rattle.sets.specs.Tests.{Is, never, test}
 
 -- the first from k on, of n, that passes; k + n if none does
 abbrev pub lowestFrom : (ℕ → Bool) → ℕ → ℕ → ℕ

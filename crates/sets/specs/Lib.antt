@@ -1,0 +1,4 @@
+pub mod Tests
+pub mod Sorted
+pub mod Sets
+pub mod Lowest
