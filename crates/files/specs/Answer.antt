@@ -2,21 +2,35 @@
 -- Assumes nothing.
 use Prim.Native.Nat.{ℕ}
 use mathlib.Core.Bool.{Bool, true, false}
+use mathlib.Core.List.{List, [], _∷_}
 
 -- The causes for which a call may refuse.
 pub data Refusal : Type 0 where
+  -- "too long"
   tooLong : Refusal
+  -- "the file ends inside operands or before 0F"
   cutOff : Refusal
+  -- "unknown command"
   unknownCommand : Refusal
+  -- "a byte after the end", "out of place"
   outOfPlace : Refusal
+  -- "an operand beyond its limit or declared size, a seventh attribute", "a number beyond the sizes"
   beyond : Refusal
+  -- "wrong kind, or a value given twice"
   wrongKind : Refusal
+  -- "a role is its own senior"
   ownSenior : Refusal
+  -- "scratch below 4,096 words of 64 bits"
   smallScratch : Refusal
+  -- "output shorter than the rule file"
   shortOutput : Refusal
+  -- of the rule file: "cut off (also before 2F)"
   rulesCutOff : Refusal
+  -- "unknown"
   rulesUnknown : Refusal
+  -- "a byte after the end", "out of order, missing (seen at the next 21 or 2F) or repeated"
   rulesOrder : Refusal
+  -- "an operand beyond its size, of the wrong kind (...), a zero operation set, or no part of that file"
   rulesOperand : Refusal
 
 -- 01's number of each
@@ -39,6 +53,11 @@ numberOf rulesOperand = 13
 pub data Answer (A : Type 0) : Type 0 where
   refused : Refusal → Answer A
   accepted : A → Answer A
+
+-- an answer in 01's numbers: that of the refusal, or 0 and the values of what was accepted
+abbrev pub told : {A : Type 0} → (A → List ℕ) → Answer A → List ℕ
+told f (refused e) = numberOf e ∷ []
+told f (accepted a) = 0 ∷ f a
 
 -- a test that an input must pass before anything else is asked of it
 abbrev pub unless : {A : Type 0} → Bool → Refusal → Answer A → Answer A

@@ -56,7 +56,7 @@ pub record Format (Command State : Type 0) : Type 0 where
   pub short : Refusal
 
 module _ {Command State : Type 0} (T : Format Command State) where
-  -- nothing stands behind the end
+  -- the first test by command: "a byte after the end". Nothing stands behind the end
   abbrev pub close : List ℕ → State → Answer State
   close [] s = accepted s
   close (b ∷ bs) s = refused (T .late)
@@ -71,7 +71,7 @@ module _ {Command State : Type 0} (T : Format Command State) where
   turn go s b none = refused (T .short)
   turn go s b (some p) = andThen (T .obey s (T .command b (p .0))) (follow (T .ends (T .command b (p .0))) go (p .1))
 
-  -- by command: unknown, cut off, then its own refusals
+  -- the next: unknown, cut off, then its own refusals
   abbrev pub decode : (State → List ℕ → Answer State) → State → ℕ → List ℕ → Option (List ℕ) → Answer State
   decode go s b bs none = refused (T .unknown)
   decode go s b bs (some ws) = turn go s b (operands ws bs)

@@ -13,7 +13,7 @@ use mathlib.Core.Path.{_≡_, refl, sym, ap, _∙_}
 use native.Mathlib.Omega.{arith}
 use Rattle.files.specs.Answer.{Refusal, Answer, unless, andThen, smallScratch, shortOutput, refused, accepted}
 use Rattle.files.specs.BytesLaws.{Bytes, carried}
-use Rattle.files.specs.Calls.{Counts, Verdict, decided, first, triples, isTriple, rulesGrant, partsGrant, firstDifference, firstStrayRule, firstStrayPart, verdict, minedBytes, minedCounts, mined, mineAnswer, mineOutput, roleQuestion, readBoth, ruleQuestion, judge, differ, strayRule, strayPart, sound}
+use Rattle.files.specs.Calls.{Counts, Verdict, decided, first, triples, isTriple, rulesGrant, partsGrant, firstDifference, firstStrayRule, firstStrayPart, verdict, minedBytes, minedCounts, mayMine, mineAnswer, mineOutput, roleQuestion, readBoth, ruleQuestion, judge, differ, strayRule, strayPart, sound}
 use Rattle.files.specs.Demand3.{Demand3}
 use Rattle.files.specs.DemandLaws.{demand-3}
 use Rattle.files.specs.RoleFile.{readRoles}
@@ -69,8 +69,8 @@ module _ (W : ℕ) where
     pub reading : readRoles W file ≡ accepted F
     pub room-left : length (minedBytes W F) ≤ room
 
-  mined-out : (file : List ℕ) (scratch room : ℕ) (F : Policy) → mined W file scratch room ≡ accepted F → Mining file scratch room F
-  unfolding mined
+  mined-out : (file : List ℕ) (scratch room : ℕ) (F : Policy) → mayMine W file scratch room ≡ accepted F → Mining file scratch room F
+  unfolding mayMine
   mined-out file scratch room F h =
       let s = unless-out (leb 4096 scratch) smallScratch (andThen (readRoles W file) (λ F. unless (leb (length (minedBytes W F)) room) shortOutput (accepted F))) h in
       let t = then-out (readRoles W file) (λ F. unless (leb (length (minedBytes W F)) room) shortOutput (accepted F)) (s .1) in
@@ -82,14 +82,14 @@ module _ (W : ℕ) where
         room-left = leb-true (length (minedBytes W F)) room (rw e at (k .0));
       }
 
-  answer-out : (file : List ℕ) (scratch room : ℕ) (c : Counts) → mineAnswer W file scratch room ≡ accepted c → (F : Policy) × (mined W file scratch room ≡ accepted F) × (c ≡ minedCounts W F)
+  answer-out : (file : List ℕ) (scratch room : ℕ) (c : Counts) → mineAnswer W file scratch room ≡ accepted c → (F : Policy) × (mayMine W file scratch room ≡ accepted F) × (c ≡ minedCounts W F)
   unfolding mineAnswer
   answer-out file scratch room c h =
-      let t = then-out (mined W file scratch room) (λ F. accepted (minedCounts W F)) h in
+      let t = then-out (mayMine W file scratch room) (λ F. accepted (minedCounts W F)) h in
       let e : c ≡ minedCounts W (t .0) = cc in
       (t .0, t .1, e)
 
-  output-of : (file : List ℕ) (scratch : ℕ) (former : List ℕ) (F : Policy) → mined W file scratch (length former) ≡ accepted F
+  output-of : (file : List ℕ) (scratch : ℕ) (former : List ℕ) (F : Policy) → mayMine W file scratch (length former) ≡ accepted F
       → mineOutput W file scratch former ≡ minedBytes W F ++ drop (length (minedBytes W F)) former
   unfolding mineOutput
   output-of file scratch former F h = ap (λ (r : Answer Policy). elim r as (λ _. List ℕ) [ refused e ↦ former | accepted F ↦ minedBytes W F ++ drop (length (minedBytes W F)) former ]) h
@@ -97,7 +97,7 @@ module _ (W : ℕ) where
   -- "Output is untouched": after a refusal it holds its former bytes
   pub refused-output : (file : List ℕ) (scratch : ℕ) (former : List ℕ) (e : Refusal) → mineAnswer W file scratch (length former) ≡ refused e → mineOutput W file scratch former ≡ former
   unfolding mineAnswer mineOutput
-  refused-output file scratch former e h = go (mined W file scratch (length former)) h
+  refused-output file scratch former e h = go (mayMine W file scratch (length former)) h
     where
       go : (r : Answer Policy) → andThen r (λ F. accepted (minedCounts W F)) ≡ refused e → (elim r as (λ _. List ℕ) [ refused e ↦ former | accepted F ↦ minedBytes W F ++ drop (length (minedBytes W F)) former ]) ≡ former
       go (refused d) k = refl
@@ -125,8 +125,16 @@ module _ (W : ℕ) where
 
   -- the amount of scratch changes nothing, once it is enough
   pub scratch-free : (file : List ℕ) (m n room : ℕ) → 4096 ≤ m → 4096 ≤ n → mineAnswer W file m room ≡ mineAnswer W file n room
-  unfolding mineAnswer mined
+  unfolding mineAnswer mayMine
   scratch-free file m n room p q = rw (le-leb 4096 m p, le-leb 4096 n q) refl
+
+  pub scratch-free-output : (file : List ℕ) (m n : ℕ) (former : List ℕ) → 4096 ≤ m → 4096 ≤ n → mineOutput W file m former ≡ mineOutput W file n former
+  unfolding mineOutput mayMine
+  scratch-free-output file m n former p q =
+      ap (λ (r : Answer Policy). elim r as (λ _. List ℕ) [ refused e ↦ former | accepted F ↦ minedBytes W F ++ drop (length (minedBytes W F)) former ]) (enough-scratch m p ∙ sym (enough-scratch n q))
+    where
+      enough-scratch : (m : ℕ) → 4096 ≤ m → mayMine W file m (length former) ≡ andThen (readRoles W file) (λ F. unless (leb (length (minedBytes W F)) (length former)) shortOutput (accepted F))
+      enough-scratch m p = rw (le-leb 4096 m p) refl
 
   -- and of the output memory only its length counts: the answer's bytes are the same whatever it held
   pub former-free : (file : List ℕ) (scratch : ℕ) (former other : List ℕ) (c : Counts) → length former ≡ length other → mineAnswer W file scratch (length former) ≡ accepted c
@@ -134,9 +142,9 @@ module _ (W : ℕ) where
   unfolding minedCounts
   former-free file scratch former other c e h = let t = answer-out file scratch (length former) c h in go (t .0) c (t .1) (t .2)
     where
-      go : (F : Policy) (c : Counts) → mined W file scratch (length former) ≡ accepted F → c ≡ minedCounts W F → take (c .size) (mineOutput W file scratch former) ≡ take (c .size) (mineOutput W file scratch other)
+      go : (F : Policy) (c : Counts) → mayMine W file scratch (length former) ≡ accepted F → c ≡ minedCounts W F → take (c .size) (mineOutput W file scratch former) ≡ take (c .size) (mineOutput W file scratch other)
       go F c m k =
-          let front : (l : List ℕ) → mined W file scratch (length l) ≡ accepted F → take (length (minedBytes W F)) (mineOutput W file scratch l) ≡ minedBytes W F =
+          let front : (l : List ℕ) → mayMine W file scratch (length l) ≡ accepted F → take (length (minedBytes W F)) (mineOutput W file scratch l) ≡ minedBytes W F =
           λ l n. ap (take (length (minedBytes W F))) (output-of file scratch l F n) ∙ take-front (minedBytes W F) (drop (length (minedBytes W F)) l) in
           rw k (front former m ∙ sym (front other (rw e at m)))
 
@@ -152,7 +160,7 @@ module _ (W : ℕ) where
   unfolding minedCounts
   third-demand file b scratch former c h = let t = answer-out file scratch (length former) c h in go (t .0) c (t .1) (t .2)
     where
-      go : (F : Policy) (c : Counts) → mined W file scratch (length former) ≡ accepted F → c ≡ minedCounts W F → (F : Policy) × (readRoles W file ≡ accepted F) × Demand3 W (settingOf F) (rolesIn F) (take (c .size) (mineOutput W file scratch former)) c
+      go : (F : Policy) (c : Counts) → mayMine W file scratch (length former) ≡ accepted F → c ≡ minedCounts W F → (F : Policy) × (readRoles W file ≡ accepted F) × Demand3 W (settingOf F) (rolesIn F) (take (c .size) (mineOutput W file scratch former)) c
       go F c m k =
           let r = mined-out file scratch (length former) F m .reading in
           let e : take (length (minedBytes W F)) (mineOutput W file scratch former) ≡ minedBytes W F = ap (take (length (minedBytes W F))) (output-of file scratch former F m) ∙ take-front (minedBytes W F) (drop (length (minedBytes W F)) former) in

@@ -17,7 +17,7 @@ use Rattle.policy.specs.Rules.{Setting, Block, grants, sameBlock, user, resourc
 use Rattle.policy.specs.Thinning.{ruleCost}
 use Rattle.sets.specs.Tests.{iff, any, each, upTo, sum}
 
--- "The result carries length, parts, rules, merges and total cost"
+-- "The result carries length (bytes of the rule file), parts ..., rules ..., merges ... and total cost"; size is 01's length
 pub record Counts : Type 0 where
   pub size : ℕ
   pub parts : ℕ
@@ -34,6 +34,13 @@ pub data Verdict : Type 0 where
   -- a part, the first, stands under no rule or several
   strayPart : ℕ → Verdict
   sound : Verdict
+
+-- the values of a result, and of the answer to a question: 1 for yes, 0 for no
+abbrev pub countValues : Counts → List ℕ
+countValues c = c .size ∷ c .parts ∷ c .rules ∷ c .merges ∷ c .cost ∷ []
+
+abbrev pub yesNo : Bool → List ℕ
+yesNo b = cond b 1 0 ∷ []
 
 -- 01's number of each verdict, and the values that come with it
 abbrev pub verdictNumber : Verdict → ℕ
@@ -111,19 +118,19 @@ module _ (W : ℕ) where
     }
 
   -- "8 scratch below 4,096 words of 64 bits; then 1 to 7; then 9 output shorter than the rule file"
-  unfoldable pub mined : List ℕ → ℕ → ℕ → Answer Policy
-  mined file scratch room =
+  unfoldable pub mayMine : List ℕ → ℕ → ℕ → Answer Policy
+  mayMine file scratch room =
       unless (leb 4096 scratch) smallScratch
       (andThen (readRoles W file) (λ F. unless (leb (length (minedBytes F)) room) shortOutput (accepted F)))
 
   -- mining: the counts, from the file, the words of scratch and the bytes of output
   unfoldable pub mineAnswer : List ℕ → ℕ → ℕ → Answer Counts
-  mineAnswer file scratch room = andThen (mined file scratch room) (λ F. accepted (minedCounts F))
+  mineAnswer file scratch room = andThen (mayMine file scratch room) (λ F. accepted (minedCounts F))
 
   -- the output memory after mining: "Output is untouched" by a refusal; else the rule file, and behind it the former bytes
   unfoldable pub mineOutput : List ℕ → ℕ → List ℕ → List ℕ
   mineOutput file scratch former =
-      elim (mined file scratch (length former)) [ refused e ↦ former | accepted F ↦ minedBytes F ++ drop (length (minedBytes F)) former ]
+      elim (mayMine file scratch (length former)) [ refused e ↦ former | accepted F ↦ minedBytes F ++ drop (length (minedBytes F)) former ]
 
   -- "whether the roles grant a given triple, yes or no: 1 to 7, then 5 for a number beyond the sizes"
   unfoldable pub roleQuestion : List ℕ → ℕ → ℕ → ℕ → Answer Bool

@@ -15,7 +15,7 @@ use Rattle.files.specs.RuleFile.{Lines, ruleIn, listings, linesOf, encod
 use Rattle.files.specs.WriteLaws.{parts-back, listings-times, Encodable, writable}
 use Rattle.policy.specs.Covering.{cover, levelOf}
 use Rattle.policy.specs.MergeLaws.{Every}
-use Rattle.policy.specs.Merging.{merges, union, merged}
+use Rattle.policy.specs.Merging.{merges, union}
 use Rattle.policy.specs.Mined.{partCount, partBlock, minedGroups, mergeCount, groupBlock, ruleOf}
 use Rattle.policy.specs.MinedLaws.{MinedRules}
 use Rattle.policy.specs.OrderLaws.{Numbered, written-asc, written-values}

@@ -2,7 +2,7 @@
 -- Assumes nothing.
 use Prim.Native.Nat.{ℕ, _^_}
 use lib.Dec.{eqb, ltb}
-use lib.ListN.{length, getD}
+use lib.ListN.{length, getD, set}
 use mathlib.Core.Bool.{Bool, true, false, cond, _&&_, not}
 use mathlib.Core.List.{List, [], _∷_, _++_, map}
 use mathlib.Core.Option.{Option, none, some}
@@ -83,7 +83,7 @@ isPartLine (link a b) = false
 isPartLine (part k m) = true
 isPartLine ends = false
 
--- a rule's lines: its commands between its 21 and the next 21 or 2F
+-- a rule's lines: 01's commands between its 21 and the next 21 or 2F
 abbrev pub Lines : Type 0
 Lines = List RuleCommand
 
@@ -106,7 +106,7 @@ linkOf (link a b) = atom a b ∷ []
 linkOf (part k m) = []
 linkOf ends = []
 
--- the operand of a line 26, and of another line what the lines behind it say
+-- the operand of the first 26, and 0 if there is none
 abbrev pub operationsOr : RuleCommand → ℕ → ℕ
 operationsOr opens n = n
 operationsOr (value w set a v) n = n
@@ -181,7 +181,7 @@ endsFile (link a b) = false
 endsFile (part k m) = false
 endsFile ends = true
 
--- "26 ..., exactly once", "28 ... at least one": seen at the next 21 or 2F
+-- a 26 and a 28 are there: "missing (seen at the next 21 or 2F)". A second 26 is refused where it stands (follows)
 unfoldable pub whole : Lines → Bool
 whole ls = any isOperations ls && any isPartLine ls
 

@@ -48,7 +48,7 @@ module _ (P : Setting) where
   unfoldable pub atomConds : Block → List Cond
   atomConds B = each (λ a. each (λ b. only (everywhere B (atom a b)) (atom a b)) (upTo (P .side resource .attrs))) (upTo (P .side user .attrs))
 
-  -- the covering rule of B at a level, with "the operations in B"
+  -- the covering rule of B, which is not empty, at a level, with "the operations in B"
   unfoldable pub cover : Block → ℕ → Rule
   cover B l = record { ops = maskOf (P .slots) (opIn B); conds = conjuncts B l user ++ conjuncts B l resource ++ atomConds B }
 

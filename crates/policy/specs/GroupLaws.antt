@@ -13,7 +13,7 @@ use native.Mathlib.Omega.{arith}
 use Rattle.policy.specs.CoverLaws.{exact-fits}
 use Rattle.policy.specs.Covering.{fits, levelOf}
 use Rattle.policy.specs.MergeLaws.{total, Every, Runs, run-runs, runs-apart, runs-count, runs-total, runs-every, runs-ascending, apart-at}
-use Rattle.policy.specs.Merging.{ones, union, mergeable, groups, merged}
+use Rattle.policy.specs.Merging.{ones, union, mergeable, groups, mergesMade}
 use Rattle.policy.specs.RuleLaws.{Lawful}
 use Rattle.policy.specs.Rules.{Setting, Rule, Block, grants, at, ruleLevel, Some, Same}
 use Rattle.policy.specs.ThinLaws.{written-exact, fits-same, written-level}
@@ -100,12 +100,12 @@ module _ (P : Setting) (block : ℕ → Block) where
       (λ k. let t = any-out (λ p. block p u r o) g k in any-in (λ p. block p u r o) (a (t .0) (t .1)) (t .2))
       (λ k. let t = any-out (λ p. block p u r o) h k in any-in (λ p. block p u r o) (b (t .0) (t .1)) (t .2))
 
-  mined : (n : ℕ) → Runs (mergeable P block) _++_ (ones 0 n) (groups P block n) (merged P block n)
-  unfolding groups merged
+  mined : (n : ℕ) → Runs (mergeable P block) _++_ (ones 0 n) (groups P block n) (mergesMade P block n)
+  unfolding groups mergesMade
   mined n = run-runs (mergeable P block) _++_ n (ones 0 n) (let e = ones-length 0 n in omega arith)
 
   -- parts = rules + merges
-  pub parts-count : (n : ℕ) → n ≡ length (groups P block n) + merged P block n
+  pub parts-count : (n : ℕ) → n ≡ length (groups P block n) + mergesMade P block n
   parts-count n = let e = runs-count (mergeable P block) _++_ (mined n) in let d = ones-length 0 n in omega arith
 
   -- every part stands in exactly one group, and there once

@@ -49,5 +49,5 @@ module _ (P : Setting) (block : ℕ → Block) where
   unfoldable pub groups : ℕ → List (List ℕ)
   groups n = run mergeable _++_ n (ones 0 n)
 
-  unfoldable pub merged : ℕ → ℕ
-  merged n = merges mergeable _++_ n (ones 0 n)
+  unfoldable pub mergesMade : ℕ → ℕ
+  mergesMade n = merges mergeable _++_ n (ones 0 n)

@@ -42,7 +42,8 @@ module _ (line : ℕ → ℕ → Bool) where
     one : {i j : ℕ} → Is (line i j) → Senior i j
     more : {i j k : ℕ} → Is (line i k) → Senior k j → Senior i j
 
-  -- the test of it: from one role to another, with roles below n between them. SeniorLaws shows that the two agree
+  -- the test of it: from one role to another, with roles below n between them. SeniorLaws shows that the two agree. It is a
+  -- definition to reason with: computed as it stands it takes 3 ^ n steps
   abbrev pub reach : ℕ → ℕ → ℕ → Bool
   reach zero i j = line i j
   reach (suc n) i j = reach n i j || (reach n i n && reach n n j)
@@ -53,6 +54,7 @@ order true x y = subset x y
 order false x y = eqb x y
 
 module _ (F : Policy) where
+  -- role k has the senior s
   unfoldable pub senior : ℕ → ℕ → Bool
   senior k s = reach (F .line) (F .roles) k s
 
@@ -88,5 +90,6 @@ module _ (F : Policy) where
   unfoldable pub settingOf : Setting
   settingOf = record { side = sideOf; slots = F .operations }
 
+  -- "inherited permissions never enter a block": a role gives what the file permits it itself
   unfoldable pub rolesIn : Roles
   rolesIn = record { number = F .roles; held = held; gives = F .permitted }

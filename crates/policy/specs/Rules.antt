@@ -25,7 +25,7 @@ pub record Side : Type 0 where
   pub isSet : ℕ → Bool
   -- the value of an attribute for somebody: "An attribute never given for somebody is unknown."
   pub value : ℕ → ℕ → Option ℕ
-  -- a listed value of an attribute is met by somebody's value (see Policy for the two sides)
+  -- attribute, listed value, somebody's value: the listed one is met (see Policy for the two sides)
   pub below : ℕ → ℕ → ℕ → Bool
 
 pub data Which : Type 0 where
@@ -77,7 +77,7 @@ pub record Rule : Type 0 where
   pub ops : ℕ
   pub conds : List Cond
 
--- a set of triples: user, resource, operation
+-- a set of triples: user, resource, operation. 01's block of a part is one (Roles, blockOf)
 abbrev pub Block : Type 0
 Block = ℕ → ℕ → ℕ → Bool
 
@@ -100,7 +100,7 @@ module _ (S : Side) where
   unfoldable pub attrsOf : Bool → List ℕ
   attrsOf b = upTo (S .attrs) ++ only b own
 
--- "Levels: 0 may use no 255, 1 the user one, 2 the resource one, 3 both."
+-- "Levels: 0 may use no 255, 1 the user one, 2 the resource one, 3 both." There are no others.
 abbrev pub ownAt : Which → ℕ → Bool
 ownAt user l = eqb l 1 || eqb l 3
 ownAt resource l = eqb l 2 || eqb l 3
@@ -119,7 +119,8 @@ module _ (P : Setting) where
   unfoldable pub grants : Rule → Block
   grants ρ u r o = bit (ρ .ops) o && all (λ c. holds c u r) (ρ .conds)
 
-  -- a condition is one of a level: "Neither [255] stands in an atom. User numbers stand in no rule."
+  -- a condition is one of a level: "Neither [255] stands in an atom." ("User numbers stand in no rule": the user 255 is a set
+  -- of roles.)
   unfoldable pub allowed : ℕ → Cond → Bool
   allowed l (conjunct w a vs) = elem a (attrsOf (P .side w) (ownAt w l))
   allowed l (atom a b) = ltb a (P .side user .attrs) && ltb b (P .side resource .attrs)
@@ -128,7 +129,7 @@ module _ (P : Setting) where
   unfoldable pub at : ℕ → Rule → Bool
   at l ρ = all (allowed l) (ρ .conds)
 
-  -- "A rule's level is the lowest that allows its conjuncts."
+  -- "A rule's level is the lowest that allows its conjuncts." Atoms without 255 are allowed at every level.
   unfoldable pub ruleLevel : Rule → ℕ
   ruleLevel ρ = lowest (λ l. at l ρ)
 

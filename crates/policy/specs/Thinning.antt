@@ -5,7 +5,7 @@ use lib.ListN.{length}
 use mathlib.Core.Bool.{Bool, cond, _&&_, not}
 use mathlib.Core.List.{List, [], _∷_, _++_, map}
 use Rattle.policy.specs.Covering.{cover, levelOf}
-use Rattle.policy.specs.Rules.{by, Setting, Cond, Rule, Block, grants, sameBlock, struck, conjunct, atom}
+use Rattle.policy.specs.Rules.{by, Setting, Cond, Rule, Block, grants, sameBlock, conjunct, atom}
 use Rattle.sets.specs.Sets.{size}
 use Rattle.sets.specs.Tests.{any, keep, sum}
 
@@ -25,9 +25,9 @@ module _ (le : ℕ → ℕ → Bool) where
 abbrev pub strike : {C : Type 0} → (List C → Bool) → List C → List C → List C
 strike ok pre [] = []
 strike ok pre (c ∷ t) =
-    let struck = strike ok pre t in
-    let kept = c ∷ strike ok (pre ++ (c ∷ [])) t in
-    cond (ok (pre ++ t)) struck kept
+    let goes = strike ok pre t in
+    let stays = c ∷ strike ok (pre ++ (c ∷ [])) t in
+    cond (ok (pre ++ t)) goes stays
 
 module _ (P : Setting) where
   -- "In user set conjuncts each set that strictly contains another listed set goes." (Among single values none does.)
@@ -40,7 +40,8 @@ module _ (P : Setting) where
   grantsJust B f cs = sameBlock P (grants P (record { ops = f; conds = cs })) B
 
   -- "Then conjuncts, users' first, each side by attribute number, and then atoms by user and resource attribute, are
-  -- struck one at a time where the grants stay the same." That is the order in which a covering rule has them.
+  -- struck one at a time where the grants stay the same." That is the order in which a covering rule has them; it grants B,
+  -- since B fits its level.
   unfoldable pub thinned : Block → Rule → Rule
   thinned B ρ = record { ops = ρ .ops; conds = strike (grantsJust B (ρ .ops)) [] (map trimCond (ρ .conds)) }
 
