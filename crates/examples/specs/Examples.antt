@@ -18,7 +18,7 @@ use Rattle.policy.specs.Roles.{alike, leads, isPart, parts, blockOf, classOf, r
 use Rattle.policy.specs.Rules.{meets, attrsOf, holds, grants, allowed, at, ruleLevel, sameBlock, user, resource}
 use Rattle.policy.specs.Thinning.{trim, trimCond, grantsJust, thinned, written, singleCost, setCost, atomCost, ruleCost}
 use Rattle.sets.specs.Lowest.{lowest}
-use Rattle.sets.specs.Sets.{bit, subset, size}
+use Rattle.sets.specs.Sets.{bit, subset, maskOf, size}
 use Rattle.sets.specs.Tests.{all}
 
 -- a row: what the definitions say, and what 01 says
@@ -634,5 +634,5 @@ table =
     ∷ []
 
 pub shown : all (λ (r : Row). sameList (r .said) (r .wanted)) table ≡ true
-unfolding allKnow valuesOf opIn pairIn standsIn everywhere conjuncts atomConds cover fits levelOf lowest union mergeable groups mergesMade partCount partAt partBlock minedGroups mergeCount groupBlock ruleOf senior circular held rolesOf isSetAt valueAt sideOf settingOf rolesIn alike leads isPart parts blockOf classOf rolesGrant meets attrsOf holds grants allowed at ruleLevel sameBlock bit subset size trim trimCond grantsJust thinned written singleCost setCost atomCost ruleCost triples isTriple rulesGrant partsGrant firstDifference firstStrayRule firstStrayPart verdict minedLines minedBytes minedCounts mayMine mineAnswer mineOutput roleQuestion readBoth ruleQuestion judge blank withTable withKind withValue withAssigned withPermitted withLine takeKind takeValue takeAssignment takePermission takeLine takeSizes obeyRole roleFormat readRoles valuesIn conjunctsIn ruleIn lists partsIn listings condLines linesOf allLines encode encodeAll legal whole finished follows addLine obeyRule ruleFormat readRules fileA nobody oneOfTwo inherits inheritsNot unequalResources equalResources setOneTwo roleTwice circleOfTwo users64 users65 resources65 operations17 roles33 roles32WithoutEnd emptyOrUnknown knownEmpty seniorAndJunior noHolder atomOfOne atomAlone above63 secondRound firstPair levelsApart higherOfTwo oneBelowTwo classesAsNumbers halfOfA numbersBeforeKinds atomsInOrder moreRoles threeRights twoOperations twins singleAndSet byteBehindEnd circleAndByteBehindEnd circleWithoutEnd users65ThenUnknown users65WithoutEnd sizesTwice declaredLate sixAttributes sevenAttributes singleForSet singleForSetBeyond givenTwice repeats rulesA noRules anybody atomRule userSetOne resourceSetOne resourceSetOneTwo userSetEmpty resourceSetEmpty operation1OfRole0 operation1OfRole1 notFirstPart eachItsOwn wrongOperation firstTooWide secondTooWide listedTwice values255and256 values256and255 anyRoles role2 resource2 userNumber withoutPart withoutOperations operationsTwice undeclaredOperation zeroOperations twoParts threeParts firstTwoParts ascendingClasses resourceAndAtom valueOfSecond lastAtom smallestRoles table
+unfolding maskOf allKnow valuesOf opIn pairIn standsIn everywhere conjuncts atomConds cover fits levelOf lowest union mergeable groups mergesMade partCount partAt partBlock minedGroups mergeCount groupBlock ruleOf senior circular held rolesOf isSetAt valueAt sideOf settingOf rolesIn alike leads isPart parts blockOf classOf rolesGrant meets attrsOf holds grants allowed at ruleLevel sameBlock bit subset size trim trimCond grantsJust thinned written singleCost setCost atomCost ruleCost triples isTriple rulesGrant partsGrant firstDifference firstStrayRule firstStrayPart verdict minedLines minedBytes minedCounts mayMine mineAnswer mineOutput roleQuestion readBoth ruleQuestion judge blank withTable withKind withValue withAssigned withPermitted withLine takeKind takeValue takeAssignment takePermission takeLine takeSizes obeyRole roleFormat readRoles valuesIn conjunctsIn ruleIn lists partsIn listings condLines linesOf allLines encode encodeAll legal whole finished follows addLine obeyRule ruleFormat readRules fileA nobody oneOfTwo inherits inheritsNot unequalResources equalResources setOneTwo roleTwice circleOfTwo users64 users65 resources65 operations17 roles33 roles32WithoutEnd emptyOrUnknown knownEmpty seniorAndJunior noHolder atomOfOne atomAlone above63 secondRound firstPair levelsApart higherOfTwo oneBelowTwo classesAsNumbers halfOfA numbersBeforeKinds atomsInOrder moreRoles threeRights twoOperations twins singleAndSet byteBehindEnd circleAndByteBehindEnd circleWithoutEnd users65ThenUnknown users65WithoutEnd sizesTwice declaredLate sixAttributes sevenAttributes singleForSet singleForSetBeyond givenTwice repeats rulesA noRules anybody atomRule userSetOne resourceSetOne resourceSetOneTwo userSetEmpty resourceSetEmpty operation1OfRole0 operation1OfRole1 notFirstPart eachItsOwn wrongOperation firstTooWide secondTooWide listedTwice values255and256 values256and255 anyRoles role2 resource2 userNumber withoutPart withoutOperations operationsTwice undeclaredOperation zeroOperations twoParts threeParts firstTwoParts ascendingClasses resourceAndAtom valueOfSecond lastAtom smallestRoles table
 shown = refl

@@ -21,7 +21,7 @@ use Rattle.files.specs.WriteLaws.{Encodable}
 use Rattle.policy.specs.Policy.{Table, Policy, kindOf, circular, held, rolesOf, isSetAt, valueAt, sideOf, settingOf, rolesIn}
 use Rattle.policy.specs.PolicyLaws.{owned}
 use Rattle.policy.specs.Rules.{own, Which, by, user, resource}
-use Rattle.policy.specs.WrittenLaws.{mask-lt}
+use Rattle.sets.specs.MaskLaws.{mask-lt}
 use Rattle.sets.specs.Sets.{maskOf}
 use Rattle.sets.specs.Tests.{Is, and-l, and-r, or-out, test, iff, iff-out, isSome}
 

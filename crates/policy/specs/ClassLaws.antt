@@ -13,7 +13,7 @@ use Rattle.policy.specs.OrderLaws.{key}
 use Rattle.policy.specs.PartLaws.{alike-in, parts-out}
 use Rattle.policy.specs.Roles.{Roles, Part, alike, leads, isPart, parts, classOf}
 use Rattle.policy.specs.Rules.{Setting, user, resource}
-use Rattle.policy.specs.WrittenLaws.{mask-lt}
+use Rattle.sets.specs.MaskLaws.{mask-lt}
 use Rattle.sets.specs.Sets.{bit, maskOf, bit-mask}
 use Rattle.sets.specs.Sorted.{Ascending, each-rising, only-rising, from-rising, none-left, and-then}
 use Rattle.sets.specs.Tests.{Is, and-r, never, test, _∈_, any, any-in, each, each-out, only, only-out, upTo, upTo-in, upTo-out, getD-in, not-out}

@@ -3,7 +3,7 @@
 use Prim.Native.Nat.{ℕ, _^_, _<_}
 use borrow.Author.Tests.{eqb-true, eq-eqb}
 use lib.Dec.{eqb}
-use mathlib.Core.Bool.{Bool, true, false, _&&_, or-false}
+use mathlib.Core.Bool.{Bool, true, false, _&&_}
 use mathlib.Core.Path.{_≡_, refl, sym, _∙_}
 use Rattle.policy.specs.MinedLaws.{MinedRules, mined-rules}
 use Rattle.policy.specs.PartLaws.{alike-out, roles-grant, Own}
@@ -11,6 +11,7 @@ use Rattle.policy.specs.Policy.{Policy, order, senior, held, rolesOf, is
 use Rattle.policy.specs.Roles.{Part, blockOf, rolesGrant, someRoleGives}
 use Rattle.policy.specs.RuleLaws.{Lawful}
 use Rattle.policy.specs.Rules.{by, meets, Triple, resource}
+use Rattle.sets.specs.MaskLaws.{or-false}
 use Rattle.sets.specs.Sets.{subset, subset-self, subset-chain, one-subset, bit-mask}
 use Rattle.sets.specs.Tests.{Is, and-in, and-l, and-r, or-r, same, any, any-in, upTo, upTo-in, any-ext}
 

@@ -1,15 +1,14 @@
 -- What a written rule is made of: values that somebody has, atoms of the three forms, operations of the policy.
 -- Assumes nothing.
-use Prim.Native.Nat.{ℕ, zero, suc, _+_, _*_, _^_, _≤_, _<_}
+use Prim.Native.Nat.{ℕ, _^_, _≤_, _<_}
 use borrow.Author.Tests.{ltb-true, ltb-false, lt-ltb}
 use lib.Dec.{ltb}
 use lib.ListN.{length}
-use mathlib.Core.Bool.{Bool, true, false, cond}
+use mathlib.Core.Bool.{Bool, false}
 use mathlib.Core.List.{List, [], List·Memᴰ·head, List·Memᴰ·tail, map}
 use mathlib.Core.Logic.{_⊎_, inl, inr}
 use mathlib.Core.Option.{Option, none, some}
 use mathlib.Core.Path.{_≡_, refl, sym, _∙_, subst}
-use native.Mathlib.Nat.{pow-suc}
 use native.Mathlib.Omega.{arith}
 use Rattle.policy.specs.CoverLaws.{op-in, conjuncts-out, atomConds-out, cover-cases}
 use Rattle.policy.specs.Covering.{opIn, standsIn, conjuncts, atomConds, cover, fits, levelOf}
@@ -21,18 +20,11 @@ use Rattle.policy.specs.StrikeLaws.{strike-within}
 use Rattle.policy.specs.ThinLaws.{at-3, written-exact, written-at}
 use Rattle.policy.specs.Thinning.{trimCond, grantsJust, thinned, written}
 use Rattle.policy.specs.TrimLaws.{trim-out}
+use Rattle.sets.specs.MaskLaws.{mask-lt}
 use Rattle.sets.specs.Sets.{bit, bit-none, maskOf, bit-mask}
 use Rattle.sets.specs.Tests.{Is, and-in, never, test, _∈_, all-out, all-in, map-out, isSome}
 
 -- ---- masks
-
-pub mask-lt : (n : ℕ) (f : ℕ → Bool) → maskOf n f < 2 ^ n
-mask-lt zero f = omega arith
-mask-lt (suc n) f = go (f 0) (mask-lt n (λ i. f (suc i)))
-  where
-    go : (b : Bool) → maskOf n (λ i. f (suc i)) < 2 ^ n → cond b 1 0 + 2 * maskOf n (λ i. f (suc i)) < 2 ^ suc n
-    go true h = omega (arith, pow-suc 2 n)
-    go false h = omega (arith, pow-suc 2 n)
 
 pub mask-some : (n : ℕ) (f : ℕ → Bool) (i : ℕ) → i < n → Is (f i) → 0 < maskOf n f
 mask-some n f i l h = test (ltb 0 (maskOf n f)) (λ p. ltb-true 0 (maskOf n f) p) (λ p. never (bit-mask n f i l ∙ h) (empty (ltb-false 0 (maskOf n f) p)))

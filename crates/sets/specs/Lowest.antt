@@ -15,7 +15,6 @@ abbrev pub lowestFrom : (ℕ → Bool) → ℕ → ℕ → ℕ
 lowestFrom f k zero = k
 lowestFrom f k (suc n) = let r = lowestFrom f (suc k) n in cond (f k) k r
 
--- the lowest of the levels 0 to 3 that passes, and 3 if none below it does: whoever asks shows that 3 passes
 unfoldable pub lowest : (ℕ → Bool) → ℕ
 lowest f = lowestFrom f 0 3
 

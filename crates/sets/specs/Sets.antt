@@ -107,7 +107,7 @@ one-subset k a =
     (λ h. subset-in (2 ^ k) a λ n p. rw (eqb-true n k (sym (bit-one n k) ∙ p)) h)
 
 -- the set of the numbers below n that pass a test
-abbrev pub maskOf : ℕ → (ℕ → Bool) → ℕ
+unfoldable pub maskOf : ℕ → (ℕ → Bool) → ℕ
 maskOf zero f = 0
 maskOf (suc n) f = cond (f 0) 1 0 + 2 * maskOf n (λ i. f (suc i))
 
@@ -116,6 +116,7 @@ flag true m = (eq-eqb ((1 + 2 * m) % 2) 1 (omega arith), omega arith)
 flag false m = (ne-eqb ((0 + 2 * m) % 2) 1 (omega arith), omega arith)
 
 pub bit-mask : (n : ℕ) (f : ℕ → Bool) (i : ℕ) → i < n → bit (maskOf n f) i ≡ f i
+unfolding maskOf
 bit-mask zero f i h = absurd (omega arith)
 bit-mask (suc n) f zero h = bit-zero _ ∙ flag (f 0) (maskOf n (λ i. f (suc i))) .0
 bit-mask (suc n) f (suc i) h =

@@ -1,0 +1,5 @@
+pub mod Reading
+pub mod ReadLaws
+pub mod StateLaws
+pub mod SettleLaws
+pub mod SizedLaws

@@ -1,0 +1,143 @@
+// Reads a role file into one record by value.
+ghost use mathlib.Core.Path.{_≡_};
+ghost use Prim.Native.Nat.{_+_, _*_, _≤_, _<_};
+ghost use lib.Dec.{eqb};
+ghost use lib.ListN.{length, getD};
+ghost use Rattle.files.specs.RoleFile.{readRoles};
+ghost use Rattle.loaded.specs.Record.{markedIf};
+ghost use Rattle.rolefile.specs.Reading.{refusal, settledOf, loadedOf};
+use commands::Command;
+use commands::Decoded;
+use loaded::RoleFile;
+
+// A role file read: 0 and the record, or the number of the refusal and the empty record.
+pub struct Loaded {
+    pub code: usize,
+    pub file: RoleFile,
+}
+
+pub fn refuse(n: usize) -> Loaded
+    ensures { λ r. ⌜ r ≡ refusal n ⌝ }
+{
+    let e = RoleFile::empty();
+    Loaded { code: n, file: e }
+}
+
+// The set with x in it too, if the kind is that of sets.
+fn mark(m: u64, x: usize, kind: usize) -> u64
+    ensures { λ r. ⌜ r ≡ markedIf (eqb kind 1) m x ⌝ }
+{
+    if kind == 1 { sets::with(m, x) } else { m }
+}
+
+// Works out seniors and holders, or refuses where a role is its own senior.
+fn settle(f: RoleFile) -> Loaded
+    requires { ⌜ f .roles ≤ 32 ⌝ }
+    ensures { λ r. ⌜ r ≡ settledOf f ⌝ }
+{
+    let mut above = f.lines;
+    seniority::close(&mut above, f.roles);
+    if seniority::circular(&above, f.roles) {
+        return refuse(7);
+    }
+    let mut held = [0u64; 32];
+    seniority::holders(&f.assigned, &above, f.roles, &mut held);
+    let mut g = f;
+    g.seniors = above;
+    g.holders = held;
+    Loaded { code: 0, file: g }
+}
+
+// Reads a role file: one pass over its bytes, each command stored where it belongs.
+pub fn read(s: &[u8]) -> Loaded
+    ensures { λ r. ⌜ r ≡ loadedOf (readRoles 2 (now (s .entry))) ⌝ }
+{
+    if 65535 < s.len() {
+        return refuse(1);
+    }
+    let mut f = RoleFile::empty();
+    let mut phase: usize = 0;
+    let mut at: usize = 0;
+    loop {
+        match commands::decode(&s[at..]) {
+            Decoded::Unknown => {
+                return refuse(3);
+            }
+            Decoded::Short => {
+                return refuse(2);
+            }
+            Decoded::Whole(c, w) => {
+                let v = admit::admit(
+                    c,
+                    phase,
+                    f.users,
+                    f.resources,
+                    f.operations,
+                    f.roles,
+                    &f.attributes,
+                    &f.kinds,
+                    &f.known,
+                );
+                if v != 0 {
+                    return refuse(v);
+                }
+                at = at + w;
+                match c {
+                    Command::Sizes {
+                        users,
+                        resources,
+                        operations,
+                        roles,
+                    } => {
+                        f.users = users;
+                        f.resources = resources;
+                        f.operations = operations;
+                        f.roles = roles;
+                        phase = 1;
+                    }
+                    Command::Declare { side, kind } => {
+                        let n = f.attributes[side];
+                        f.kinds[side] = mark(f.kinds[side], n, kind);
+                        f.attributes[side] = n + 1;
+                        phase = 1;
+                    }
+                    Command::Give {
+                        set: _,
+                        side,
+                        attribute,
+                        who,
+                        value,
+                    } => {
+                        let slot = RoleFile::ATTRIBUTES * side + attribute;
+                        f.known[slot] = sets::with(f.known[slot], who);
+                        f.values[64 * slot + who] = value;
+                        phase = 2;
+                    }
+                    Command::Assign { role, user } => {
+                        f.assigned[role] = sets::with(f.assigned[role], user);
+                        phase = 2;
+                    }
+                    Command::Permit {
+                        role,
+                        resource,
+                        operation,
+                    } => {
+                        let i = RoleFile::OPERATIONS * role + operation;
+                        f.permissions[i] = sets::with(f.permissions[i], resource);
+                        phase = 2;
+                    }
+                    Command::Line { junior, senior } => {
+                        f.lines[junior] = sets::with(f.lines[junior], senior);
+                        phase = 2;
+                    }
+                    Command::End => {
+                        if at == s.len() {
+                            return settle(f);
+                        }
+                        return refuse(4);
+                    }
+                }
+            }
+        }
+    }
+}

@@ -1,0 +1,76 @@
+// The role question: whether the roles of a role file grant a user an operation on a resource.
+ghost use mathlib.Core.Path.{_≡_};
+ghost use mathlib.Core.Bool.{_&&_};
+ghost use Prim.Native.Nat.{_+_, _*_, _≤_, _<_};
+ghost use lib.ListN.{length, getD};
+ghost use Rattle.files.specs.Calls.{roleQuestion};
+ghost use Rattle.sets.specs.Sets.{bit};
+ghost use Rattle.sets.specs.Tests.{any, upTo};
+ghost use Rattle.rolequestion.specs.Reply.{replyOf};
+
+pub enum Reply {
+    Yes,
+    No,
+    Refused(usize),
+}
+
+// Whether one number is in one set and another in another.
+fn in_both(a: u64, x: usize, b: u64, y: usize) -> bool
+    ensures { λ r. ⌜ r ≡ (bit a x && bit b y) ⌝ }
+{
+    if sets::has(a, x) {
+        return sets::has(b, y);
+    }
+    false
+}
+
+// Whether a role that the user holds has the permission.
+fn granted<'a>(
+    holders: &'a [u64; 32],
+    permissions: &'a [u64; 512],
+    roles: usize,
+    user: usize,
+    resource: usize,
+    operation: usize,
+) -> bool
+    requires { ⌜ (roles ≤ 32) × (operation < 16) ⌝ }
+    ensures { λ r. ⌜ r ≡ any (λ k. bit (getD (now (holders .entry)) k 0) user && bit (getD (now (permissions .entry)) (16 * k + operation) 0) resource) (upTo roles) ⌝ }
+{
+    for k in 0..roles {
+        if in_both(holders[k], user, permissions[16 * k + operation], resource) {
+            return true;
+        }
+    }
+    false
+}
+
+// Any numbers may be handed in: a number beyond the sizes is refused, after the file's own refusals.
+pub fn ask(file: &[u8], user: usize, resource: usize, operation: usize) -> Reply
+    ensures { λ r. ⌜ r ≡ replyOf (roleQuestion 2 (now (file .entry)) user resource operation) ⌝ }
+{
+    let l = rolefile::read(file);
+    if l.code != 0 {
+        return Reply::Refused(l.code);
+    }
+    let f = l.file;
+    if f.users <= user {
+        return Reply::Refused(5);
+    }
+    if f.resources <= resource {
+        return Reply::Refused(5);
+    }
+    if f.operations <= operation {
+        return Reply::Refused(5);
+    }
+    if granted(
+        &f.holders,
+        &f.permissions,
+        f.roles,
+        user,
+        resource,
+        operation,
+    ) {
+        return Reply::Yes;
+    }
+    Reply::No
+}
