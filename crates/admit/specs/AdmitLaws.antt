@@ -30,14 +30,15 @@ phaseCode nothing = 0
 phaseCode declaring = 1
 phaseCode telling = 2
 
--- the sizes that a record has room for
+-- the sizes that a record has room for; assignments, permissions and lines are within the declared ones
 pub record Sized (F : Policy) : Type 0 where
   pub many : (w : Which) → F .table w .count ≤ 64
   pub declared : (w : Which) → length (F .table w .kinds) ≤ 6
   pub operable : F .operations ≤ 16
   pub few : F .roles ≤ 32
-  pub lined : (i j : ℕ) → Is (F .line i j) → (i < 32) × (j < 64)
-  pub assigned-to : (k u : ℕ) → Is (F .assigned k u) → (k < 32) × (u < 64)
+  pub lined : (i j : ℕ) → Is (F .line i j) → (i < F .roles) × (j < F .roles)
+  pub assigned-to : (k u : ℕ) → Is (F .assigned k u) → (k < F .roles) × (u < F .table user .count)
+  pub permits : (k r o : ℕ) → Is (F .permitted k r o) → (k < F .roles) × (r < F .table resource .count) × (o < F .operations)
 
 -- ---- codes of answers
 
@@ -93,7 +94,7 @@ side-attributes F zero h = refl
 side-attributes F (suc zero) h = refl
 side-attributes F (suc (suc n)) h = absurd (omega arith)
 
-side-kinds : (F : Policy) (side : ℕ) → side < 2 → getD (kindTable F) side 0 ≡ maskOf 64 (kindOf (F .table (sideBy side)))
+pub side-kinds : (F : Policy) (side : ℕ) → side < 2 → getD (kindTable F) side 0 ≡ maskOf 64 (kindOf (F .table (sideBy side)))
 unfolding kindTable
 side-kinds F zero h = refl
 side-kinds F (suc zero) h = refl
@@ -104,17 +105,18 @@ side-count F zero h = refl
 side-count F (suc zero) h = refl
 side-count F (suc (suc n)) h = absurd (omega arith)
 
-slot-known : (F : Policy) (side a x : ℕ) → side < 2 → a < 6 → x < 64 → bit (getD (knownTable F) (6 * side + a) 0) x ≡ isSome (F .table (sideBy side) .value a x)
+-- the side of a slot
+pub slot-side : (side a : ℕ) → side < 2 → a < 6 → slotSide (6 * side + a) ≡ sideBy side
+slot-side zero a h ha = rw (lt-ltb (6 * 0 + a) 6 (omega arith)) refl
+slot-side (suc zero) a h ha = rw (le-ltb (6 * 1 + a) 6 (omega arith)) refl
+slot-side (suc (suc n)) a h ha = absurd (omega arith)
+
+pub slot-known : (F : Policy) (side a x : ℕ) → side < 2 → a < 6 → x < 64 → bit (getD (knownTable F) (6 * side + a) 0) x ≡ isSome (F .table (sideBy side) .value a x)
 unfolding knownTable
 slot-known F side a x hs ha hx =
     ap (λ (m : ℕ). bit m x) (table-get 12 (λ s. maskOf 64 (λ y. isSome (F .table (slotSide s) .value (s % 6) y))) (6 * side + a) (omega arith))
     ∙ bit-mask 64 (λ y. isSome (F .table (slotSide (6 * side + a)) .value ((6 * side + a) % 6) y)) x hx
-    ∙ ap₂ (λ (w : Which) (b : ℕ). isSome (F .table w .value b x)) (which side hs) (let e : (6 * side + a) % 6 ≡ a = omega arith in e)
-  where
-    which : (side : ℕ) → side < 2 → slotSide (6 * side + a) ≡ sideBy side
-    which zero h = rw (lt-ltb (6 * 0 + a) 6 (omega arith)) refl
-    which (suc zero) h = rw (le-ltb (6 * 1 + a) 6 (omega arith)) refl
-    which (suc (suc n)) h = absurd (omega arith)
+    ∙ ap₂ (λ (w : Which) (b : ℕ). isSome (F .table w .value b x)) (slot-side side a hs ha) (let e : (6 * side + a) % 6 ≡ a = omega arith in e)
 
 sizes-code : (u r o k : ℕ) → codeOf (takeSizes 2 u r o k) ≡ belowOf u 65 (belowOf r 65 (belowOf o 17 (belowOf k 33 0)))
 unfolding takeSizes belowOf

@@ -42,22 +42,22 @@ number-short (suc w) i l h k =
     ap (number (suc w)) (drop-cons i l p) ∙ ap (Option·map (λ (p : ℕ × List ℕ). (getD l i 0 + 256 * p .0, p .1))) (number-short w (suc i) l (omega arith) (omega arith)))
     (λ e. ap (number (suc w)) (drop-of-length-le l {i = i} (ltb-false i (length l) e)))
 
-abbrev totalOf : List ℕ → ℕ
+abbrev pub totalOf : List ℕ → ℕ
 totalOf [] = 0
 totalOf (w ∷ ws) = w + totalOf ws
 
-abbrev numbersAt : List ℕ → List ℕ → ℕ → List ℕ
+abbrev pub numbersAt : List ℕ → List ℕ → ℕ → List ℕ
 numbersAt [] l i = []
 numbersAt (w ∷ ws) l i = numberAt w l i ∷ numbersAt ws l (i + w)
 
-operands-at : (ws : List ℕ) (i : ℕ) (l : List ℕ) → i + totalOf ws ≤ length l → operands ws (drop i l) ≡ some (numbersAt ws l i, drop (i + totalOf ws) l)
+pub operands-at : (ws : List ℕ) (i : ℕ) (l : List ℕ) → i + totalOf ws ≤ length l → operands ws (drop i l) ≡ some (numbersAt ws l i, drop (i + totalOf ws) l)
 operands-at [] i l h = let e : i ≡ i + 0 = omega arith in ap (λ (k : ℕ). some ([], drop k l)) e
 operands-at (w ∷ ws) i l h =
     ap (oneMore (operands ws)) (number-at w i l (omega arith))
     ∙ ap (Option·map (λ (q : List ℕ × List ℕ). (numberAt w l i ∷ q .0, q .1))) (operands-at ws (i + w) l (omega arith))
     ∙ (let e : i + w + totalOf ws ≡ i + (w + totalOf ws) = omega arith in ap (λ (k : ℕ). some (numberAt w l i ∷ numbersAt ws l (i + w), drop k l)) e)
 
-operands-short : (ws : List ℕ) (i : ℕ) (l : List ℕ) → i ≤ length l → length l < i + totalOf ws → operands ws (drop i l) ≡ none
+pub operands-short : (ws : List ℕ) (i : ℕ) (l : List ℕ) → i ≤ length l → length l < i + totalOf ws → operands ws (drop i l) ≡ none
 operands-short [] i l h k = absurd (omega arith)
 operands-short (w ∷ ws) i l h k =
     test (leb (i + w) (length l))
@@ -129,7 +129,7 @@ tagOf (Whole c w) = 2
 tagOf Unknown = 1
 tagOf Short = 0
 
-first-byte : (b : ℕ) (bs : List ℕ) → numberAt 1 (b ∷ bs) 0 ≡ b
+pub first-byte : (b : ℕ) (bs : List ℕ) → numberAt 1 (b ∷ bs) 0 ≡ b
 first-byte b bs = omega arith
 
 -- one turn of reading, by what was decoded at the front

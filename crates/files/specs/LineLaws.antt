@@ -27,7 +27,7 @@ same-side user resource h = absurd (false≢true h)
 same-side resource user h = absurd (false≢true h)
 same-side resource resource h = refl
 
-side-same : (w : Which) → Is (sameSide w w)
+pub side-same : (w : Which) → Is (sameSide w w)
 side-same user = refl
 side-same resource = refl
 

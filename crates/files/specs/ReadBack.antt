@@ -1,7 +1,7 @@
 -- The reader takes back every file of rules that ascend, are whole and have legal operands.
 -- Assumes nothing.
 use Prim.Native.Nat.{ℕ, suc}
-use lib.ListN.{length, getD, drop, set}
+use lib.ListN.{length, getD, set, drop}
 use mathlib.Core.Bool.{Bool, true, false, _&&_, false≢true}
 use mathlib.Core.List.{List, [], _∷_, _++_, append-assoc, List·Memᴰ·head, List·Memᴰ·tail, List·Memᴰ·not-nil, Memᴰ·append-left, Memᴰ·append-right, List·Memᴰ·cases-cons, append-nil}
 use mathlib.Core.Logic.{_⊎_, inl, inr}

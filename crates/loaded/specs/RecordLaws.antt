@@ -13,36 +13,28 @@ use Rattle.files.specs.RoleFile.{sideBy, sameSide, withTable, withKind, withVal
 use Rattle.loaded.specs.Record.{tableOf, slotSide, numberOr, marked, markedIf, knownTable, valueTable, assignedTable, lineTable, permissionTable, attributeTable, kindTable}
 use Rattle.policy.specs.Policy.{Table, Policy, kindOf, one}
 use Rattle.policy.specs.Rules.{Which, user, resource}
+use Rattle.sets.specs.LoopLaws.{table-long, table-at, table-same}
 use Rattle.sets.specs.MaskLaws.{and-true, bit-maskOf, mask-same}
 use Rattle.sets.specs.Sets.{bit, bit-none, maskOf, bit-mask}
 use Rattle.sets.specs.Tests.{Is, and-in, and-l, and-r, never, test, fails, same, from, isSome}
 
 -- ---- tables
 
-map-from : (f : ℕ → ℕ) (k n i d : ℕ) → i < n → getD (map f (from k n)) i d ≡ f (k + i)
-map-from f k zero i d h = absurd (omega arith)
-map-from f k (suc n) zero d h = let e : k ≡ k + 0 = omega arith in ap f e
-map-from f k (suc n) (suc i) d h = map-from f (suc k) n i d (omega arith) ∙ (let e : suc k + i ≡ k + suc i = omega arith in ap f e)
-
 pub table-get : (n : ℕ) (f : ℕ → ℕ) (i : ℕ) → i < n → getD (tableOf n f) i 0 ≡ f i
 unfolding tableOf
-table-get n f i h = map-from f 0 n i 0 h ∙ (let e : 0 + i ≡ i = omega arith in ap f e)
+table-get n f i h = table-at n f i h
+
+pub table-length : (n : ℕ) (f : ℕ → ℕ) → length (tableOf n f) ≡ n
+unfolding tableOf
+table-length n f = table-long n f
+
+pub table-ext : (n : ℕ) (f g : ℕ → ℕ) → ((j : ℕ) → j < n → f j ≡ g j) → tableOf n f ≡ tableOf n g
+unfolding tableOf
+table-ext n f g h = table-same n f g h
 
 from-ext : (f g : ℕ → ℕ) (k n : ℕ) → ((j : ℕ) → k ≤ j → j < k + n → f j ≡ g j) → map f (from k n) ≡ map g (from k n)
 from-ext f g k zero h = refl
 from-ext f g k (suc n) h = ap₂ _∷_ (h k (omega arith) (omega arith)) (from-ext f g (suc k) n (λ j a b. h j (omega arith) (omega arith)))
-
-map-length : (f : ℕ → ℕ) (k n : ℕ) → length (map f (from k n)) ≡ n
-map-length f k zero = refl
-map-length f k (suc n) = ap suc (map-length f (suc k) n)
-
-pub table-length : (n : ℕ) (f : ℕ → ℕ) → length (tableOf n f) ≡ n
-unfolding tableOf
-table-length n f = map-length f 0 n
-
-pub table-ext : (n : ℕ) (f g : ℕ → ℕ) → ((j : ℕ) → j < n → f j ≡ g j) → tableOf n f ≡ tableOf n g
-unfolding tableOf
-table-ext n f g h = from-ext f g 0 n (λ j a b. h j (omega arith))
 
 from-set : (f g : ℕ → ℕ) (k n i : ℕ) → i < n → ((j : ℕ) → k ≤ j → j < k + n → (j ≡ k + i → ⊥) → f j ≡ g j) → set (map f (from k n)) i (g (k + i)) ≡ map g (from k n)
 from-set f g k zero i h e = absurd (omega arith)

@@ -4,19 +4,20 @@ use Prim.Native.Nat.{ℕ, zero, suc, _+_, _*_, _^_, _<_}
 use borrow.Author.Tests.{ltb-true, ltb-false}
 use lib.Dec.{ltb}
 use lib.ListN.{length, getD}
+use mathlib.Core.Bool.{false}
 use mathlib.Core.List.{List}
 use mathlib.Core.Path.{_≡_, refl, sym, ap, ap₂, _∙_}
 use native.Mathlib.Nat.{mul-le-mul-left, mul-suc}
 use native.Mathlib.Omega.{arith}
 use Rattle.policy.specs.Mined.{partCount, partAt}
 use Rattle.policy.specs.OrderLaws.{key}
-use Rattle.policy.specs.PartLaws.{alike-in, parts-out}
+use Rattle.policy.specs.PartLaws.{alike-out, alike-in, parts-out}
 use Rattle.policy.specs.Roles.{Roles, Part, alike, leads, isPart, parts, classOf}
 use Rattle.policy.specs.Rules.{Setting, user, resource}
 use Rattle.sets.specs.MaskLaws.{mask-lt}
 use Rattle.sets.specs.Sets.{bit, maskOf, bit-mask}
 use Rattle.sets.specs.Sorted.{Ascending, each-rising, only-rising, from-rising, none-left, and-then}
-use Rattle.sets.specs.Tests.{Is, and-r, never, test, _∈_, any, any-in, each, each-out, only, only-out, upTo, upTo-in, upTo-out, getD-in, not-out}
+use Rattle.sets.specs.Tests.{Is, and-l, and-r, never, test, fails, _∈_, any, any-in, any-out, each, each-out, only, only-out, upTo, upTo-in, upTo-out, getD-in, not-out}
 
 -- in an ascending list a later place has a higher number
 pub asc-places : {A : Type 0} (key : A → ℕ) {l : List A} (d : A) → Ascending key l → (i j : ℕ) → i < j → j < length l → key (getD l i d) < key (getD l j d)
@@ -96,3 +97,32 @@ module _ (P : Setting) (R : Roles) where
   pub class-lt : (p : Part) → classOf P R p < 2 ^ P .slots
   unfolding classOf
   class-lt p = mask-lt (P .slots) (alike P R (p .role) (p .lead))
+
+  -- what a part says of itself
+  pub record PartFacts (p : Part) : Type 0 where
+    pub in-roles : p .role < R .number
+    pub in-slots : p .lead < P .slots
+    pub someone : (u : ℕ) × (u < P .side user .count) × Is (R .held (p .role) u)
+    pub something : (r : ℕ) × (r < P .side resource .count) × Is (R .gives (p .role) r (p .lead))
+    -- its lowest operation is in its class, and no lower one
+    pub class-has : Is (bit (classOf P R p) (p .lead))
+    pub class-lowest : (q : ℕ) → q < p .lead → bit (classOf P R p) q ≡ false
+
+  pub part-facts : {p : Part} → p ∈ parts P R → PartFacts p
+  unfolding isPart leads classOf
+  part-facts {p} m =
+      let t = parts-out P R m in
+      let hu = any-out (λ u. R .held (p .role) u) (upTo (P .side user .count)) (and-l (any (λ u. R .held (p .role) u) (upTo (P .side user .count))) _ (t .2)) in
+      let hl = and-r (any (λ u. R .held (p .role) u) (upTo (P .side user .count))) _ (t .2) in
+      let hr = any-out (λ r. R .gives (p .role) r (p .lead)) (upTo (P .side resource .count)) (and-l (any (λ r. R .gives (p .role) r (p .lead)) (upTo (P .side resource .count))) _ hl) in
+      let none-lower = not-out (any (λ o. alike P R (p .role) o (p .lead)) (upTo (p .lead))) (and-r (any (λ r. R .gives (p .role) r (p .lead)) (upTo (P .side resource .count))) _ hl) in
+      record {
+        in-roles = t .0;
+        in-slots = t .1;
+        someone = (hu .0, upTo-out (P .side user .count) (hu .1), hu .2);
+        something = (hr .0, upTo-out (P .side resource .count) (hr .1), hr .2);
+        class-has = bit-mask (P .slots) (alike P R (p .role) (p .lead)) (p .lead) (t .1) ∙ alike-in P R (p .role) (p .lead) (p .lead) (λ r l. refl);
+        class-lowest = λ q l. let n = t .1 in
+            fails (bit (maskOf (P .slots) (alike P R (p .role) (p .lead))) q) λ h.
+            never (any-in (λ o. alike P R (p .role) o (p .lead)) (upTo-in l) (alike-in P R (p .role) q (p .lead) (λ r lr. sym (alike-out P R (p .role) (p .lead) q r lr (sym (bit-mask (P .slots) (alike P R (p .role) (p .lead)) q (omega arith)) ∙ h))))) none-lower;
+      }

@@ -77,6 +77,13 @@ module _ (P : Setting) (R : Roles) where
       let q = only-out (isPart P R (t .0) (s .0)) (s .2) in
       rw (q .1) (upTo-out (R .number) (t .1), upTo-out (P .slots) (s .1), q .0)
 
+  -- a role with a holder and the lowest operation of a class of it make a part
+  pub parts-in : (k o : ℕ) → k < R .number → o < P .slots → Is (any (λ u. R .held k u) (upTo (P .side user .count))) → Is (any (λ r. R .gives k r o) (upTo (P .side resource .count))) → any (λ q. alike P R k q o) (upTo o) ≡ false → record { role = k; lead = o } ∈ parts P R
+  unfolding parts isPart leads
+  parts-in k o lk lo hu hr hn =
+      each-in (λ k. each (λ o. only (isPart P R k o) (record { role = k; lead = o })) (upTo (P .slots))) (upTo-in lk)
+      (each-in (λ o. only (isPart P R k o) (record { role = k; lead = o })) (upTo-in lo) (only-in _ (and-in hu (and-in hr (not-in (any (λ q. alike P R k q o) (upTo o)) hn)))))
+
   -- the union of the parts' blocks is what the roles that a user holds are assigned
   pub roles-grant : (u r o : ℕ) → Triple P u r o → rolesGrant P R u r o ≡ someRoleGives P R u r o
   unfolding rolesGrant someRoleGives blockOf

@@ -14,6 +14,7 @@ use Rattle.admit.specs.AdmitLaws.{phaseCode, Sized, side-attributes}
 use Rattle.commands.specs.DecodeLaws.{meaning}
 use Rattle.files.specs.Answer.{Answer, unless, andThen, outOfPlace, beyond, wrongKind, accepted}
 use Rattle.files.specs.BytesLaws.{Carries, unless-carries, then-carries}
+use Rattle.files.specs.LineLaws.{same-side}
 use Rattle.files.specs.RoleFile.{Phase, Loading, blank, sideBy, sameSide, withTable, withKind, withValue, withAssigned, withPermitted, withLine, isNothing, isDeclaring, enter, takeKind, takeValue, takeAssignment, takePermission, takeLine, takeSizes, obeyRole, nothing, declaring, telling}
 use Rattle.files.specs.RuleFile.{value}
 use Rattle.loaded.specs.Record.{knownTable, valueTable, assignedTable, lineTable, permissionTable, attributeTable, kindTable, recordWith, recordSoFar, setKinds, setValues, setAssigned, setLines, setPermissions}
@@ -67,7 +68,7 @@ blank-shows u r o k = refl
 
 pub blank-sized : (u r o k : ℕ) → u ≤ 64 → r ≤ 64 → o ≤ 16 → k ≤ 32 → Sized (blank u r o k)
 unfolding blank
-blank-sized u r o k hu hr ho hk = record { many = sides; declared = λ w. omega arith; operable = ho; few = hk; lined = λ i j h. absurd (false≢true h); assigned-to = λ k u h. absurd (false≢true h) }
+blank-sized u r o k hu hr ho hk = record { many = sides; declared = λ w. omega arith; operable = ho; few = hk; lined = λ i j h. absurd (false≢true h); assigned-to = λ k u h. absurd (false≢true h); permits = λ k r o h. absurd (false≢true h) }
   where
     sides : (w : Which) → by w u r ≤ 64
     sides user = hu
@@ -82,12 +83,17 @@ table-sized F s t Z e h = record {
   operable = Z .operable;
   few = Z .few;
   lined = Z .lined;
-  assigned-to = Z .assigned-to;
+  assigned-to = λ k u p. let q = Z .assigned-to k u p in (q .0, subst (λ (n : ℕ). u < n) (sym (counted user (sameSide user s) refl)) (q .1));
+  permits = λ k r o p. let q = Z .permits k r o p in (q .0, subst (λ (n : ℕ). r < n) (sym (counted resource (sameSide resource s) refl)) (q .1), q .2);
 }
   where
     go : (w : Which) (b : Bool) → sameSide w s ≡ b → cond b t (F .table w) .count ≤ 64
     go w true p = let m = Z .many s in omega arith
     go w false p = Z .many w
+
+    counted : (w : Which) (b : Bool) → sameSide w s ≡ b → cond b t (F .table w) .count ≡ F .table w .count
+    counted w true p = e ∙ ap (λ (x : Which). F .table x .count) (sym (same-side w s p))
+    counted w false p = refl
 
     kinds : (w : Which) (b : Bool) → length (cond b t (F .table w) .kinds) ≤ 6
     kinds w true = h
@@ -190,14 +196,13 @@ module _ (F : Policy) (Z : Sized F) where
       let n = Z .few in
       let l = ltb-true k (F .roles) (and-l (ltb k (F .roles)) (ltb u (F .table user .count)) p) in
       let h : k < 32 = omega arith in
-      let m = Z .many user in
       let lu = ltb-true u (F .table user .count) (and-r (ltb k (F .roles)) (ltb u (F .table user .count)) p) in
-      (h, assign-shows F k u h, record { many = Z .many; declared = Z .declared; operable = Z .operable; few = Z .few; lined = Z .lined; assigned-to = more k u h (omega arith) })
+      (h, assign-shows F k u h, record { many = Z .many; declared = Z .declared; operable = Z .operable; few = Z .few; lined = Z .lined; assigned-to = more k u l lu; permits = Z .permits })
     where
-      more : (k u : ℕ) → k < 32 → u < 64 → (j v : ℕ) → Is ((eqb j k && eqb v u) || F .assigned j v) → (j < 32) × (v < 64)
+      more : (k u : ℕ) → k < F .roles → u < F .table user .count → (j v : ℕ) → Is ((eqb j k && eqb v u) || F .assigned j v) → (j < F .roles) × (v < F .table user .count)
       more k u hk hu j v h = go (or-out (eqb j k && eqb v u) (F .assigned j v) h)
         where
-          go : Is (eqb j k && eqb v u) ⊎ Is (F .assigned j v) → (j < 32) × (v < 64)
+          go : Is (eqb j k && eqb v u) ⊎ Is (F .assigned j v) → (j < F .roles) × (v < F .table user .count)
           go (inl q) = let a = eqb-true j k (and-l (eqb j k) (eqb v u) q) in let b = eqb-true v u (and-r (eqb j k) (eqb v u) q) in (omega arith, omega arith)
           go (inr q) = Z .assigned-to j v q
 
@@ -212,7 +217,19 @@ module _ (F : Policy) (Z : Sized F) where
       let lo = ltb-true o (F .operations) (a .2) in
       let hk : k < 32 = omega arith in
       let ho : o < 16 = omega arith in
-      ((hk, ho), permit-shows F k r o hk ho, record { many = Z .many; declared = Z .declared; operable = Z .operable; few = Z .few; lined = Z .lined; assigned-to = Z .assigned-to })
+      ((hk, ho), permit-shows F k r o hk ho, record { many = Z .many; declared = Z .declared; operable = Z .operable; few = Z .few; lined = Z .lined; assigned-to = Z .assigned-to; permits = more k r o lk (ltb-true r (F .table resource .count) (a .1)) lo })
+    where
+      more : (k r o : ℕ) → k < F .roles → r < F .table resource .count → o < F .operations → (j q v : ℕ) → Is ((eqb j k && (eqb q r && eqb v o)) || F .permitted j q v) → (j < F .roles) × (q < F .table resource .count) × (v < F .operations)
+      more k r o hk hr ho j q v h = go (or-out (eqb j k && (eqb q r && eqb v o)) (F .permitted j q v) h)
+        where
+          go : Is (eqb j k && (eqb q r && eqb v o)) ⊎ Is (F .permitted j q v) → (j < F .roles) × (q < F .table resource .count) × (v < F .operations)
+          go (inl x) =
+              let d = and-r (eqb j k) (eqb q r && eqb v o) x in
+              let a = eqb-true j k (and-l (eqb j k) (eqb q r && eqb v o) x) in
+              let b = eqb-true q r (and-l (eqb q r) (eqb v o) d) in
+              let c = eqb-true v o (and-r (eqb q r) (eqb v o) d) in
+              (omega arith, omega arith, omega arith)
+          go (inr x) = Z .permits j q v x
 
   line-leaves : (j s : ℕ) → Carries (Leaves F (Line j s)) (takeLine F j s)
   unfolding takeLine Bounded withLine
@@ -222,12 +239,12 @@ module _ (F : Policy) (Z : Sized F) where
       let l = ltb-true j (F .roles) (and-l (ltb j (F .roles)) (ltb s (F .roles)) p) in
       let h : j < 32 = omega arith in
       let ls = ltb-true s (F .roles) (and-r (ltb j (F .roles)) (ltb s (F .roles)) p) in
-      (h, line-shows F j s h, record { many = Z .many; declared = Z .declared; operable = Z .operable; few = Z .few; lined = more j s h (omega arith); assigned-to = Z .assigned-to })
+      (h, line-shows F j s h, record { many = Z .many; declared = Z .declared; operable = Z .operable; few = Z .few; lined = more j s l ls; assigned-to = Z .assigned-to; permits = Z .permits })
     where
-      more : (j s : ℕ) → j < 32 → s < 64 → (i k : ℕ) → Is ((eqb i j && eqb k s) || F .line i k) → (i < 32) × (k < 64)
+      more : (j s : ℕ) → j < F .roles → s < F .roles → (i k : ℕ) → Is ((eqb i j && eqb k s) || F .line i k) → (i < F .roles) × (k < F .roles)
       more j s hj hs i k h = go (or-out (eqb i j && eqb k s) (F .line i k) h)
         where
-          go : Is (eqb i j && eqb k s) ⊎ Is (F .line i k) → (i < 32) × (k < 64)
+          go : Is (eqb i j && eqb k s) ⊎ Is (F .line i k) → (i < F .roles) × (k < F .roles)
           go (inl q) = let a = eqb-true i j (and-l (eqb i j) (eqb k s) q) in let b = eqb-true k s (and-r (eqb i j) (eqb k s) q) in (omega arith, omega arith)
           go (inr q) = Z .lined i k q
 

@@ -5,11 +5,13 @@ use lib.ListN.{getD}
 use mathlib.Core.Bool.{Bool, true, false, cond, _&&_, _||_, not}
 use mathlib.Core.List.{List}
 use mathlib.Core.Path.{_≡_, refl, sym, ap, ap₂, _∙_}
+use native.Mathlib.Omega.{arith}
 use Rattle.admit.specs.AdmitLaws.{Sized}
 use Rattle.files.specs.Answer.{unless, ownSenior, accepted}
 use Rattle.loaded.specs.Record.{tableOf, assignedTable, lineTable, recordWith, recordSoFar, recordOf, setDerived}
 use Rattle.loaded.specs.RecordLaws.{table-bits}
 use Rattle.policy.specs.Policy.{Policy, reach, senior, circular, held}
+use Rattle.policy.specs.Rules.{user}
 use Rattle.rolefile.specs.Reading.{refusal, loadedOf, settledOf}
 use Rattle.seniority.specs.Closure.{among, closed, heldBy, heldTable}
 use Rattle.seniority.specs.ClosureLaws.{closed-bit, held-bit, senior-bit, circular-table, holder-bit}
@@ -23,11 +25,11 @@ use Rattle.rolefile.specs.declared.Loaded.{Loaded}
 module _ (F : Policy) (Z : Sized F) where
   lines-shown : (i j : ℕ) → F .line i j ≡ among (lineTable F) i j
   unfolding lineTable
-  lines-shown = table-bits 32 (F .line) (Z .lined)
+  lines-shown = table-bits 32 (F .line) (λ i j h. let a = Z .lined i j h in let n = Z .few in (omega (arith, a .0), omega (arith, a .1)))
 
   assigned-shown : (k u : ℕ) → F .assigned k u ≡ among (assignedTable F) k u
   unfolding assignedTable
-  assigned-shown = table-bits 32 (F .assigned) (Z .assigned-to)
+  assigned-shown = table-bits 32 (F .assigned) (λ k u h. let a = Z .assigned-to k u h in let n = Z .few in let m = Z .many user in (omega (arith, a .0), omega (arith, a .1)))
 
   seniors-shown : closed (lineTable F) (F .roles) ≡ tableOf 32 (λ k. maskOf 64 (senior F k))
   unfolding closed tableOf

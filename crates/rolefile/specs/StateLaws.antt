@@ -72,7 +72,7 @@ begin s h = record {
   short = h;
   enough = omega arith;
   inside = omega arith;
-  sized = record { many = λ w. sides w; declared = λ w. omega arith; operable = omega arith; few = omega arith; lined = λ i j h. absurd (false≢true h); assigned-to = λ k u h. absurd (false≢true h) };
+  sized = record { many = λ w. sides w; declared = λ w. omega arith; operable = omega arith; few = omega arith; lined = λ i j h. absurd (false≢true h); assigned-to = λ k u h. absurd (false≢true h); permits = λ k r o h. absurd (false≢true h) };
   shows = empty-shows;
   phased = refl;
   unread = λ e. refl;

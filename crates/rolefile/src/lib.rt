@@ -5,7 +5,7 @@ ghost use lib.Dec.{eqb};
 ghost use lib.ListN.{length, getD};
 ghost use Rattle.files.specs.RoleFile.{readRoles};
 ghost use Rattle.loaded.specs.Record.{markedIf};
-ghost use Rattle.rolefile.specs.Reading.{refusal, settledOf, loadedOf};
+ghost use Rattle.rolefile.specs.Reading.{refusal, loadedOf};
 use commands::Command;
 use commands::Decoded;
 use loaded::RoleFile;
@@ -28,24 +28,6 @@ fn mark(m: u64, x: usize, kind: usize) -> u64
     ensures { λ r. ⌜ r ≡ markedIf (eqb kind 1) m x ⌝ }
 {
     if kind == 1 { sets::with(m, x) } else { m }
-}
-
-// Works out seniors and holders, or refuses where a role is its own senior.
-fn settle(f: RoleFile) -> Loaded
-    requires { ⌜ f .roles ≤ 32 ⌝ }
-    ensures { λ r. ⌜ r ≡ settledOf f ⌝ }
-{
-    let mut above = f.lines;
-    seniority::close(&mut above, f.roles);
-    if seniority::circular(&above, f.roles) {
-        return refuse(7);
-    }
-    let mut held = [0u64; 32];
-    seniority::holders(&f.assigned, &above, f.roles, &mut held);
-    let mut g = f;
-    g.seniors = above;
-    g.holders = held;
-    Loaded { code: 0, file: g }
 }
 
 // Reads a role file: one pass over its bytes, each command stored where it belongs.
@@ -131,10 +113,20 @@ pub fn read(s: &[u8]) -> Loaded
                         phase = 2;
                     }
                     Command::End => {
-                        if at == s.len() {
-                            return settle(f);
+                        if at != s.len() {
+                            return refuse(4);
                         }
-                        return refuse(4);
+                        // In place: a function of its own would be handed the whole record and hand it back, a copy each time.
+                        let mut above = f.lines;
+                        seniority::close(&mut above, f.roles);
+                        if seniority::circular(&above, f.roles) {
+                            return refuse(7);
+                        }
+                        let mut held = [0u64; 32];
+                        seniority::holders(&f.assigned, &above, f.roles, &mut held);
+                        f.seniors = above;
+                        f.holders = held;
+                        return Loaded { code: 0, file: f };
                     }
                 }
             }

@@ -5,7 +5,7 @@ use Prim.Native.Nat.{ℕ, zero, suc, _+_, _^_, _≤_, _<_}
 use borrow.Author.Count.{below-more}
 use lib.ListN.{length, getD, set, length-map}
 use lib.Seq.{ext-getD, getD-set-same, getD-set-other}
-use mathlib.Core.Bool.{Bool, true, false, _&&_, _||_}
+use mathlib.Core.Bool.{Bool, true, false, _&&_, _||_, and-assoc}
 use mathlib.Core.List.{List, [], _∷_, _++_, map}
 use mathlib.Core.Path.{_≡_, refl, sym, ap, ap₂, _∙_}
 use native.Mathlib.Nat.{add-zero, add-suc, suc-add, zero-add}
@@ -13,7 +13,7 @@ use native.Mathlib.Numerals.{add-one}
 use native.Mathlib.Omega.{arith}
 use Rattle.sets.specs.MaskLaws.{and-true, or-false, mask-unique, mask-same}
 use Rattle.sets.specs.Sets.{bit, maskOf, bit-mask}
-use Rattle.sets.specs.Tests.{never, fails, all, any, all-out, any-in, from, upTo, upTo-in}
+use Rattle.sets.specs.Tests.{never, fails, imp, all, any, all-out, any-in, from, upTo, upTo-in}
 
 -- one turn more is still within the bound. Said once, since a proof's `omega` reads every fact at hand and long ones cost it time
 pub turn-within : (i n : ℕ) → i < n → i + 1 ≤ n
@@ -108,6 +108,35 @@ join-out a f g n m m′ h e q = q ∙ h ∙ mask-same 64 (joining a f g n) (join
 
 pub join-end : (a : ℕ) (f : ℕ → Bool) (g : ℕ → ℕ) (i n m : ℕ) → m ≡ maskOf 64 (joining a f g i) → i ≡ n → m ≡ maskOf 64 (joining a f g n)
 join-end a f g i n m h e = h ∙ ap (λ (x : ℕ). maskOf 64 (joining a f g x)) e
+
+-- ---- a loop that narrows a set: from a on, to each set g j that is asked for
+
+abbrev pub narrowing : ℕ → (ℕ → Bool) → (ℕ → ℕ) → ℕ → ℕ → Bool
+narrowing a f g n u = bit a u && all (λ j. imp (f j) (bit (g j) u)) (upTo n)
+
+pub narrow-none : (a : ℕ) (f : ℕ → Bool) (g : ℕ → ℕ) → a < 2 ^ 64 → a ≡ maskOf 64 (narrowing a f g 0)
+narrow-none a f g h = mask-unique 64 a (narrowing a f g 0) h (λ u l. sym (and-true (bit a u)))
+
+narrow-one : (a : ℕ) (f : ℕ → Bool) (g : ℕ → ℕ) (n u : ℕ) → narrowing a f g (n + 1) u ≡ (narrowing a f g n u && imp (f n) (bit (g n) u))
+narrow-one a f g n u = ap (λ (b : Bool). bit a u && b) (all-more (λ j. imp (f j) (bit (g j) u)) n) ∙ sym (and-assoc (bit a u) (all (λ j. imp (f j) (bit (g j) u)) (upTo n)) (imp (f n) (bit (g n) u)))
+
+-- a turn that narrows by a call, `m = meet(m, g)`
+pub narrow-in : (a : ℕ) (f : ℕ → Bool) (g : ℕ → ℕ) (n m m′ : ℕ) → m ≡ maskOf 64 (narrowing a f g n) → f n ≡ true → m′ ≡ maskOf 64 (λ k. bit m k && bit (g n) k)
+    → m′ ≡ maskOf 64 (narrowing a f g (n + 1))
+narrow-in a f g n m m′ h e q = q ∙ mask-same 64 (λ k. bit m k && bit (g n) k) (narrowing a f g (n + 1)) at
+  where
+    at : (u : ℕ) → u < 64 → (bit m u && bit (g n) u) ≡ narrowing a f g (n + 1) u
+    at u l = ap (λ (b : Bool). b && bit (g n) u) (ap (λ (x : ℕ). bit x u) h ∙ bit-mask 64 (narrowing a f g n) u l) ∙ sym (narrow-one a f g n u ∙ ap (λ (b : Bool). narrowing a f g n u && imp b (bit (g n) u)) e)
+
+-- a turn that passes one by
+pub narrow-out : (a : ℕ) (f : ℕ → Bool) (g : ℕ → ℕ) (n m m′ : ℕ) → m ≡ maskOf 64 (narrowing a f g n) → f n ≡ false → m′ ≡ m → m′ ≡ maskOf 64 (narrowing a f g (n + 1))
+narrow-out a f g n m m′ h e q = q ∙ h ∙ mask-same 64 (narrowing a f g n) (narrowing a f g (n + 1)) at
+  where
+    at : (u : ℕ) → u < 64 → narrowing a f g n u ≡ narrowing a f g (n + 1) u
+    at u l = sym (narrow-one a f g n u ∙ ap (λ (b : Bool). narrowing a f g n u && imp b (bit (g n) u)) e ∙ and-true (narrowing a f g n u))
+
+pub narrow-end : (a : ℕ) (f : ℕ → Bool) (g : ℕ → ℕ) (i n m : ℕ) → m ≡ maskOf 64 (narrowing a f g i) → i ≡ n → m ≡ maskOf 64 (narrowing a f g n)
+narrow-end a f g i n m h e = h ∙ ap (λ (x : ℕ). maskOf 64 (narrowing a f g x)) e
 
 -- ---- tables
 

@@ -6,15 +6,15 @@ use mathlib.Core.List.{List}
 use mathlib.Core.Path.{_≡_, refl, sym, ap, _∙_, subst}
 use native.Mathlib.Omega.{arith}
 use Prim.Native.Nat.{ℕ, _+_, _-_, _≤_, _<_}
-use Rattle.files.specs.RoleFile.{isEnd}
+use Rattle.files.specs.RoleFile.{isEnd, readRoles}
 use Rattle.loaded.specs.declared.RoleFile.{RoleFile}
 use Rattle.commands.specs.declared.Command.{Command}
 use Rattle.commands.specs.declared.Decoded.the-variants.{Whole}
-use Rattle.rolefile.specs.Reading.{applied, phaseAfter, refusal, settledOf}
+use Rattle.rolefile.specs.Reading.{applied, phaseAfter, refusal, loadedOf, settledOf}
 use Rattle.commands.specs.Decode.{decodedOf}
 use Rattle.commands.specs.DecodeLaws.{meaning}
 use Rattle.rolefile.specs.ReadLaws.{Bounded}
-use Rattle.rolefile.specs.SettleLaws.{settled}
+use Rattle.rolefile.specs.SettleLaws.{settled, settled-refused, settled-done}
 use Rattle.rolefile.specs.StateLaws.{State, verdictAt, too-long, begin, turn-cut, turn-strange, turn-refused, some-bytes, not-past, bounded, go-on, turn-trailing, turn-ended, tail, few-attributes, few-roles}
 use Rattle.rolefile.proofs.read.Statement.{statement}
 use Rattle.rolefile.proofs.read.Tie as tie
@@ -25,7 +25,9 @@ use Rattle.admit.proofs.admit.Reads as admit-reads
 use Rattle.commands.proofs.decode.Reads as decode-reads
 use Rattle.rolefile.proofs.mark.Reads as mark-reads
 use Rattle.rolefile.proofs.refuse.Reads as refuse-reads
-use Rattle.rolefile.proofs.settle.Reads as settle-reads
+use Rattle.seniority.proofs.circular.Reads as circular-reads
+use Rattle.seniority.proofs.close.Reads as close-reads
+use Rattle.seniority.proofs.holders.Reads as holders-reads
 use Rattle.sets.proofs.with.Reads as with-reads
 
 abbrev Inv-loop : tie.InvT-loop
@@ -292,23 +294,46 @@ loop-again-6 c =
     after d 2 (ap (λ (k : Command). isEnd (meaning k)) (c .before .before .before .c7 .given .1)) (ap phaseAfter (c .before .before .before .c7 .given .1))
     (rw (c .with4 .ensures) (ap (applied (record-at d)) (c .before .before .before .c7 .given .1)))
 
-settle-requires : tie.Need-settle-requires Inv-loop μ-loop
-settle-requires c κs = few-roles _ _ _ _ (head (place (c .before .before .before)) .loop .inv)
-
 returns-5 : tie.Need-returns-5 Inv-loop μ-loop
-unfolding applied
 returns-5 c =
     let d = c .before .before .before .before in
     let k = place d in
-    let e = c .before .before .enum-told3 .given .1 in
-    let r = turn-ended _ _ _ _ (head k .loop .inv) _ _ (read-here k) (admitted-at d) (ap (λ (k : Command). isEnd (meaning k)) e) (sym (c .before .if3 .taken)) (ap (applied (record-at d)) e) in
-    c .settle .ensures ∙ ap settledOf (r .2) ∙ settled (r .0) (r .1) ∙ r .3
+    c .refuse5 .ensures ∙ turn-trailing _ _ _ _ (head k .loop .inv) _ _ (read-here k) (admitted-at d) (ap (λ (k : Command). isEnd (meaning k)) (c .before .before .enum-told3 .given .1)) (λ z. c .before .if3 .taken (sym z))
+
+-- at the end of the file: what its record comes to is the answer
+few : (c : tie.Else3 Inv-loop μ-loop) → record-at (c .before .before .before) .roles ≤ 32
+few c = few-roles _ _ _ _ (head (place (c .before .before .before)) .loop .inv)
+
+ended : (c : tie.Else3 Inv-loop μ-loop) → settledOf (record-at (c .before .before .before)) ≡ loadedOf (readRoles 2 (source (head (place (c .before .before .before)))))
+unfolding applied
+ended c =
+    let d = c .before .before .before in
+    let k = place d in
+    let e = c .before .enum-told3 .given .1 in
+    let r = turn-ended _ _ _ _ (head k .loop .inv) _ _ (read-here k) (admitted-at d) (ap (λ (k : Command). isEnd (meaning k)) e) (sym (c .if3 .left)) (ap (applied (record-at d)) e) in
+    ap settledOf (r .2) ∙ settled (r .0) (r .1) ∙ r .3
+
+close-requires : tie.Need-close-requires Inv-loop μ-loop
+close-requires c κs = few (c .before .before)
+
+circular-requires : tie.Need-circular-requires Inv-loop μ-loop
+circular-requires c κs = few (c .before .before .before .before)
 
 returns-6 : tie.Need-returns-6 Inv-loop μ-loop
 returns-6 c =
-    let d = c .before .before .before .before in
-    let k = place d in
-    c .refuse5 .ensures ∙ turn-trailing _ _ _ _ (head k .loop .inv) _ _ (read-here k) (admitted-at d) (ap (λ (k : Command). isEnd (meaning k)) (c .before .before .enum-told3 .given .1)) (λ z. c .before .if3 .left (sym z))
+    let t = c .before .before in
+    let d = t .before .before in
+    c .refuse6 .ensures ∙ settled-refused _ _ (d .close .ensures) (sym (t .circular .ensures) ∙ c .before .if4 .taken) ∙ ended (d .before .before .before)
+
+holders-requires : tie.Need-holders-requires Inv-loop μ-loop
+holders-requires c κs = few (c .before .before .before .before .before .before .before .before .before .before)
+
+returns-7 : tie.Need-returns-7 Inv-loop μ-loop
+returns-7 c =
+    let u = c .before .before .before .before .before in
+    let t = u .before in
+    let d = t .before .before in
+    settled-done _ _ _ (d .close .ensures) (sym (t .circular .ensures) ∙ u .if4 .left) (c .holders .ensures) ∙ ended (d .before .before .before)
 
 pub read-spec : {M : Type 1} → statement M
 read-spec =
@@ -392,7 +417,11 @@ read-spec =
     loop-less-6
     loop-again-6
     (λ c. search needs)
-    settle-requires
-    returns-5
     (λ c κs. search needs)
-    returns-6)
+    returns-5
+    close-requires
+    circular-requires
+    (λ c κs. search needs)
+    returns-6
+    holders-requires
+    returns-7)

@@ -1,0 +1,4 @@
+pub mod Grid
+pub mod GridLaws
+pub mod Links
+pub mod LinkLaws

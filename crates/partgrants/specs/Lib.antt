@@ -1,0 +1,2 @@
+pub mod PartGrid
+pub mod PartGridLaws

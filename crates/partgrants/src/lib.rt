@@ -1,0 +1,81 @@
+// What the parts listed under a rule grant, kept as a grid of sets of resources, word 16 * user + operation, while the rule's lines are
+// read.
+ghost use lib.ListN.{length, getD};
+ghost use mathlib.Core.Bool.{false};
+ghost use mathlib.Core.Path.{_≡_};
+ghost use Prim.Native.Nat.{_<_};
+ghost use Rattle.grants.specs.Grid.{gridOf};
+ghost use Rattle.partgrants.specs.PartGrid.{addedRow, addedPart, joinedGrid};
+
+// Joins, for one user, the resources of each operation of the class to the user's word of that operation.
+fn add_row(permissions: &[u64; 512], role: usize, class: u64, user: usize, grid: &mut [u64])
+    requires { ⌜ (role < 32) × (user < 64) × (length (now grid) ≡ 1024) ⌝ }
+    ensures { λ _. ⌜ now (grid .exit) ≡ addedRow user (now (permissions .entry)) role class (now (grid .entry)) ⌝ }
+{
+    for o in 0..16 {
+        if sets::has(class, o) {
+            grid[16 * user + o] = sets::union(grid[16 * user + o], permissions[16 * role + o]);
+        }
+    }
+}
+
+// Into a slice, since only a slice tells its length to a proof.
+fn add_rows(holding: u64, permissions: &[u64; 512], role: usize, class: u64, grid: &mut [u64])
+    requires { ⌜ (role < 32) × (length (now grid) ≡ 1024) ⌝ }
+    ensures { λ _. ⌜ now (grid .exit) ≡ addedPart holding (now (permissions .entry)) role class (now (grid .entry)) ⌝ }
+{
+    for u in 0..64 {
+        // Most roles have few holders, and the other users' words stay as they are.
+        if sets::has(holding, u) {
+            add_row(permissions, role, class, u, grid);
+        }
+    }
+}
+
+// Joins a part's block to a grid: for each holder of the role and each operation of the class, the resources of that operation.
+pub fn add_part<'a>(
+    holders: &'a [u64; 32],
+    permissions: &'a [u64; 512],
+    role: usize,
+    class: u64,
+    grid: &mut [u64; 1024],
+)
+    requires { ⌜ role < 32 ⌝ }
+    ensures { λ _. ⌜ now (grid .exit) ≡ addedPart (getD (now (holders .entry)) role 0) (now (permissions .entry)) role class (now (grid .entry)) ⌝ }
+{
+    add_rows(holders[role], permissions, role, class, grid);
+}
+
+// Into a slice, since only a slice tells its length to a proof.
+fn fill_none(grid: &mut [u64])
+    requires { ⌜ length (now grid) ≡ 1024 ⌝ }
+    ensures { λ _. ⌜ now (grid .exit) ≡ gridOf (λ u r o. false) ⌝ }
+{
+    for word in 0..1024 {
+        grid[word] = 0;
+    }
+}
+
+// The grid of no triples, whatever the table held.
+pub fn clear(grid: &mut [u64; 1024])
+    ensures { λ _. ⌜ now (grid .exit) ≡ gridOf (λ u r o. false) ⌝ }
+{
+    fill_none(grid);
+}
+
+// Into a slice, since only a slice tells its length to a proof.
+fn join_words(from: &[u64; 1024], to: &mut [u64])
+    requires { ⌜ length (now to) ≡ 1024 ⌝ }
+    ensures { λ _. ⌜ now (to .exit) ≡ joinedGrid (now (from .entry)) (now (to .entry)) ⌝ }
+{
+    for i in 0..1024 {
+        to[i] = sets::union(to[i], from[i]);
+    }
+}
+
+// Joins the triples of one grid to another.
+pub fn join(from: &[u64; 1024], to: &mut [u64; 1024])
+    ensures { λ _. ⌜ now (to .exit) ≡ joinedGrid (now (from .entry)) (now (to .entry)) ⌝ }
+{
+    join_words(from, to);
+}

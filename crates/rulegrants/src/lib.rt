@@ -1,0 +1,72 @@
+// What a rule grants, as a grid of sets of resources, word 16 * user + operation, worked out from the rule summed up.
+ghost use mathlib.Core.Bool.{cond};
+ghost use mathlib.Core.Path.{_≡_};
+ghost use Prim.Native.Nat.{_/_, _%_, _≤_, _<_};
+ghost use lib.ListN.{length, getD};
+ghost use Rattle.conjuncts.specs.Summary.{metByAll, linkedWith};
+ghost use Rattle.grants.specs.Grid.{gridOf};
+ghost use Rattle.loaded.specs.Record.{tableOf};
+ghost use Rattle.rulegrants.specs.RuleGrid.{rowOf, cellOf, summaryGrants};
+ghost use Rattle.sets.specs.Sets.{bit};
+
+// The resources that a rule leaves a user: none if the user does not meet it.
+fn row(links: &[u64; 2304], atoms: u64, users: u64, resources: u64, user: usize) -> u64
+    requires { ⌜ user < 64 ⌝ }
+    ensures { λ r. ⌜ r ≡ rowOf (now (links .entry)) atoms users resources user ⌝ }
+{
+    if sets::has(users, user) {
+        return conjuncts::linked_with(links, atoms, user, resources);
+    }
+    0
+}
+
+// Into a slice, since only a slice tells its length to a proof.
+fn fill_rows<'a>(links: &'a [u64; 2304], atoms: u64, users: u64, resources: u64, out: &mut [u64])
+    requires { ⌜ length (now out) ≡ 64 ⌝ }
+    ensures { λ _. ⌜ now (out .exit) ≡ tableOf 64 (rowOf (now (links .entry)) atoms users resources) ⌝ }
+{
+    for u in 0..64 {
+        out[u] = row(links, atoms, users, resources, u);
+    }
+}
+
+// A user's resources for an operation: none if the rule has no such operation.
+fn cell(rows: &[u64; 64], operations: u64, user: usize, operation: usize) -> u64
+    requires { ⌜ user < 64 ⌝ }
+    ensures { λ r. ⌜ r ≡ cellOf (now (rows .entry)) operations user operation ⌝ }
+{
+    if sets::has(operations, operation) {
+        return rows[user];
+    }
+    0
+}
+
+fn fill_cells<'a>(rows: &'a [u64; 64], operations: u64, out: &mut [u64])
+    requires { ⌜ length (now out) ≡ 1024 ⌝ }
+    ensures { λ _. ⌜ now (out .exit) ≡ tableOf 1024 (λ i. cellOf (now (rows .entry)) operations (i / 16) (i % 16)) ⌝ }
+{
+    for i in 0..1024 {
+        out[i] = cell(rows, operations, i / 16, i % 16);
+    }
+}
+
+// The grid of what a rule grants, whatever the table held.
+pub fn rule_grid<'a>(
+    met: &'a [u64; 14],
+    asked: u64,
+    atoms: u64,
+    operations: u64,
+    links: &'a [u64; 2304],
+    users: usize,
+    resources: usize,
+    out: &mut [u64; 1024],
+)
+    requires { ⌜ (users ≤ 64) × (resources ≤ 64) ⌝ }
+    ensures { λ _. ⌜ now (out .exit) ≡ gridOf (summaryGrants (now (met .entry)) asked atoms operations (now (links .entry)) users resources) ⌝ }
+{
+    let who = conjuncts::met_by_all(met, asked, 0, users);
+    let what = conjuncts::met_by_all(met, asked, 1, resources);
+    let mut rows = [0u64; 64];
+    fill_rows(links, atoms, who, what, &mut rows);
+    fill_cells(&rows, operations, out);
+}
