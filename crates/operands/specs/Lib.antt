@@ -1,3 +1,5 @@
 pub mod Operands
 pub mod OperandLaws
 pub mod PartLegalLaws
+pub mod Checked
+pub mod CheckedLaws

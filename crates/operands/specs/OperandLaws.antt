@@ -32,7 +32,7 @@ module _ (F : Policy) (Z : Sized F) where
   not-own : (w : Which) (a : ℕ) → a < length (F .table w .kinds) → eqb a own ≡ false
   not-own w a h = let n = Z .declared w in ne-eqb a own (omega arith)
 
-  kind-shown : (side a : ℕ) → side < 2 → a < length (F .table (sideBy side) .kinds) → bit (getD (kindTable F) side 0) a ≡ isSetAt F (sideBy side) a
+  pub kind-shown : (side a : ℕ) → side < 2 → a < length (F .table (sideBy side) .kinds) → bit (getD (kindTable F) side 0) a ≡ isSetAt F (sideBy side) a
   unfolding isSetAt
   kind-shown side a hs ha =
       let n = Z .declared (sideBy side) in

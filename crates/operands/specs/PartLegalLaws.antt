@@ -5,77 +5,42 @@ use borrow.Author.Tests.{eqb-true, eqb-false, eq-eqb, ne-eqb, ltb-true, ltb-fals
 use lib.Dec.{eqb, ltb}
 use lib.ListN.{getD}
 use mathlib.Core.Bool.{Bool, true, false, cond, _&&_, false≢true}
-use mathlib.Core.Logic.{_⊎_, inl, inr}
+use mathlib.Core.Logic.{_⊎_}
 use mathlib.Core.Path.{_≡_, refl, sym, ap, ap₂, _∙_, subst}
 use native.Mathlib.Omega.{arith}
 use Rattle.admit.specs.AdmitLaws.{Sized}
+use Rattle.admit.specs.TableLaws.{eqb-turned, permittedOn, row-shown, holders-shown, holder-within, rows-alike}
 use Rattle.files.specs.RuleFile.{legal, part}
-use Rattle.loaded.specs.Record.{permissionTable, recordWith, recordOf}
-use Rattle.loaded.specs.RecordLaws.{table-get}
+use Rattle.loaded.specs.Record.{permissionTable, recordOf}
 use Rattle.operands.specs.Operands.{classRow, partLegal}
 use Rattle.policy.specs.ClassLaws.{PartFacts, part-facts}
 use Rattle.policy.specs.PartLaws.{alike-out, alike-in, parts-in}
-use Rattle.policy.specs.Policy.{Policy, senior, held, sideOf, settingOf, rolesIn}
+use Rattle.policy.specs.Policy.{Policy, held, sideOf, settingOf, rolesIn}
 use Rattle.policy.specs.Roles.{Part, alike, parts, classOf}
 use Rattle.policy.specs.Rules.{user, resource}
 use Rattle.policy.specs.WrittenLaws.{mask-some}
 use Rattle.sets.specs.Lowest.{lowestFrom, lowestFrom-misses, lowestFrom-some}
 use Rattle.sets.specs.MaskLaws.{mask-same, mask-none, least-most}
 use Rattle.sets.specs.Sets.{bit, maskOf, bit-mask}
-use Rattle.sets.specs.Tests.{Is, and-in, and-l, and-r, or-out, never, test, fails, same, _∈_, any, any-in, any-out, upTo, upTo-in, upTo-out}
+use Rattle.sets.specs.Tests.{Is, and-in, and-l, and-r, never, test, fails, same, _∈_, any, any-in, any-out, upTo, upTo-in, upTo-out}
 
 -- a set that is not empty has a member
 some-bit : (n : ℕ) (f : ℕ → Bool) → (maskOf n f ≡ 0 → ⊥) → (i : ℕ) × (i < n) × Is (f i)
 some-bit n f h = test (any f (upTo n)) (λ e. let t = any-out f (upTo n) e in (t .0, upTo-out n (t .1), t .2)) (λ e. absurd (h (mask-none n f (λ i l. fails (f i) λ k. never (any-in f (upTo-in l) k) e))))
 
 module _ (F : Policy) (Z : Sized F) where
-  -- the resources of a role under an operation
-  row : ℕ → ℕ → ℕ
-  row k o = maskOf 64 (λ r. F .permitted k r o)
-
-  row-shown : (k o : ℕ) → k < 32 → o < 16 → getD (permissionTable F) (16 * k + o) 0 ≡ row k o
-  unfolding permissionTable row
-  row-shown k o hk ho =
-      table-get 512 (λ i. maskOf 64 (λ r. F .permitted (i / 16) r (i % 16))) (16 * k + o) (omega arith)
-      ∙ (let a : (16 * k + o) / 16 ≡ k = omega arith in let b : (16 * k + o) % 16 ≡ o = omega arith in ap₂ (λ (x y : ℕ). maskOf 64 (λ r. F .permitted x r y)) a b)
-
-  holders-shown : (k : ℕ) → k < 32 → getD (recordOf F .holders) k 0 ≡ maskOf 64 (held F k)
-  unfolding recordOf recordWith
-  holders-shown k h = table-get 32 (λ k. maskOf 64 (held F k)) k h
-
-  holder-within : (k u : ℕ) → Is (held F k u) → u < F .table user .count
-  unfolding held
-  holder-within k u h = go (or-out (F .assigned k u) (any (λ s. senior F k s && F .assigned s u) (upTo (F .roles))) h)
-    where
-      go : Is (F .assigned k u) ⊎ Is (any (λ s. senior F k s && F .assigned s u) (upTo (F .roles))) → u < F .table user .count
-      go (inl a) = Z .assigned-to k u a .1
-      go (inr a) = let t = any-out (λ s. senior F k s && F .assigned s u) (upTo (F .roles)) a in Z .assigned-to (t .0) u (and-r (senior F k (t .0)) (F .assigned (t .0) u) (t .2)) .1
-
-  -- operations are alike where their rows are equal
-  rows-alike : (k o q : ℕ) → eqb (row k q) (row k o) ≡ alike (settingOf F) (rolesIn F) k o q
-  unfolding row rolesIn settingOf sideOf
-  rows-alike k o q =
-      same (eqb (row k q) (row k o)) (alike (settingOf F) (rolesIn F) k o q)
-      (λ h. alike-in (settingOf F) (rolesIn F) k o q (λ r l. let m = Z .many resource in sym (bit-mask 64 (λ r. F .permitted k r o) r (omega arith)) ∙ ap (λ (x : ℕ). bit x r) (sym (eqb-true (row k q) (row k o) h)) ∙ bit-mask 64 (λ r. F .permitted k r q) r (omega arith)))
-      (λ h. eq-eqb (row k q) (row k o) (mask-same 64 (λ r. F .permitted k r q) (λ r. F .permitted k r o) (λ r l. test (ltb r (F .table resource .count))
-      (λ e. sym (alike-out (settingOf F) (rolesIn F) k o q r (ltb-true r (F .table resource .count) e) h))
-      (λ e. let n = ltb-false r (F .table resource .count) e in outside k r q n ∙ sym (outside k r o n)))))
-    where
-      outside : (k r o : ℕ) → F .table resource .count ≤ r → F .permitted k r o ≡ false
-      outside k r o n = fails (F .permitted k r o) λ p. let a = Z .permits k r o p .1 in omega arith
-
   class-shown : (k o : ℕ) → k < 32 → o < 16 → classRow (permissionTable F) k (F .operations) o ≡ classOf (settingOf F) (rolesIn F) (record { role = k; lead = o })
   unfolding classRow classOf settingOf
   class-shown k o hk ho =
       mask-same (F .operations) (λ q. eqb (getD (permissionTable F) (16 * k + q) 0) (getD (permissionTable F) (16 * k + o) 0)) (alike (settingOf F) (rolesIn F) k o)
-      (λ q l. let n = Z .operable in ap₂ eqb (row-shown k q hk (omega arith)) (row-shown k o hk ho) ∙ rows-alike k o q)
+      (λ q l. let n = Z .operable in ap₂ eqb (row-shown F Z k q hk (omega arith)) (row-shown F Z k o hk ho) ∙ eqb-turned (permittedOn F k q) (permittedOn F k o) ∙ rows-alike F Z k o q)
 
   -- ---- a legal line names a part
 
   names-by : (k m low : ℕ) → ((q : ℕ) → q < low → bit m q ≡ false)
       → Is (cond (ltb k (F .roles)) (cond (eqb (getD (recordOf F .holders) k 0) 0) false (cond (ltb low (F .operations)) (cond (eqb (getD (permissionTable F) (16 * k + low) 0) 0) false (eqb (classRow (permissionTable F) k (F .operations) low) m)) false)) false)
       → Is (any (λ p. eqb k (p .role) && eqb m (classOf (settingOf F) (rolesIn F) p)) (parts (settingOf F) (rolesIn F)))
-  unfolding classOf settingOf row rolesIn sideOf
+  unfolding classOf settingOf permittedOn rolesIn sideOf
   names-by k m low misses h = go (ltb k (F .roles)) refl (eqb (getD (recordOf F .holders) k 0) 0) refl (ltb low (F .operations)) refl (eqb (getD (permissionTable F) (16 * k + low) 0) 0) refl h
     where
       part-there : k < F .roles → (getD (recordOf F .holders) k 0 ≡ 0 → ⊥) → low < F .operations → (getD (permissionTable F) (16 * k + low) 0 ≡ 0 → ⊥) → classRow (permissionTable F) k (F .operations) low ≡ m → record { role = k; lead = low } ∈ parts (settingOf F) (rolesIn F)
@@ -84,10 +49,10 @@ module _ (F : Policy) (Z : Sized F) where
           let j = Z .operable in
           let hk : k < 32 = omega arith in
           let ho : low < 16 = omega arith in
-          let someone = some-bit 64 (held F k) (λ z. hh (holders-shown k hk ∙ z)) in
-          let something = some-bit 64 (λ r. F .permitted k r low) (λ z. hp (row-shown k low hk ho ∙ z)) in
+          let someone = some-bit 64 (held F k) (λ z. hh (holders-shown F Z k hk ∙ z)) in
+          let something = some-bit 64 (λ r. F .permitted k r low) (λ z. hp (row-shown F Z k low hk ho ∙ z)) in
           parts-in (settingOf F) (rolesIn F) k low lk lo
-          (any-in (λ u. rolesIn F .held k u) (upTo-in (holder-within k (someone .0) (someone .2))) (someone .2))
+          (any-in (λ u. rolesIn F .held k u) (upTo-in (holder-within F Z k (someone .0) (someone .2))) (someone .2))
           (any-in (λ r. rolesIn F .gives k r low) (upTo-in (Z .permits k (something .0) low (something .2) .1)) (something .2))
           (fails (any (λ q. alike (settingOf F) (rolesIn F) k q low) (upTo low)) λ a.
           let t = any-out (λ q. alike (settingOf F) (rolesIn F) k q low) (upTo low) a in
@@ -125,7 +90,7 @@ module _ (F : Policy) (Z : Sized F) where
 
   line-by : (k o m low : ℕ) → low ≡ o → k < F .roles → o < F .operations → (u : ℕ) × (u < F .table user .count) × Is (held F k u) → (r : ℕ) × (r < F .table resource .count) × Is (F .permitted k r o) → m ≡ classOf (settingOf F) (rolesIn F) (record { role = k; lead = o })
       → Is (cond (ltb k (F .roles)) (cond (eqb (getD (recordOf F .holders) k 0) 0) false (cond (ltb low (F .operations)) (cond (eqb (getD (permissionTable F) (16 * k + low) 0) 0) false (eqb (classRow (permissionTable F) k (F .operations) low) m)) false)) false)
-  unfolding row
+  unfolding permittedOn
   line-by k o m low e lk lo hu hr em =
       let n = Z .few in
       let j = Z .operable in
@@ -135,7 +100,7 @@ module _ (F : Policy) (Z : Sized F) where
       let ho : o < 16 = omega arith in
       let holders-some = mask-some 64 (held F k) (hu .0) (omega (arith, hu .1)) (hu .2) in
       let row-some = mask-some 64 (λ r. F .permitted k r o) (hr .0) (omega (arith, hr .1)) (hr .2) in
-      rw (e, lt-ltb k (F .roles) lk, holders-shown k hk, row-shown k o hk ho, ne-eqb (maskOf 64 (held F k)) 0 (λ z. omega arith), lt-ltb o (F .operations) lo, ne-eqb (maskOf 64 (λ r. F .permitted k r o)) 0 (λ z. omega arith))
+      rw (e, lt-ltb k (F .roles) lk, holders-shown F Z k hk, row-shown F Z k o hk ho, ne-eqb (maskOf 64 (held F k)) 0 (λ z. omega arith), lt-ltb o (F .operations) lo, ne-eqb (maskOf 64 (λ r. F .permitted k r o)) 0 (λ z. omega arith))
       (eq-eqb (classRow (permissionTable F) k (F .operations) o) m (class-shown k o hk ho ∙ sym em))
 
   line-there : (k m : ℕ) → Is (any (λ p. eqb k (p .role) && eqb m (classOf (settingOf F) (rolesIn F) p)) (parts (settingOf F) (rolesIn F))) → Is (partLegal k m (F .roles) (F .operations) (recordOf F .holders) (permissionTable F))

@@ -1,4 +1,4 @@
-// Whether the operands of a rule file's command are legal beside a loaded role file.
+// Whether the operands of a rule file's command are legal beside a loaded role file, and the command that they make.
 ghost use mathlib.Core.Path.{_≡_};
 ghost use mathlib.Core.Bool.{_&&_, _||_, not, cond};
 ghost use Prim.Native.Nat.{_+_, _*_, _^_, _≤_, _<_};
@@ -7,7 +7,16 @@ ghost use lib.ListN.{length, getD};
 ghost use Rattle.sets.specs.Sets.{bit, maskOf};
 ghost use Rattle.sets.specs.Tests.{iff};
 ghost use Rattle.operands.specs.Operands.{ownLegal, valueLegal, linkLegal, classRow, partLegal};
+ghost use Rattle.operands.specs.Checked.{valueCommand, atomOf, checkedValue, checkedOperations, checkedLink, checkedPart, checkedOf};
 use loaded::RoleFile;
+use rulecommands::Atom;
+use rulecommands::RuleCommand;
+
+// A command whose operands are legal, or word that they are not.
+pub enum Checked {
+    Legal(RuleCommand),
+    Illegal,
+}
 
 // Whether all elements of a set are below n.
 fn all_below(m: u64, n: usize) -> bool
@@ -26,7 +35,7 @@ fn own_legal(side: usize, set: bool, v: u64, roles: usize, resources: usize) -> 
         if set {
             return all_below(v, roles);
         }
-        return false;
+        return false; // the user's 255 is a set, of roles
     }
     if set {
         return false;
@@ -133,4 +142,136 @@ pub fn part_legal<'a>(
         return false;
     }
     class_row(permissions, k, operations, o) == m
+}
+
+// The command of a value of an attribute: which of the four follows from the side and the kind.
+fn value_command(side: usize, set: bool, a: usize, v: u64) -> RuleCommand
+    ensures { λ r. ⌜ r ≡ valueCommand side set a v ⌝ }
+{
+    if side == 0 {
+        if set {
+            return RuleCommand::UserSet {
+                attribute: a,
+                set: v,
+            };
+        }
+        return RuleCommand::UserSingle {
+            attribute: a,
+            value: v,
+        };
+    }
+    if set {
+        return RuleCommand::ResourceSet {
+            attribute: a,
+            set: v,
+        };
+    }
+    RuleCommand::ResourceSingle {
+        attribute: a,
+        value: v,
+    }
+}
+
+// Commands 22 to 25.
+fn check_value<'a>(
+    side: usize,
+    set: bool,
+    x: u64,
+    y: u64,
+    roles: usize,
+    resources: usize,
+    attributes: &'a [usize; 2],
+    kinds: &'a [u64; 2],
+) -> Checked
+    requires { ⌜ (side < 2) × (roles ≤ 32) ⌝ }
+    ensures { λ r. ⌜ r ≡ checkedValue side set x y roles resources (now (attributes .entry)) (now (kinds .entry)) ⌝ }
+{
+    if value_legal(side, set, x, y, roles, resources, attributes, kinds) {
+        return Checked::Legal(value_command(side, set, x as usize, y));
+    }
+    Checked::Illegal
+}
+
+// Command 26.
+fn check_operations(x: u64, operations: usize) -> Checked
+    requires { ⌜ operations ≤ 16 ⌝ }
+    ensures { λ r. ⌜ r ≡ checkedOperations x operations ⌝ }
+{
+    if operations_legal(x, operations) {
+        return Checked::Legal(RuleCommand::Operations(x));
+    }
+    Checked::Illegal
+}
+
+// The atom of two attributes of a legal line: its form follows from their kinds.
+fn atom_of(a: usize, b: usize, kinds: &[u64; 2]) -> Atom
+    ensures { λ r. ⌜ r ≡ atomOf a b (now (kinds .entry)) ⌝ }
+{
+    if sets::has(kinds[0], a) {
+        if sets::has(kinds[1], b) {
+            return Atom::SetContainsSet(a, b);
+        }
+        return Atom::SetContainsSingle(a, b);
+    }
+    Atom::SingleEqualsSingle(a, b)
+}
+
+// Command 27.
+fn check_link<'a>(x: u64, y: u64, attributes: &'a [usize; 2], kinds: &'a [u64; 2]) -> Checked
+    ensures { λ r. ⌜ r ≡ checkedLink x y (now (attributes .entry)) (now (kinds .entry)) ⌝ }
+{
+    if link_legal(x, y, attributes, kinds) {
+        return Checked::Legal(RuleCommand::Link(atom_of(x as usize, y as usize, kinds)));
+    }
+    Checked::Illegal
+}
+
+// Command 28.
+fn check_part<'a>(
+    x: u64,
+    y: u64,
+    roles: usize,
+    operations: usize,
+    holders: &'a [u64; 32],
+    permissions: &'a [u64; 512],
+) -> Checked
+    requires { ⌜ (roles ≤ 32) × (operations ≤ 16) ⌝ }
+    ensures { λ r. ⌜ r ≡ checkedPart x y roles operations (now (holders .entry)) (now (permissions .entry)) ⌝ }
+{
+    if part_legal(x, y, roles, operations, holders, permissions) {
+        return Checked::Legal(RuleCommand::Part {
+            role: x as usize,
+            operations: y,
+        });
+    }
+    Checked::Illegal
+}
+
+// The command of byte b with operands x and y, as `rulecommands::Raw` has them. 21 and 2F have none that could be illegal.
+pub fn check<'a>(
+    b: usize,
+    x: u64,
+    y: u64,
+    resources: usize,
+    operations: usize,
+    roles: usize,
+    attributes: &'a [usize; 2],
+    kinds: &'a [u64; 2],
+    holders: &'a [u64; 32],
+    permissions: &'a [u64; 512],
+) -> Checked
+    requires { ⌜ (roles ≤ 32) × (operations ≤ 16) ⌝ }
+    ensures { λ r. ⌜ r ≡ checkedOf b x y resources operations roles (now (attributes .entry)) (now (kinds .entry)) (now (holders .entry)) (now (permissions .entry)) ⌝ }
+{
+    match b {
+        0x21 => Checked::Legal(RuleCommand::Opens),
+        0x22 => check_value(0, false, x, y, roles, resources, attributes, kinds),
+        0x23 => check_value(0, true, x, y, roles, resources, attributes, kinds),
+        0x24 => check_value(1, false, x, y, roles, resources, attributes, kinds),
+        0x25 => check_value(1, true, x, y, roles, resources, attributes, kinds),
+        0x26 => check_operations(x, operations),
+        0x27 => check_link(x, y, attributes, kinds),
+        0x28 => check_part(x, y, roles, operations, holders, permissions),
+        _ => Checked::Legal(RuleCommand::Ends),
+    }
 }

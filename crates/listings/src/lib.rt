@@ -1,0 +1,96 @@
+// Which parts the lines of a rule file list, and the first part that stands under no rule or several. Two tables, with a word for each
+// role, say it: the lowest operations of the parts listed so far, and of those listed more than once.
+ghost use mathlib.Core.Path.{_≡_};
+ghost use Prim.Native.Nat.{_≤_, _<_};
+ghost use Rattle.listings.specs.Listed.{seenAfter, againAfter, repeatsIn, partWord, onceIn, strayOf};
+
+pub enum StrayPart {
+    NoneStray,
+    // The part's number.
+    At(usize),
+}
+
+// Notes that a line lists the part of a role with this class.
+pub fn list<'a>(seen: &'a mut [u64; 32], again: &'a mut [u64; 32], role: usize, class: u64)
+    requires { ⌜ role < 32 ⌝ }
+    ensures { λ _. ⌜ (now (seen .exit) ≡ seenAfter (now (seen .entry)) role class) × (now (again .exit) ≡ againAfter (now (seen .entry)) (now (again .entry)) role class) ⌝ }
+{
+    let lead = sets::least(class);
+    if sets::has(seen[role], lead) {
+        again[role] = sets::with(again[role], lead);
+    }
+    seen[role] = sets::with(seen[role], lead);
+}
+
+// Whether a lower operation of the role has the same resources as operation o.
+fn repeats(permissions: &[u64; 512], role: usize, o: usize) -> bool
+    requires { ⌜ (role < 32) × (o < 16) ⌝ }
+    ensures { λ r. ⌜ r ≡ repeatsIn (now (permissions .entry)) role o ⌝ }
+{
+    for q in 0..o {
+        if permissions[16 * role + q] == permissions[16 * role + o] {
+            return true;
+        }
+    }
+    false
+}
+
+// Whether operation o is the lowest of a part of the role.
+fn is_part<'a>(
+    holders: &'a [u64; 32],
+    permissions: &'a [u64; 512],
+    operations: usize,
+    role: usize,
+    o: usize,
+) -> bool
+    requires { ⌜ (role < 32) × (o < 16) ⌝ }
+    ensures { λ r. ⌜ r ≡ partWord (now (holders .entry)) (now (permissions .entry)) operations role o ⌝ }
+{
+    if operations <= o {
+        return false;
+    }
+    if holders[role] == 0 {
+        return false;
+    }
+    if permissions[16 * role + o] == 0 {
+        return false;
+    }
+    !repeats(permissions, role, o)
+}
+
+// Whether the part of the role with this lowest operation is listed exactly once.
+fn once<'a>(seen: &'a [u64; 32], again: &'a [u64; 32], role: usize, o: usize) -> bool
+    requires { ⌜ role < 32 ⌝ }
+    ensures { λ r. ⌜ r ≡ onceIn (now (seen .entry)) (now (again .entry)) role o ⌝ }
+{
+    if sets::has(again[role], o) {
+        return false;
+    }
+    sets::has(seen[role], o)
+}
+
+// The first part, by number, that is not listed exactly once.
+pub fn first_stray<'a>(
+    holders: &'a [u64; 32],
+    permissions: &'a [u64; 512],
+    roles: usize,
+    operations: usize,
+    seen: &'a [u64; 32],
+    again: &'a [u64; 32],
+) -> StrayPart
+    requires { ⌜ (roles ≤ 32) × (operations ≤ 16) ⌝ }
+    ensures { λ r. ⌜ r ≡ strayOf (now (holders .entry)) (now (permissions .entry)) roles operations (now (seen .entry)) (now (again .entry)) ⌝ }
+{
+    let mut number: usize = 0;
+    // Role and operation in one loop, since parts are numbered by role, then lowest operation.
+    for w in 0..16 * roles {
+        if !is_part(holders, permissions, operations, w / 16, w % 16) {
+            continue;
+        }
+        if !once(seen, again, w / 16, w % 16) {
+            return StrayPart::At(number);
+        }
+        number += 1;
+    }
+    StrayPart::NoneStray
+}
