@@ -18,124 +18,38 @@ files, which the program builds itself (see long_files below): a case's length
 has two bytes, and 65,536 does not fit.
 """
 import os
-import subprocess
 import sys
 import tempfile
 
-# ---- commands of a role file
-
-END = bytes([0x0F])
-COMMANDS = [0x01, 0x02, 0x03, 0x04, 0x05, 0x06, 0x07, 0x0F]
-UNKNOWN = [byte for byte in range(256) if byte not in COMMANDS]
-
-
-def sizes(users, resources, operations, roles):
-    return bytes([0x01, users, resources, operations, roles])
-
-
-def declare(side, kind):
-    return bytes([0x02, side, kind])
-
-
-def single(side, attribute, who, value):
-    return bytes([0x03, side, attribute, who]) + value.to_bytes(2, "little")
-
-
-def members(side, attribute, who, mask):
-    return bytes([0x04, side, attribute, who]) + mask.to_bytes(8, "little")
-
-
-def assign(role, user):
-    return bytes([0x05, role, user])
-
-
-def permit(role, resource, operation):
-    return bytes([0x06, role, resource, operation])
-
-
-def line(junior, senior):
-    return bytes([0x07, junior, senior])
-
-
-def joined(*commands):
-    return b"".join(commands)
-
-
-# ---- legal files that several groups use
-
-# Example A of 01.
-EXAMPLE_A = bytes.fromhex(
-    "01 02 02 01 02 02 00 00 02 01 00 03 00 00 00 05 00 03 00 00 01 07 00"
-    "03 01 00 00 05 00 03 01 00 01 07 00 05 00 00 05 01 01 06 00 00 00 06 01 01 00 0F"
-)
-
-NOBODY = joined(sizes(0, 0, 0, 0), END)
-
-# No attributes, role 0 with user 0 and resource 0.
-ONE_OF_TWO = joined(sizes(2, 2, 1, 1), assign(0, 0), permit(0, 0, 0), END)
-
-# User 0 in role 0 without permissions, senior to role 1.
-INHERITS = joined(sizes(1, 1, 1, 2), assign(0, 0), line(1, 0), permit(1, 0, 0), END)
-
-# Resource 0 under operations 0 and 1, resource 1 under 1; then both under both.
-TWO_PARTS = joined(sizes(1, 2, 2, 1), assign(0, 0), permit(0, 0, 0), permit(0, 0, 1), permit(0, 1, 1), END)
-ONE_PART = joined(TWO_PARTS[:-1], permit(0, 1, 0), END)
-
-# The set {1, 2} for user 0 and for resource 0.
-SETS = joined(
-    sizes(1, 1, 1, 1),
-    declare(0, 1),
-    declare(1, 1),
-    members(0, 0, 0, 6),
-    members(1, 0, 0, 6),
-    assign(0, 0),
-    permit(0, 0, 0),
-    END,
-)
-
-# Two users, resources, operations and roles; a single and a set attribute on each side.
-BOTH_KINDS = joined(sizes(2, 2, 2, 2), declare(0, 0), declare(0, 1), declare(1, 0), declare(1, 1))
-
-# Every command of a role file once or more, with some of the largest values.
-ALL_KINDS = joined(
+from rolefiles import (
+    ALL_KINDS,
     BOTH_KINDS,
-    single(0, 0, 0, 65535),
-    single(1, 0, 1, 256),
-    members(0, 1, 1, 2**64 - 1),
-    members(1, 1, 0, 0),
-    assign(0, 1),
-    permit(1, 0, 1),
-    line(1, 0),
+    CHAIN_DOWN,
+    CHAIN_UP,
     END,
+    EXAMPLE_A,
+    FULL,
+    INHERITS,
+    NOBODY,
+    ONE_OF_TWO,
+    ONE_PART,
+    SETS,
+    TWO_PARTS,
+    UNKNOWN,
+    assign,
+    declare,
+    each_once,
+    grid,
+    joined,
+    line,
+    members,
+    permit,
+    random_numbers,
+    single,
+    sizes,
+    with_operand,
 )
-
-# All sizes at their limits, and the last of everything used.
-FULL = joined(
-    sizes(64, 64, 16, 32), assign(31, 63), permit(31, 63, 15), permit(30, 0, 0), line(30, 31), END
-)
-
-# Each role but the last has the next one as its senior; role 0 has the permission, role 31 the user.
-CHAIN_UP = joined(
-    sizes(3, 2, 2, 32),
-    *[line(role, role + 1) for role in range(31)],
-    assign(31, 0),
-    assign(15, 1),
-    permit(0, 0, 0),
-    permit(20, 1, 1),
-    END,
-)
-
-# The same the other way round, and told from the far end.
-CHAIN_DOWN = joined(
-    sizes(3, 2, 2, 32),
-    *[line(role, role - 1) for role in range(31, 0, -1)],
-    assign(0, 0),
-    assign(15, 1),
-    permit(31, 0, 0),
-    permit(10, 1, 1),
-    END,
-)
-
+from secondminer import Folder, told
 
 # ---- the groups: each yields pairs of a file and a question
 
@@ -146,16 +60,6 @@ def asked(file, *questions):
     """The file with each question, or with question 0 0 0."""
     for question in questions or [ANY]:
         yield file, question
-
-
-def grid(users, resources, operations):
-    """Every question within the sizes, and one number too many on each side."""
-    return [
-        (user, resource, operation)
-        for user in range(users + 1)
-        for resource in range(resources + 1)
-        for operation in range(operations + 1)
-    ]
 
 
 def examples():
@@ -237,11 +141,6 @@ def places():
     # an end behind the end, and a whole second file
     yield from asked(joined(EXAMPLE_A, END))
     yield from asked(joined(EXAMPLE_A, EXAMPLE_A))
-
-
-def with_operand(command, place, value):
-    """The command with the operand byte of this place changed; places are counted from 1."""
-    return command[:place] + bytes([value]) + command[place + 1 :]
 
 
 def operands():
@@ -448,18 +347,6 @@ def questions():
     yield from asked(halves, *grid(2, 2, 2))
 
 
-def random_numbers(seed):
-    """Numbers below a limit, the same on every machine: a linear congruential generator."""
-    state = seed
-
-    def below(limit):
-        nonlocal state
-        state = (state * 6364136223846793005 + 1442695040888963407) % 2**64
-        return (state >> 33) % limit
-
-    return below
-
-
 def random_file(below):
     """A role file of small sizes, in most cases a legal one, and its sizes."""
     users, resources, operations, roles = 1 + below(4), 1 + below(4), 1 + below(3), 1 + below(6)
@@ -531,16 +418,6 @@ GROUPS = [
 ]
 
 
-def cases():
-    """All cases of all groups, each only once."""
-    known = set()
-    for group in GROUPS:
-        for case in group():
-            if case not in known:
-                known.add(case)
-                yield case
-
-
 def long_files():
     """The files that the program builds, each asked 0 0 0, in the order in which it does.
 
@@ -571,19 +448,14 @@ def corpus(all_cases):
 
 def answers(second_miner, all_cases):
     """The second miner's answers, a line for each case."""
-    with tempfile.TemporaryDirectory() as folder:
+    with tempfile.TemporaryDirectory() as path:
+        folder = Folder(path)
         commands = []
-        for number, (file, question) in enumerate(all_cases):
-            path = os.path.join(folder, str(number))
-            with open(path, "wb") as out:
-                out.write(file)
-            commands.append(f"read-roles {path}\n")
-            commands.append(f"ask-roles {path} {question[0]} {question[1]} {question[2]}\n")
-        told = subprocess.run(
-            second_miner.split() + ["batch"], input="".join(commands), capture_output=True, text=True, check=True
-        )
-    said = told.stdout.split("\n.\n")[:-1]
-    assert len(said) == len(commands), "the second miner has not answered every command"
+        for file, question in all_cases:
+            name = folder.file(file)
+            commands.append(f"read-roles {name}")
+            commands.append(f"ask-roles {name} {question[0]} {question[1]} {question[2]}")
+        said = told(second_miner, commands)
     lines = []
     for read, asked_roles in zip(said[0::2], said[1::2]):
         code = "0" if read == "accepted" else read.removeprefix("refused ")
@@ -597,7 +469,7 @@ def main():
     if len(sys.argv) > 2:
         sys.exit(__doc__)
     crate = os.path.join(os.path.dirname(os.path.abspath(__file__)), "..", "crates", "rolecases")
-    all_cases = list(cases())
+    all_cases = list(each_once(GROUPS))
     whole = corpus(all_cases)
     with open(os.path.join(crate, "stdin"), "wb") as out:
         out.write(whole)

@@ -13,11 +13,12 @@ use Rattle.loaded.specs.Record.{permissionTable, recordWith, recordOf}
 use Rattle.loaded.specs.RecordLaws.{table-get}
 use Rattle.policy.specs.PartLaws.{alike-out, alike-in}
 use Rattle.policy.specs.Policy.{Policy, senior, held, sideOf, settingOf, rolesIn}
-use Rattle.policy.specs.Roles.{alike}
-use Rattle.policy.specs.Rules.{user, resource}
+use Rattle.policy.specs.PolicyLaws.{granted}
+use Rattle.policy.specs.Roles.{alike, rolesGrant}
+use Rattle.policy.specs.Rules.{Triple, user, resource}
 use Rattle.sets.specs.MaskLaws.{mask-same}
 use Rattle.sets.specs.Sets.{bit, maskOf, bit-mask}
-use Rattle.sets.specs.Tests.{Is, and-r, or-out, test, fails, same, any, any-out, upTo}
+use Rattle.sets.specs.Tests.{Is, and-r, or-out, test, fails, same, any, any-out, upTo, upTo-out, any-ext}
 
 -- equality either way round
 pub eqb-turned : (x y : ℕ) → eqb x y ≡ eqb y x
@@ -58,3 +59,29 @@ module _ (F : Policy) (Z : Sized F) where
     where
       outside : (k r o : ℕ) → F .table resource .count ≤ r → F .permitted k r o ≡ false
       outside k r o n = fails (F .permitted k r o) λ p. let a = Z .permits k r o p .1 in omega arith
+
+  -- ---- what the tables grant
+
+  role-grants : (u r o k : ℕ) → u < 64 → r < 64 → o < 16 → k < 32
+      → (bit (getD (recordOf F .holders) k 0) u && bit (getD (recordOf F .permissions) (16 * k + o) 0) r) ≡ (held F k u && F .permitted k r o)
+  unfolding recordOf recordWith permittedOn
+  role-grants u r o k hu hr ho hk =
+      ap₂ _&&_
+      (ap (λ (m : ℕ). bit m u) (holders-shown k hk) ∙ bit-mask 64 (held F k) u hu)
+      (ap (λ (m : ℕ). bit m r) (row-shown k o hk ho) ∙ bit-mask 64 (λ r. F .permitted k r o) r hr)
+
+  -- some role that the user holds has the permission, by the tables
+  pub record-grants : (u r o : ℕ) → Triple (settingOf F) u r o
+      → any (λ k. bit (getD (recordOf F .holders) k 0) u && bit (getD (recordOf F .permissions) (16 * k + o) 0) r) (upTo (F .roles)) ≡ rolesGrant (settingOf F) (rolesIn F) u r o
+  unfolding settingOf sideOf
+  record-grants u r o t =
+      let lu = t .user in
+      let lr = t .resource in
+      let lo = t .op in
+      let mu = Z .many user in
+      let mr = Z .many resource in
+      let mo = Z .operable in
+      let mk = Z .few in
+      any-ext (λ k. bit (getD (recordOf F .holders) k 0) u && bit (getD (recordOf F .permissions) (16 * k + o) 0) r) (λ k. held F k u && F .permitted k r o) (upTo (F .roles))
+      (λ k m. let l = upTo-out (F .roles) m in role-grants u r o k (omega arith) (omega arith) (omega arith) (omega arith))
+      ∙ sym (granted F u r o t)

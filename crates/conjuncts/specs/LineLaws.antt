@@ -27,9 +27,9 @@ each-end : {A B : Type 0} (f : A → List B) (l : List A) (x : A) → each f (l 
 each-end f [] x = append-nil (f x)
 each-end f (y ∷ l) x = ap (λ t. f y ++ t) (each-end f l x) ∙ sym (append-assoc (f y) (each f l) (f x))
 
-pub any-end : {A : Type 0} (f : A → Bool) (l : List A) (x : A) → any f (l ++ (x ∷ [])) ≡ (any f l || f x)
-any-end f [] x = or-false (f x)
-any-end f (y ∷ l) x = ap (λ (b : Bool). f y || b) (any-end f l x) ∙ sym (or-assoc (f y) (any f l) (f x))
+pub any-last : {A : Type 0} (f : A → Bool) (l : List A) (x : A) → any f (l ++ (x ∷ [])) ≡ (any f l || f x)
+any-last f [] x = or-false (f x)
+any-last f (y ∷ l) x = ap (λ (b : Bool). f y || b) (any-last f l x) ∙ sym (or-assoc (f y) (any f l) (f x))
 
 values-more : (P : Setting) (ls : Lines) (c : RuleCommand) (w : Which) (a : ℕ) → valuesIn P (ls ++ (c ∷ [])) w a ≡ valuesIn P ls w a ++ listed w (P .side w .isSet a) a c
 unfolding valuesIn
@@ -42,7 +42,7 @@ meets-more S a vs v x = go (S .value a x)
   where
     go : (o : Option ℕ) → admits (S .below a) (vs ++ (v ∷ [])) o ≡ (admits (S .below a) vs o || admits (S .below a) (v ∷ []) o)
     go none = refl
-    go (some y) = any-end (λ v. S .below a v y) vs v ∙ ap (λ (b : Bool). any (λ v. S .below a v y) vs || b) (sym (or-false (S .below a v y)))
+    go (some y) = any-last (λ v. S .below a v y) vs v ∙ ap (λ (b : Bool). any (λ v. S .below a v y) vs || b) (sym (or-false (S .below a v y)))
 
 -- ---- lines that list no value
 
@@ -207,12 +207,12 @@ atoms-line ls a b ha hb =
     at k l =
         ap (λ (x : Bool). x || eqb k (6 * a + b)) (bit-maskOf 36 (λ i. any (isAtom i) ls) k)
         ∙ test (ltb k 36)
-        (λ q. rw q (sym (any-end (isAtom k) ls (link a b))))
+        (λ q. rw q (sym (any-last (isAtom k) ls (link a b))))
         (λ q. rw q (let n = ltb-false k 36 q in ne-eqb k (6 * a + b) (λ z. omega arith)))
 
 pub atoms-kept : (ls : Lines) (c : RuleCommand) → ((i : ℕ) → isAtom i c ≡ false) → atomPlaces ls ≡ atomPlaces (ls ++ (c ∷ []))
 unfolding atomPlaces
-atoms-kept ls c h = mask-same 36 (λ i. any (isAtom i) ls) (λ i. any (isAtom i) (ls ++ (c ∷ []))) (λ i l. sym (any-end (isAtom i) ls c ∙ ap (λ (b : Bool). any (isAtom i) ls || b) (h i) ∙ or-false (any (isAtom i) ls)))
+atoms-kept ls c h = mask-same 36 (λ i. any (isAtom i) ls) (λ i. any (isAtom i) (ls ++ (c ∷ []))) (λ i l. sym (any-last (isAtom i) ls c ∙ ap (λ (b : Bool). any (isAtom i) ls || b) (h i) ∙ or-false (any (isAtom i) ls)))
 
 -- a 26 behind lines that have none
 pub operations-line : (ls : Lines) (m : ℕ) → any isOperations ls ≡ false → operationsIn (ls ++ (operations m ∷ [])) ≡ m

@@ -1,15 +1,18 @@
 -- What the tests of a rule's summary come to is what its lines say.
 -- Assumes nothing.
-use Prim.Native.Nat.{ℕ}
+use Prim.Native.Nat.{ℕ, _+_, _*_, _^_, _<_}
 use lib.Dec.{ltb}
-use lib.ListN.{length}
+use lib.ListN.{length, getD}
 use mathlib.Core.Bool.{Bool, true, false, _&&_, and-assoc}
 use mathlib.Core.List.{List, [], _∷_, _++_, List·Memᴰ·head, List·Memᴰ·tail}
 use mathlib.Core.Path.{_≡_, refl, sym, ap, ap₂, _∙_}
 use Rattle.files.specs.RuleFile.{Lines, valuesIn, conjunctsIn}
 use Rattle.policy.specs.Rules.{Which, by, Setting, meets, attrsOf, holds, conjunct}
-use Rattle.sets.specs.MaskLaws.{and-true}
-use Rattle.sets.specs.Tests.{imp, _∈_, all, each, only}
+use Rattle.sets.specs.LoopLaws.{narrowing}
+use Rattle.sets.specs.MaskLaws.{and-true, mask-unique}
+use Rattle.sets.specs.Sets.{bit, bit-none}
+use Rattle.sets.specs.Tests.{imp, _∈_, all, all-in, each, only, upTo}
+use Rattle.conjuncts.specs.Summary.{linkedWith}
 
 -- tests of the members of a list, by its parts
 pub all-append : {A : Type 0} (f : A → Bool) (s t : List A) → all f (s ++ t) ≡ (all f s && all f t)
@@ -27,6 +30,14 @@ all-each f g h (x ∷ xs) e = all-append f (g x) (each g xs) ∙ ap₂ _&&_ (e x
 pub all-same : (f g : ℕ → Bool) (l : List ℕ) → ((a : ℕ) → a ∈ l → f a ≡ g a) → all f l ≡ all g l
 all-same f g [] h = refl
 all-same f g (x ∷ xs) h = ap₂ _&&_ (h x (List·Memᴰ·head refl)) (all-same f g xs (λ a m. h a (List·Memᴰ·tail m)))
+
+-- without atoms every resource is left
+pub no-atoms : (links : List ℕ) (atoms u among : ℕ) → among < 2 ^ 64 → atoms ≡ 0 → among ≡ linkedWith links atoms u among
+unfolding linkedWith
+no-atoms links atoms u among l e =
+    mask-unique 64 among (narrowing among (bit atoms) (λ i. getD links (64 * i + u) 0) 36) l
+    (λ r k. sym (ap (λ (b : Bool). bit among r && b) (all-in (λ j. imp (bit atoms j) (bit (getD links (64 * j + u) 0) r)) (upTo 36) (λ j m. ap (λ (b : Bool). imp b (bit (getD links (64 * j + u) 0) r)) (ap (λ (x : ℕ). bit x j) e ∙ bit-none j)))
+    ∙ and-true (bit among r)))
 
 module _ (P : Setting) (ls : Lines) where
   -- somebody meets every conjunct of a side

@@ -24,6 +24,10 @@ pub fn linked_with(links: &[u64; 2304], atoms: u64, user: usize, among: u64) -> 
     requires { ⌜ user < 64 ⌝ }
     ensures { λ r. ⌜ r ≡ linkedWith (now (links .entry)) atoms user among ⌝ }
 {
+    // Most rules have no atoms.
+    if atoms == 0 {
+        return among;
+    }
     let mut m = among;
     for i in 0..36 {
         if sets::has(atoms, i) {

@@ -1,10 +1,11 @@
 -- The laws of grids: what a grid has, how loops fill one, and how a search for the first difference goes on.
 -- Assumes nothing.
-use Prim.Native.Nat.{ℕ, zero, suc, _+_, _*_, _/_, _%_, _<_}
-use borrow.Author.Tests.{eqb-true}
+use Prim.Native.Nat.{ℕ, zero, suc, _+_, _*_, _/_, _%_, _≤_, _<_}
+use borrow.Author.Tests.{eqb-true, eq-eqb}
+use lib.Bits.{bitOr, bitXor, or-add-and, xor-add-and, and-le-l, and-le-r, xor-self}
 use lib.Dec.{eqb}
 use lib.ListN.{length, getD}
-use mathlib.Core.Bool.{Bool, true, false, cond, _&&_, _||_, not, false≢true, Bool·beq}
+use mathlib.Core.Bool.{Bool, true, false, cond, _&&_, not, false≢true, Bool·beq}
 use mathlib.Core.List.{List, [], _∷_, _++_, map, append-assoc, append-nil, List·Memᴰ·head, List·Memᴰ·tail}
 use mathlib.Core.Logic.{_⊎_, inl, inr}
 use mathlib.Core.Option.{Option, none, some}
@@ -13,19 +14,19 @@ use native.Mathlib.Nat.{not-suc-le-zero, le-of-suc-le-suc, eq-or-lt-of-le}
 use native.Mathlib.Numerals.{add-one}
 use native.Mathlib.Omega.{arith}
 use Rattle.admit.specs.AdmitLaws.{Sized}
+use Rattle.admit.specs.TableLaws.{record-grants}
 use Rattle.files.specs.Calls.{first, triples, rulesGrant, firstDifference}
 use Rattle.files.specs.RuleFile.{Lines}
-use Rattle.loaded.specs.Record.{tableOf, permissionTable, recordWith, recordOf}
+use Rattle.loaded.specs.Record.{tableOf, recordOf}
 use Rattle.loaded.specs.RecordLaws.{table-get, table-length, table-ext}
-use Rattle.policy.specs.Policy.{Policy, held, sideOf, settingOf, rolesIn}
-use Rattle.policy.specs.PolicyLaws.{granted}
+use Rattle.policy.specs.Policy.{Policy, sideOf, settingOf, rolesIn}
 use Rattle.policy.specs.Roles.{Roles, rolesGrant}
 use Rattle.policy.specs.RuleLaws.{same-in, same-out}
 use Rattle.policy.specs.Rules.{Setting, Block, Triple, sameBlock, user, resource}
-use Rattle.sets.specs.LoopLaws.{upTo-more, joining, table-unique}
-use Rattle.sets.specs.MaskLaws.{mask-same}
-use Rattle.sets.specs.Sets.{bit, bit-none, maskOf, bit-mask}
-use Rattle.sets.specs.Tests.{fails, same, iff, iff-in, all-out, any, each, upTo, upTo-in, upTo-out, any-ext, _∈_, each-in, each-out, map-in, map-out}
+use Rattle.sets.specs.LoopLaws.{upTo-more, all-more, table-unique}
+use Rattle.sets.specs.MaskLaws.{mask-same, mask-none}
+use Rattle.sets.specs.Sets.{bit, maskOf, bit-mask}
+use Rattle.sets.specs.Tests.{Is, and-in, and-l, and-r, fails, same, iff, iff-in, all-in, all-out, each, upTo, upTo-in, upTo-out, _∈_, each-in, each-out, map-in, map-out}
 use Rattle.grants.specs.Grid.{gridOf, inGrid, grantedBy, tripleList, differAt, sameWords, gridDifference, differenceOf, isSame}
 use Rattle.grants.specs.declared.Difference.the-variants.{Same, At}
 
@@ -46,6 +47,10 @@ pub grid-unique : (t : List ℕ) (G : Block) → length t ≡ 1024 → ((i : ℕ
 unfolding gridOf tableOf
 grid-unique t G e h = table-unique 1024 t (λ i. maskOf 64 (λ r. G (i / 16) r (i % 16))) e h
 
+-- a grid of empty sets has no triples
+pub no-triples : (out : List ℕ) → length out ≡ 1024 → ((i : ℕ) → i < 1024 → getD out i 0 ≡ 0) → out ≡ gridOf (λ u r o. false)
+no-triples out e h = grid-unique out (λ u r o. false) e (λ i l. h i l ∙ sym (mask-none 64 (λ r. false) (λ r k. refl)))
+
 -- sets of triples that agree wherever a grid has room have one grid
 pub grid-same : (G H : Block) → ((u r o : ℕ) → u < 64 → r < 64 → o < 16 → G u r o ≡ H u r o) → gridOf G ≡ gridOf H
 unfolding gridOf
@@ -55,40 +60,11 @@ grid-same G H h =
 
 -- ---- what the roles grant
 
--- one word, worked out by joining what the roles give
-pub granted-joined : (holders permissions : List ℕ) (roles u o m : ℕ) → m ≡ maskOf 64 (joining 0 (λ k. bit (getD holders k 0) u) (λ k. getD permissions (16 * k + o) 0) roles)
-    → m ≡ maskOf 64 (λ r. grantedBy holders permissions roles u r o)
-unfolding grantedBy
-granted-joined holders permissions roles u o m e =
-    e ∙ mask-same 64 (joining 0 (λ k. bit (getD holders k 0) u) (λ k. getD permissions (16 * k + o) 0) roles) (λ r. any (λ k. bit (getD holders k 0) u && bit (getD permissions (16 * k + o) 0) r) (upTo roles))
-    (λ r l. ap (λ (b : Bool). b || any (λ k. bit (getD holders k 0) u && bit (getD permissions (16 * k + o) 0) r) (upTo roles)) (bit-none r))
-
 module _ (F : Policy) (Z : Sized F) where
-  -- a role's holders and permissions, from the tables
-  role-grants : (u r o k : ℕ) → u < 64 → r < 64 → o < 16 → k < 32
-      → (bit (getD (recordOf F .holders) k 0) u && bit (getD (recordOf F .permissions) (16 * k + o) 0) r) ≡ (held F k u && F .permitted k r o)
-  unfolding recordOf recordWith permissionTable
-  role-grants u r o k hu hr ho hk =
-      ap₂ _&&_
-      (ap (λ (m : ℕ). bit m u) (table-get 32 (λ k. maskOf 64 (held F k)) k hk) ∙ bit-mask 64 (held F k) u hu)
-      (ap (λ (m : ℕ). bit m r) (table-get 512 (λ i. maskOf 64 (λ r. F .permitted (i / 16) r (i % 16))) (16 * k + o) (omega arith))
-      ∙ bit-mask 64 (λ r. F .permitted ((16 * k + o) / 16) r ((16 * k + o) % 16)) r hr
-      ∙ (let a : (16 * k + o) / 16 ≡ k = omega arith in let b : (16 * k + o) % 16 ≡ o = omega arith in ap₂ (λ (x y : ℕ). F .permitted x r y) a b))
-
   -- the tables of a policy's record grant what the policy's roles do
   pub granted-means : (u r o : ℕ) → Triple (settingOf F) u r o → grantedBy (recordOf F .holders) (recordOf F .permissions) (F .roles) u r o ≡ rolesGrant (settingOf F) (rolesIn F) u r o
   unfolding grantedBy settingOf sideOf
-  granted-means u r o t =
-      let lu = t .user in
-      let lr = t .resource in
-      let lo = t .op in
-      let mu = Z .many user in
-      let mr = Z .many resource in
-      let mo = Z .operable in
-      let mk = Z .few in
-      any-ext (λ k. bit (getD (recordOf F .holders) k 0) u && bit (getD (recordOf F .permissions) (16 * k + o) 0) r) (λ k. held F k u && F .permitted k r o) (upTo (F .roles))
-      (λ k m. let l = upTo-out (F .roles) m in role-grants u r o k (omega arith) (omega arith) (omega arith) (omega arith))
-      ∙ sym (granted F u r o t)
+  granted-means u r o t = record-grants F Z u r o t
 
   pub roles-grid-means : (u r o : ℕ) → Triple (settingOf F) u r o
       → inGrid (gridOf (grantedBy (recordOf F .holders) (recordOf F .permissions) (F .roles))) u r o ≡ rolesGrant (settingOf F) (rolesIn F) u r o
@@ -316,3 +292,45 @@ pub grids-same : (P : Setting) (G H : Block) (a b : List ℕ)
     → ((u r o : ℕ) → Triple P u r o → inGrid a u r o ≡ G u r o) → ((u r o : ℕ) → Triple P u r o → inGrid b u r o ≡ H u r o)
     → isSame (differenceOf (gridDifference a b (P .side user .count) (P .side resource .count) (P .slots))) ≡ sameBlock P G H
 grids-same P G H a b p q = ap (λ (d : Option (ℕ × ℕ × ℕ)). isSame (differenceOf d)) (difference-means P G H a b p q) ∙ same-means P G H
+
+-- ---- all words of a user at once
+
+-- `differences | (x ^ y)` has nothing in it just if nothing differs so far and x is y
+differences-on : (d x y : ℕ) → eqb (bitOr d (bitXor x y)) 0 ≡ (eqb d 0 && eqb x y)
+differences-on d x y = same (eqb (bitOr d (bitXor x y)) 0) (eqb d 0 && eqb x y) there back
+  where
+    none : (a b : ℕ) → bitOr a b ≡ 0 → (a ≡ 0) × (b ≡ 0)
+    none a b e = let s = or-add-and a b in let p = and-le-l a b in let q = and-le-r a b in (omega arith, omega arith)
+
+    alike : (a b : ℕ) → bitXor a b ≡ 0 → a ≡ b
+    alike a b e = let s = xor-add-and a b in let p = and-le-l a b in let q = and-le-r a b in omega arith
+
+    there : Is (eqb (bitOr d (bitXor x y)) 0) → Is (eqb d 0 && eqb x y)
+    there h = let n = none d (bitXor x y) (eqb-true (bitOr d (bitXor x y)) 0 h) in and-in (eq-eqb d 0 (n .0)) (eq-eqb x y (alike x y (n .1)))
+
+    back : Is (eqb d 0 && eqb x y) → Is (eqb (bitOr d (bitXor x y)) 0)
+    back h =
+        let p = eqb-true d 0 (and-l (eqb d 0) (eqb x y) h) in
+        let q = eqb-true x y (and-r (eqb d 0) (eqb x y) h) in
+        eq-eqb (bitOr d (bitXor x y)) 0 (ap₂ (λ (a b : ℕ). bitOr a (bitXor b y)) p q ∙ ap (bitOr 0) (xor-self y))
+
+-- a loop that joins the differences, `differences | (x ^ y)`: there are none just if the words so far are the same
+pub differences-none : (a b : List ℕ) (u : ℕ) → eqb 0 0 ≡ sameWords a b u 0
+unfolding sameWords
+differences-none a b u = refl
+
+pub differences-more : (a b : List ℕ) (u d d′ n : ℕ) → eqb d 0 ≡ sameWords a b u n → d′ ≡ bitOr d (bitXor (getD a (16 * u + n) 0) (getD b (16 * u + n) 0)) → eqb d′ 0 ≡ sameWords a b u (n + 1)
+unfolding sameWords
+differences-more a b u d d′ n h e =
+    ap (λ (x : ℕ). eqb x 0) e ∙ differences-on d (getD a (16 * u + n) 0) (getD b (16 * u + n) 0) ∙ ap (λ (x : Bool). x && eqb (getD a (16 * u + n) 0) (getD b (16 * u + n) 0)) h
+    ∙ sym (all-more (λ o. eqb (getD a (16 * u + o) 0) (getD b (16 * u + o) 0)) n)
+
+pub differences-end : (a b : List ℕ) (u d n m : ℕ) → eqb d 0 ≡ sameWords a b u n → n ≡ m → eqb d 0 ≡ sameWords a b u m
+differences-end a b u d n m h e = h ∙ ap (sameWords a b u) e
+
+-- where all words are the same, those of fewer operations are
+pub fewer-words : (a b : List ℕ) (u n m : ℕ) {s : Bool} → n ≤ m → s ≡ sameWords a b u m → s ≡ true → true ≡ sameWords a b u n
+unfolding sameWords
+fewer-words a b u n m l e h =
+    sym (all-in (λ o. eqb (getD a (16 * u + o) 0) (getD b (16 * u + o) 0)) (upTo n)
+    (λ o k. let lo = upTo-out n k in all-out (λ o. eqb (getD a (16 * u + o) 0) (getD b (16 * u + o) 0)) (sym e ∙ h) (upTo-in {n = m} {i = o} (omega arith))))

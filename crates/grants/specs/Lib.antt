@@ -2,3 +2,5 @@ pub mod Grid
 pub mod GridLaws
 pub mod Links
 pub mod LinkLaws
+pub mod Updates
+pub mod UpdateLaws

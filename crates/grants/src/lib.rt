@@ -1,11 +1,13 @@
 // Grants as a grid of sets of resources, word 16 * user + operation: the grid of what the roles grant, and the first triple at which
 // two grids differ. And the table of the atoms that hold.
+ghost use lib.Dec.{eqb};
 ghost use lib.ListN.{length, getD};
-ghost use mathlib.Core.Bool.{not};
+ghost use mathlib.Core.Bool.{false, _||_, not};
 ghost use mathlib.Core.Path.{_≡_};
-ghost use Prim.Native.Nat.{_+_, _*_, _≤_, _<_};
+ghost use Prim.Native.Nat.{_+_, _*_, _/_, _%_, _≤_, _<_};
 ghost use Rattle.grants.specs.Grid.{gridOf, inGrid, grantedBy, sameWords, gridDifference, differenceOf};
 ghost use Rattle.grants.specs.Links.{linkWord, linkTable};
+ghost use Rattle.grants.specs.Updates.{joinedRow, joinedRole, linkedAtom, emptyAtom};
 ghost use Rattle.policy.specs.Rules.{formOf, linked};
 ghost use Rattle.sets.specs.Sets.{maskOf};
 ghost use Rattle.sets.specs.Tests.{iff};
@@ -16,33 +18,46 @@ pub enum Difference {
     At(usize, usize, usize),
 }
 
-// The resources on which the roles grant a user an operation.
-fn granted<'a>(
-    holders: &'a [u64; 32],
-    permissions: &'a [u64; 512],
-    roles: usize,
-    user: usize,
-    operation: usize,
-) -> u64
-    requires { ⌜ (roles ≤ 32) × (operation < 16) ⌝ }
-    ensures { λ m. ⌜ m ≡ maskOf 64 (λ r. grantedBy (now (holders .entry)) (now (permissions .entry)) roles user r operation) ⌝ }
+// The grid of no triples, whatever the slice held. Into a slice, since only a slice tells its length to a proof.
+pub fn fill_none(grid: &mut [u64])
+    requires { ⌜ length (now grid) ≡ 1024 ⌝ }
+    ensures { λ _. ⌜ now (grid .exit) ≡ gridOf (λ u r o. false) ⌝ }
 {
-    let mut resources = 0;
-    for k in 0..roles {
-        if sets::has(holders[k], user) {
-            resources = sets::union(resources, permissions[16 * k + operation]);
-        }
+    for word in 0..1024 {
+        grid[word] = 0;
     }
-    resources
 }
 
-// Into a slice, since only a slice tells its length to a proof.
+// Joins what a role is permitted to a user's words.
+fn join_row(permissions: &[u64; 512], role: usize, user: usize, grid: &mut [u64])
+    requires { ⌜ (role < 32) × (user < 64) × (length (now grid) ≡ 1024) ⌝ }
+    ensures { λ _. ⌜ now (grid .exit) ≡ joinedRow (now (permissions .entry)) role user (now (grid .entry)) ⌝ }
+{
+    for o in 0..16 {
+        grid[16 * user + o] = sets::union(grid[16 * user + o], permissions[16 * role + o]);
+    }
+}
+
+// Joins what a role is permitted to the words of each user who holds it.
+fn join_role(holding: u64, permissions: &[u64; 512], role: usize, grid: &mut [u64])
+    requires { ⌜ (role < 32) × (length (now grid) ≡ 1024) ⌝ }
+    ensures { λ _. ⌜ now (grid .exit) ≡ joinedRole holding (now (permissions .entry)) role (now (grid .entry)) ⌝ }
+{
+    for u in 0..64 {
+        if sets::has(holding, u) {
+            join_row(permissions, role, u, grid);
+        }
+    }
+}
+
+// Role by role, since most users hold few roles.
 fn fill_grid<'a>(holders: &'a [u64; 32], permissions: &'a [u64; 512], roles: usize, out: &mut [u64])
     requires { ⌜ (roles ≤ 32) × (length (now out) ≡ 1024) ⌝ }
     ensures { λ _. ⌜ now (out .exit) ≡ gridOf (grantedBy (now (holders .entry)) (now (permissions .entry)) roles) ⌝ }
 {
-    for i in 0..1024 {
-        out[i] = granted(holders, permissions, roles, i / 16, i % 16);
+    fill_none(out);
+    for k in 0..roles {
+        join_role(holders[k], permissions, k, out);
     }
 }
 
@@ -74,11 +89,26 @@ fn differ_at<'a>(
     sets::has(a[at], resource) != sets::has(b[at], resource)
 }
 
+// Whether two grids have the same words for a user at all operations. Every word is looked at, which takes no branch.
+fn alike<'a>(a: &'a [u64; 1024], b: &'a [u64; 1024], user: usize) -> bool
+    requires { ⌜ user < 64 ⌝ }
+    ensures { λ s. ⌜ s ≡ sameWords (now (a .entry)) (now (b .entry)) user 16 ⌝ }
+{
+    let mut differences: u64 = 0;
+    for o in 0..16 {
+        differences = differences | (a[16 * user + o] ^ b[16 * user + o]);
+    }
+    differences == 0
+}
+
 // Whether two grids have the same words for a user.
 fn agree<'a>(a: &'a [u64; 1024], b: &'a [u64; 1024], user: usize, operations: usize) -> bool
     requires { ⌜ (user < 64) × (operations ≤ 16) ⌝ }
     ensures { λ s. ⌜ s ≡ sameWords (now (a .entry)) (now (b .entry)) user operations ⌝ }
 {
+    if alike(a, b, user) {
+        return true;
+    }
     for o in 0..operations {
         if a[16 * user + o] != b[16 * user + o] {
             return false;
@@ -116,24 +146,26 @@ pub fn first_difference<'a>(
     }
 }
 
-// Whether an atom holds of a user's and a resource's value. Left says that the user's attribute is a set, right that the resource's is.
-fn holds(left: bool, right: bool, x: u64, y: u64) -> bool
-    ensures { λ r. ⌜ r ≡ linked (formOf left right) x y ⌝ }
+// Whose values in a slot, known or not, the atom joins with a user's value. Left says that the user's attribute is a set, right that the
+// resource's is.
+fn fitting(values: &[u64; 768], slot: usize, left: bool, right: bool, x: u64) -> u64
+    requires { ⌜ slot < 12 ⌝ }
+    ensures { λ m. ⌜ m ≡ maskOf 64 (λ r. linked (formOf left right) x (getD (now (values .entry)) (64 * slot + r) 0)) ⌝ }
 {
     if left {
         if right {
-            return sets::within(y, x);
+            return scan::contained(values, slot, x);
         }
         // No set has a number above 63.
-        return sets::has(x, y as usize);
+        return scan::elements(values, slot, x);
     }
     if right {
-        return false;
+        return 0;
     }
-    x == y
+    scan::equal(values, slot, x)
 }
 
-// The resources of whose values in a slot, known or not, the atom holds with a user's value.
+// The resources, of that many, of whose values in a slot, known or not, the atom holds with a user's value.
 fn linked_values(
     values: &[u64; 768],
     slot: usize,
@@ -145,13 +177,10 @@ fn linked_values(
     requires { ⌜ (slot < 12) × (resources ≤ 64) ⌝ }
     ensures { λ m. ⌜ m ≡ maskOf resources (λ r. linked (formOf left right) x (getD (now (values .entry)) (64 * slot + r) 0)) ⌝ }
 {
-    let mut found = 0;
-    for r in 0..resources {
-        if holds(left, right, x, values[64 * slot + r]) {
-            found = sets::with(found, r);
-        }
-    }
-    found
+    sets::meet(
+        sets::below(resources),
+        fitting(values, slot, left, right, x),
+    )
 }
 
 // The resources of which the atom over user attribute a and resource attribute b holds with a user.
@@ -177,6 +206,63 @@ fn link_word<'a>(
     0
 }
 
+// The words of an atom, of which `links` below has 36.
+fn link_atom<'a>(
+    known: &'a [u64; 12],
+    values: &'a [u64; 768],
+    kinds: &'a [u64; 2],
+    resources: usize,
+    atom: usize,
+    out: &mut [u64],
+)
+    requires { ⌜ (resources ≤ 64) × (atom < 36) × (length (now out) ≡ 2304) ⌝ }
+    ensures { λ _. ⌜ now (out .exit) ≡ linkedAtom (now (known .entry)) (now (values .entry)) (now (kinds .entry)) resources atom (now (out .entry)) ⌝ }
+{
+    for u in 0..64 {
+        out[64 * atom + u] = link_word(known, values, kinds, resources, atom / 6, atom % 6, u);
+    }
+}
+
+// The words of an atom that holds of nobody.
+fn empty_atom(atom: usize, out: &mut [u64])
+    requires { ⌜ (atom < 36) × (length (now out) ≡ 2304) ⌝ }
+    ensures { λ _. ⌜ now (out .exit) ≡ emptyAtom atom (now (out .entry)) ⌝ }
+{
+    for u in 0..64 {
+        out[64 * atom + u] = 0;
+    }
+}
+
+// Whether nobody knows one of an atom's attributes, as where it is not declared.
+fn unknown(known: &[u64; 12], atom: usize) -> bool
+    requires { ⌜ atom < 36 ⌝ }
+    ensures { λ r. ⌜ r ≡ (eqb (getD (now (known .entry)) (atom / 6) 0) 0 || eqb (getD (now (known .entry)) (6 + atom % 6) 0) 0) ⌝ }
+{
+    if known[atom / 6] == 0 {
+        return true;
+    }
+    known[6 + atom % 6] == 0
+}
+
+fn fill_atom<'a>(
+    known: &'a [u64; 12],
+    values: &'a [u64; 768],
+    kinds: &'a [u64; 2],
+    resources: usize,
+    atom: usize,
+    out: &mut [u64],
+)
+    requires { ⌜ (resources ≤ 64) × (atom < 36) × (length (now out) ≡ 2304) ⌝ }
+    ensures { λ _. ⌜ now (out .exit) ≡ linkedAtom (now (known .entry)) (now (values .entry)) (now (kinds .entry)) resources atom (now (out .entry)) ⌝ }
+{
+    // Most attributes of most files are not declared.
+    if unknown(known, atom) {
+        empty_atom(atom, out);
+    } else {
+        link_atom(known, values, kinds, resources, atom, out);
+    }
+}
+
 // Into a slice, since only a slice tells its length to a proof.
 fn fill_links<'a>(
     known: &'a [u64; 12],
@@ -188,8 +274,8 @@ fn fill_links<'a>(
     requires { ⌜ (resources ≤ 64) × (length (now out) ≡ 2304) ⌝ }
     ensures { λ _. ⌜ now (out .exit) ≡ linkTable (now (known .entry)) (now (values .entry)) (now (kinds .entry)) resources ⌝ }
 {
-    for i in 0..2304 {
-        out[i] = link_word(known, values, kinds, resources, i / 384, i / 64 % 6, i % 64);
+    for atom in 0..36 {
+        fill_atom(known, values, kinds, resources, atom, out);
     }
 }
 

@@ -1,24 +1,20 @@
 // Who meets one listed value of a conjunct, from the loaded role file's tables.
 ghost use mathlib.Core.Path.{_≡_};
-ghost use mathlib.Core.Bool.{_&&_, cond};
 ghost use Prim.Native.Nat.{_+_, _*_, _≤_, _<_};
-ghost use lib.Dec.{eqb};
 ghost use lib.ListN.{length, getD};
 ghost use Rattle.policy.specs.Policy.{order};
-ghost use Rattle.sets.specs.Sets.{bit, maskOf};
+ghost use Rattle.sets.specs.Sets.{maskOf};
 ghost use Rattle.meeting.specs.Meeting.{metAt, holdsAll, meetingOf};
 
-// Whether somebody who may know a value meets the listed one: by containment, or by equality.
-fn met(known: u64, x: usize, value: u64, v: u64, contained: bool) -> bool
-    ensures { λ r. ⌜ r ≡ (bit known x && order contained v value) ⌝ }
+// Whose values in a slot, known or not, pass for the listed one: by containment, or by equality.
+fn passing(values: &[u64; 768], slot: usize, v: u64, contained: bool) -> u64
+    requires { ⌜ slot < 12 ⌝ }
+    ensures { λ r. ⌜ r ≡ maskOf 64 (λ x. order contained v (getD (now (values .entry)) (64 * slot + x) 0)) ⌝ }
 {
-    if sets::has(known, x) {
-        if contained {
-            return sets::within(v, value);
-        }
-        return v == value;
+    if contained {
+        return scan::containing(values, slot, v);
     }
-    false
+    scan::equal(values, slot, v)
 }
 
 // Who meets a listed value of the attribute in a slot.
@@ -33,13 +29,8 @@ fn in_slot(
     requires { ⌜ (slot < 12) × (count ≤ 64) ⌝ }
     ensures { λ r. ⌜ r ≡ maskOf count (metAt known (now (values .entry)) slot v contained) ⌝ }
 {
-    let mut m: u64 = 0;
-    for x in 0..count {
-        if met(known, x, values[64 * slot + x], v, contained) {
-            m = sets::with(m, x);
-        }
-    }
-    m
+    let knowing = sets::meet(known, passing(values, slot, v, contained));
+    sets::meet(sets::below(count), knowing)
 }
 
 // Who holds all roles of a set.

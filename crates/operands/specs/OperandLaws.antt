@@ -1,10 +1,11 @@
 -- What the tables say of operands is what the definitions say.
 -- Assumes nothing.
-use Prim.Native.Nat.{ℕ, zero, suc, _<_}
-use borrow.Author.Tests.{ne-eqb, ltb-true}
+use Prim.Native.Nat.{ℕ, zero, suc, _≤_, _<_}
+use borrow.Author.Tests.{ne-eqb, ltb-true, lt-ltb, le-ltb}
 use lib.Dec.{eqb, ltb}
 use lib.ListN.{length, getD, set}
 use mathlib.Core.Bool.{Bool, true, false, cond, _&&_, not}
+use mathlib.Core.List.{List}
 use mathlib.Core.Path.{_≡_, refl, sym, ap, _∙_}
 use native.Mathlib.Omega.{arith}
 use Rattle.admit.specs.AdmitLaws.{Sized, side-attributes, side-kinds}
@@ -68,3 +69,26 @@ module _ (F : Policy) (Z : Sized F) where
       (λ q. rw (p, q, kind-shown 0 a (omega arith) (ltb-true a (length (F .table user .kinds)) p), kind-shown 1 b (omega arith) (ltb-true b (length (F .table resource .kinds)) q)) (sym (form-there (isSetAt F user a) (isSetAt F resource b))))
       (λ q. rw (p, q) refl))
       (λ p. rw p refl))
+
+-- ---- whether an atom is legal, test by test
+
+module _ (a b : ℕ) (attributes kinds : List ℕ) where
+  -- the user's attribute is not declared
+  pub link-user-unknown : getD attributes 0 0 ≤ a → false ≡ linkLegal a b attributes kinds
+  unfolding linkLegal
+  link-user-unknown h = rw (le-ltb a (getD attributes 0 0) h) refl
+
+  -- the resource's is not
+  pub link-resource-unknown : a < getD attributes 0 0 → getD attributes 1 0 ≤ b → false ≡ linkLegal a b attributes kinds
+  unfolding linkLegal
+  link-resource-unknown h k = rw (lt-ltb a (getD attributes 0 0) h, le-ltb b (getD attributes 1 0) k) refl
+
+  -- a set may contain either kind
+  pub link-of-set : a < getD attributes 0 0 → b < getD attributes 1 0 → bit (getD kinds 0 0) a ≡ true → true ≡ linkLegal a b attributes kinds
+  unfolding linkLegal
+  link-of-set h k e = rw (lt-ltb a (getD attributes 0 0) h, lt-ltb b (getD attributes 1 0) k, e) refl
+
+  -- a single equals only a single
+  pub link-of-single : {set : Bool} → a < getD attributes 0 0 → b < getD attributes 1 0 → bit (getD kinds 0 0) a ≡ false → set ≡ bit (getD kinds 1 0) b → not set ≡ linkLegal a b attributes kinds
+  unfolding linkLegal
+  link-of-single h k e q = rw (lt-ltb a (getD attributes 0 0) h, lt-ltb b (getD attributes 1 0) k, e) (ap not q)

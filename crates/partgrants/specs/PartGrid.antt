@@ -20,9 +20,9 @@ addedWord passes permissions role grid i = cond passes (joinedWord (getD grid i 
 unfoldable pub addedWhere : (ℕ → Bool) → List ℕ → ℕ → List ℕ → List ℕ
 addedWhere f permissions role grid = tableOf 1024 (λ i. addedWord (f i) permissions role grid i)
 
--- joined for one user, at each operation of the class
-unfoldable pub addedRow : ℕ → List ℕ → ℕ → ℕ → List ℕ → List ℕ
-addedRow user permissions role class grid = addedWhere (λ i. eqb (i / 16) user && bit class (i % 16)) permissions role grid
+-- joined at one operation, for each user who holds the role
+unfoldable pub addedColumn : ℕ → List ℕ → ℕ → ℕ → List ℕ → List ℕ
+addedColumn o permissions role holding grid = addedWhere (λ i. bit holding (i / 16) && eqb (i % 16) o) permissions role grid
 
 -- joined for each user who holds the role, at each operation of the class
 unfoldable pub addedPart : ℕ → List ℕ → ℕ → ℕ → List ℕ → List ℕ

@@ -13,9 +13,11 @@ use Rattle.admit.specs.AdmitLaws.{Sized}
 use Rattle.files.specs.Calls.{partsGrant}
 use Rattle.files.specs.RuleFile.{RuleCommand, Lines, isPartLine, lists, partsIn, legal, opens, value, operations, link, part, ends}
 use Rattle.grants.specs.Grid.{gridOf}
-use Rattle.grants.specs.GridLaws.{grid-same, grid-unique}
+use Rattle.grants.specs.GridLaws.{grid-same}
+use Rattle.grants.specs.UpdateLaws.{updated-none, updated-same, updated-next, updated-twice}
+use Rattle.grants.specs.Updates.{updated}
 use Rattle.loaded.specs.Record.{tableOf, permissionTable, recordWith, recordOf}
-use Rattle.loaded.specs.RecordLaws.{table-get, table-length, table-ext, table-set}
+use Rattle.loaded.specs.RecordLaws.{table-get, table-length, table-ext}
 use Rattle.policy.specs.Merging.{union}
 use Rattle.policy.specs.Mined.{partCount, partAt, partBlock}
 use Rattle.policy.specs.PartLaws.{alike-out, parts-out}
@@ -23,10 +25,10 @@ use Rattle.policy.specs.Policy.{Policy, held, sideOf, settingOf, rolesIn}
 use Rattle.policy.specs.Roles.{Roles, Part, alike, parts, blockOf, classOf}
 use Rattle.policy.specs.Rules.{Setting, Block}
 use Rattle.sets.specs.LoopLaws.{table-unique}
-use Rattle.sets.specs.MaskLaws.{and-true, or-false, mask-same, mask-none}
+use Rattle.sets.specs.MaskLaws.{and-true, or-false, mask-same}
 use Rattle.sets.specs.Sets.{bit, maskOf, bit-mask}
 use Rattle.sets.specs.Tests.{Is, and-in, and-l, and-r, test, same, any, any-in, any-out, keep, upTo, any-places, any-ext}
-use Rattle.partgrants.specs.PartGrid.{joinedWord, addedWord, addedWhere, addedRow, addedPart, joinedGrid}
+use Rattle.partgrants.specs.PartGrid.{joinedWord, addedWord, addedWhere, addedColumn, addedPart, joinedGrid}
 
 -- ---- what one more line adds
 
@@ -110,47 +112,32 @@ module _ (P : Setting) (R : Roles) where
 
 -- ---- loops that join a role's resources to words of a grid
 
--- a word joined at most once
-once : (a b : Bool) (x y : ℕ) → (a ≡ true → b ≡ false) → cond b (joinedWord (cond a (joinedWord x y) x) y) (cond a (joinedWord x y) x) ≡ cond (a || b) (joinedWord x y) x
-once true true x y h = absurd (false≢true (sym (h refl)))
-once true false x y h = refl
-once false true x y h = refl
-once false false x y h = refl
-
 module _ (permissions : List ℕ) (role : ℕ) where
-  where-at : (f : ℕ → Bool) (grid : List ℕ) (i : ℕ) → i < 1024 → getD (addedWhere f permissions role grid) i 0 ≡ addedWord (f i) permissions role grid i
-  unfolding addedWhere
-  where-at f grid i l = table-get 1024 (λ i. addedWord (f i) permissions role grid i) i l
+  -- what becomes of word i
+  abbrev joinedAt : ℕ → ℕ → ℕ
+  joinedAt i old = joinedWord old (getD permissions (16 * role + i % 16) 0)
 
   -- no word passes
   where-none : (f : ℕ → Bool) (grid : List ℕ) → length grid ≡ 1024 → ((i : ℕ) → i < 1024 → f i ≡ false) → grid ≡ addedWhere f permissions role grid
-  unfolding addedWhere tableOf addedWord
-  where-none f grid e h = table-unique 1024 grid (λ i. addedWord (f i) permissions role grid i) e (λ i l. sym (ap (λ (b : Bool). addedWord b permissions role grid i) (h i l)))
+  unfolding addedWhere addedWord updated
+  where-none f grid e h = updated-none 1024 joinedAt f grid e h
 
   where-same : (f g : ℕ → Bool) (grid : List ℕ) → ((i : ℕ) → i < 1024 → f i ≡ g i) → addedWhere f permissions role grid ≡ addedWhere g permissions role grid
-  unfolding addedWhere
-  where-same f g grid h = table-ext 1024 (λ i. addedWord (f i) permissions role grid i) (λ i. addedWord (g i) permissions role grid i) (λ i l. ap (λ (b : Bool). addedWord b permissions role grid i) (h i l))
+  unfolding addedWhere addedWord updated
+  where-same f g grid h = updated-same 1024 joinedAt f g grid h
 
   -- one word more is joined
   where-next : (f g : ℕ → Bool) (grid : List ℕ) (i v : ℕ) → i < 1024 → f i ≡ false → g i ≡ true → ((j : ℕ) → j < 1024 → (j ≡ i → ⊥) → f j ≡ g j)
       → v ≡ joinedWord (getD (addedWhere f permissions role grid) i 0) (getD permissions (16 * role + i % 16) 0)
       → set (addedWhere f permissions role grid) i v ≡ addedWhere g permissions role grid
-  unfolding addedWhere addedWord
-  where-next f g grid i v l p q h e =
-      table-set 1024 (λ i. addedWord (f i) permissions role grid i) (λ i. addedWord (g i) permissions role grid i) i v l
-      (e ∙ ap (λ (w : ℕ). joinedWord w (getD permissions (16 * role + i % 16) 0)) (where-at f grid i l ∙ ap (λ (b : Bool). addedWord b permissions role grid i) p)
-      ∙ sym (ap (λ (b : Bool). addedWord b permissions role grid i) q))
-      (λ j k d. ap (λ (b : Bool). addedWord b permissions role grid j) (h j k d))
+  unfolding addedWhere addedWord updated
+  where-next f g grid i v l p q h e = updated-next 1024 joinedAt f g grid i v l p q h e
 
   -- other words than before are joined
   where-twice : (f g h : ℕ → Bool) (grid : List ℕ) → ((i : ℕ) → i < 1024 → g i ≡ true → f i ≡ false) → ((i : ℕ) → i < 1024 → (g i || f i) ≡ h i)
       → addedWhere f permissions role (addedWhere g permissions role grid) ≡ addedWhere h permissions role grid
-  unfolding addedWhere addedWord
-  where-twice f g h grid apart either =
-      table-ext 1024 (λ i. addedWord (f i) permissions role (addedWhere g permissions role grid) i) (λ i. addedWord (h i) permissions role grid i)
-      (λ i l. ap (λ (x : ℕ). cond (f i) (joinedWord x (getD permissions (16 * role + i % 16) 0)) x) (where-at g grid i l)
-      ∙ once (g i) (f i) (getD grid i 0) (getD permissions (16 * role + i % 16) 0) (apart i l)
-      ∙ ap (λ (b : Bool). addedWord b permissions role grid i) (either i l))
+  unfolding addedWhere addedWord updated
+  where-twice f g h grid apart either = updated-twice 1024 joinedAt f g h grid apart either
 
 -- a test of the numbers below a bound: none, one more, all
 below-zero : (b : Bool) (x : ℕ) → (b && ltb x 0) ≡ false
@@ -162,113 +149,119 @@ below-next x n d = same (ltb x n) (ltb x (n + 1)) (λ h. let k = ltb-true x n h 
 below-all : (b : Bool) (x n : ℕ) → x < n → (b && ltb x n) ≡ b
 below-all b x n l = ap (λ (c : Bool). b && c) (lt-ltb x n l) ∙ and-true b
 
-module _ (permissions : List ℕ) (role class : ℕ) (grid : List ℕ) where
-  -- one user's row so far: at the operations below n
-  unfoldable pub rowSoFar : ℕ → ℕ → List ℕ
-  rowSoFar u n = addedWhere (λ i. (eqb (i / 16) u && bit class (i % 16)) && ltb (i % 16) n) permissions role grid
+module _ (permissions : List ℕ) (role holding : ℕ) (grid : List ℕ) where
+  -- one operation's column so far: for the users below n
+  unfoldable pub columnSoFar : ℕ → ℕ → List ℕ
+  columnSoFar o n = addedWhere (λ i. (bit holding (i / 16) && eqb (i % 16) o) && ltb (i / 16) n) permissions role grid
 
-  pub row-none : (u : ℕ) → length grid ≡ 1024 → grid ≡ rowSoFar u 0
-  unfolding rowSoFar
-  row-none u e = where-none permissions role (λ i. (eqb (i / 16) u && bit class (i % 16)) && ltb (i % 16) 0) grid e (λ i l. below-zero (eqb (i / 16) u && bit class (i % 16)) (i % 16))
-
-  -- an operation of the class
-  pub row-in : (u n : ℕ) (out : List ℕ) (v : ℕ) → u < 64 → n < 16 → out ≡ rowSoFar u n → bit class n ≡ true
-      → v ≡ maskOf 64 (λ k. bit (getD out (16 * u + n) 0) k || bit (getD permissions (16 * role + n) 0) k) → set out (16 * u + n) v ≡ rowSoFar u (n + 1)
-  unfolding rowSoFar joinedWord
-  row-in u n out v hu hn e h q =
-      ap (λ (l : List ℕ). set l (16 * u + n) v) e
-      ∙ where-next permissions role (λ i. (eqb (i / 16) u && bit class (i % 16)) && ltb (i % 16) n) (λ i. (eqb (i / 16) u && bit class (i % 16)) && ltb (i % 16) (n + 1)) grid (16 * u + n) v (omega arith)
-      (ap (λ (c : Bool). (eqb ((16 * u + n) / 16) u && bit class ((16 * u + n) % 16)) && c) (le-ltb ((16 * u + n) % 16) n (omega arith)) ∙ and-false (eqb ((16 * u + n) / 16) u && bit class ((16 * u + n) % 16)))
-      (and-in (and-in (eq-eqb ((16 * u + n) / 16) u (omega arith)) (ap (bit class) rest ∙ h)) (lt-ltb ((16 * u + n) % 16) (n + 1) (omega arith)))
-      other
-      (q ∙ ap₂ (λ (l : List ℕ) (x : ℕ). maskOf 64 (λ k. bit (getD l (16 * u + n) 0) k || bit (getD permissions (16 * role + x) 0) k)) e (sym rest))
-    where
-      rest : (16 * u + n) % 16 ≡ n
-      rest = omega arith
-
-      other : (j : ℕ) → j < 1024 → (j ≡ 16 * u + n → ⊥) → ((eqb (j / 16) u && bit class (j % 16)) && ltb (j % 16) n) ≡ ((eqb (j / 16) u && bit class (j % 16)) && ltb (j % 16) (n + 1))
-      other j l d =
-          test (eqb (j / 16) u)
-          (λ t. let k = eqb-true (j / 16) u t in ap (λ (c : Bool). (eqb (j / 16) u && bit class (j % 16)) && c) (below-next (j % 16) n (λ z. d (omega arith))))
-          (λ t. rw t refl)
-
-  -- an operation outside it
-  pub row-out : (u n : ℕ) (out after : List ℕ) → out ≡ rowSoFar u n → bit class n ≡ false → after ≡ out → after ≡ rowSoFar u (n + 1)
-  unfolding rowSoFar
-  row-out u n out after e h q =
-      q ∙ e ∙ where-same permissions role (λ i. (eqb (i / 16) u && bit class (i % 16)) && ltb (i % 16) n) (λ i. (eqb (i / 16) u && bit class (i % 16)) && ltb (i % 16) (n + 1)) grid at
-    where
-      at : (j : ℕ) → j < 1024 → ((eqb (j / 16) u && bit class (j % 16)) && ltb (j % 16) n) ≡ ((eqb (j / 16) u && bit class (j % 16)) && ltb (j % 16) (n + 1))
-      at j l =
-          test (eqb (j % 16) n)
-          (λ t. let none : (eqb (j / 16) u && bit class (j % 16)) ≡ false = ap (λ (c : Bool). eqb (j / 16) u && c) (ap (bit class) (eqb-true (j % 16) n t) ∙ h) ∙ and-false (eqb (j / 16) u) in rw none refl)
-          (λ t. ap (λ (c : Bool). (eqb (j / 16) u && bit class (j % 16)) && c) (below-next (j % 16) n (eqb-false (j % 16) n t)))
-
-  pub row-end : (u n : ℕ) (out : List ℕ) → out ≡ rowSoFar u n → n ≡ 16 → out ≡ addedRow u permissions role class grid
-  unfolding rowSoFar addedRow
-  row-end u n out e q =
-      e ∙ where-same permissions role (λ i. (eqb (i / 16) u && bit class (i % 16)) && ltb (i % 16) n) (λ i. eqb (i / 16) u && bit class (i % 16)) grid
-      (λ i l. below-all (eqb (i / 16) u && bit class (i % 16)) (i % 16) n (omega arith))
-
-  pub row-so-long : (u n : ℕ) (out : List ℕ) → out ≡ rowSoFar u n → length out ≡ 1024
-  unfolding rowSoFar addedWhere
-  row-so-long u n out e = ap length e ∙ table-length 1024 (λ i. addedWord ((eqb (i / 16) u && bit class (i % 16)) && ltb (i % 16) n) permissions role grid i)
-
-  -- a part so far: for the users below n
-  unfoldable pub partSoFar : ℕ → ℕ → List ℕ
-  partSoFar holding n = addedWhere (λ i. (bit holding (i / 16) && bit class (i % 16)) && ltb (i / 16) n) permissions role grid
-
-  pub part-none : (holding : ℕ) → length grid ≡ 1024 → grid ≡ partSoFar holding 0
-  unfolding partSoFar
-  part-none holding e = where-none permissions role (λ i. (bit holding (i / 16) && bit class (i % 16)) && ltb (i / 16) 0) grid e (λ i l. below-zero (bit holding (i / 16) && bit class (i % 16)) (i / 16))
+  pub column-none : (o : ℕ) → length grid ≡ 1024 → grid ≡ columnSoFar o 0
+  unfolding columnSoFar
+  column-none o e = where-none permissions role (λ i. (bit holding (i / 16) && eqb (i % 16) o) && ltb (i / 16) 0) grid e (λ i l. below-zero (bit holding (i / 16) && eqb (i % 16) o) (i / 16))
 
   -- a user who holds the role
-  pub part-in : (holding n : ℕ) (out after : List ℕ) → out ≡ partSoFar holding n → bit holding n ≡ true → after ≡ addedRow n permissions role class out → after ≡ partSoFar holding (n + 1)
-  unfolding partSoFar addedRow
-  part-in holding n out after e h q =
-      q ∙ ap (addedWhere (λ i. eqb (i / 16) n && bit class (i % 16)) permissions role) e
-      ∙ where-twice permissions role (λ i. eqb (i / 16) n && bit class (i % 16)) (λ i. (bit holding (i / 16) && bit class (i % 16)) && ltb (i / 16) n) (λ i. (bit holding (i / 16) && bit class (i % 16)) && ltb (i / 16) (n + 1)) grid apart either
+  pub column-in : (o n : ℕ) (out : List ℕ) (v : ℕ) → o < 16 → n < 64 → out ≡ columnSoFar o n → bit holding n ≡ true
+      → v ≡ maskOf 64 (λ k. bit (getD out (16 * n + o) 0) k || bit (getD permissions (16 * role + o) 0) k) → set out (16 * n + o) v ≡ columnSoFar o (n + 1)
+  unfolding columnSoFar joinedWord
+  column-in o n out v ho hn e h q =
+      ap (λ (l : List ℕ). set l (16 * n + o) v) e
+      ∙ where-next permissions role (λ i. (bit holding (i / 16) && eqb (i % 16) o) && ltb (i / 16) n) (λ i. (bit holding (i / 16) && eqb (i % 16) o) && ltb (i / 16) (n + 1)) grid (16 * n + o) v (omega arith)
+      (ap (λ (c : Bool). (bit holding ((16 * n + o) / 16) && eqb ((16 * n + o) % 16) o) && c) (le-ltb ((16 * n + o) / 16) n (omega arith)) ∙ and-false (bit holding ((16 * n + o) / 16) && eqb ((16 * n + o) % 16) o))
+      (and-in (and-in (ap (bit holding) whole ∙ h) (eq-eqb ((16 * n + o) % 16) o rest)) (lt-ltb ((16 * n + o) / 16) (n + 1) (omega arith)))
+      other
+      (q ∙ ap₂ (λ (l : List ℕ) (x : ℕ). maskOf 64 (λ k. bit (getD l (16 * n + o) 0) k || bit (getD permissions (16 * role + x) 0) k)) e (sym rest))
     where
-      apart : (i : ℕ) → i < 1024 → ((bit holding (i / 16) && bit class (i % 16)) && ltb (i / 16) n) ≡ true → (eqb (i / 16) n && bit class (i % 16)) ≡ false
-      apart i l t =
-          let k = ltb-true (i / 16) n (and-r (bit holding (i / 16) && bit class (i % 16)) (ltb (i / 16) n) t) in
-          ap (λ (c : Bool). c && bit class (i % 16)) (ne-eqb (i / 16) n (omega arith))
+      whole : (16 * n + o) / 16 ≡ n
+      whole = omega arith
 
-      here : (c b : Bool) → b ≡ true → ((b && c) && false) || (true && c) ≡ ((b && c) && true)
-      here c b p = rw p (at c)
-        where
-          at : (c : Bool) → ((c && false) || c) ≡ (c && true)
-          at true = refl
-          at false = refl
+      rest : (16 * n + o) % 16 ≡ o
+      rest = omega arith
 
-      either : (i : ℕ) → i < 1024 → (((bit holding (i / 16) && bit class (i % 16)) && ltb (i / 16) n) || (eqb (i / 16) n && bit class (i % 16))) ≡ ((bit holding (i / 16) && bit class (i % 16)) && ltb (i / 16) (n + 1))
-      either i l =
-          test (eqb (i / 16) n)
-          (λ t. let k = eqb-true (i / 16) n t in
-          rw (t, le-ltb (i / 16) n (omega arith), lt-ltb (i / 16) (n + 1) (omega arith)) (here (bit class (i % 16)) (bit holding (i / 16)) (ap (bit holding) k ∙ h)))
-          (λ t. rw t (or-false ((bit holding (i / 16) && bit class (i % 16)) && ltb (i / 16) n) ∙ ap (λ (c : Bool). (bit holding (i / 16) && bit class (i % 16)) && c) (below-next (i / 16) n (eqb-false (i / 16) n t))))
+      other : (j : ℕ) → j < 1024 → (j ≡ 16 * n + o → ⊥) → ((bit holding (j / 16) && eqb (j % 16) o) && ltb (j / 16) n) ≡ ((bit holding (j / 16) && eqb (j % 16) o) && ltb (j / 16) (n + 1))
+      other j l d =
+          test (eqb (j % 16) o)
+          (λ t. let k = eqb-true (j % 16) o t in ap (λ (c : Bool). (bit holding (j / 16) && eqb (j % 16) o) && c) (below-next (j / 16) n (λ z. d (omega arith))))
+          (λ t. let none : (bit holding (j / 16) && eqb (j % 16) o) ≡ false = ap (λ (c : Bool). bit holding (j / 16) && c) t ∙ and-false (bit holding (j / 16)) in rw none refl)
 
   -- a user who does not
-  pub part-out : (holding n : ℕ) (out after : List ℕ) → out ≡ partSoFar holding n → bit holding n ≡ false → after ≡ out → after ≡ partSoFar holding (n + 1)
-  unfolding partSoFar
-  part-out holding n out after e h q =
-      q ∙ e ∙ where-same permissions role (λ i. (bit holding (i / 16) && bit class (i % 16)) && ltb (i / 16) n) (λ i. (bit holding (i / 16) && bit class (i % 16)) && ltb (i / 16) (n + 1)) grid at
+  pub column-out : (o n : ℕ) (out after : List ℕ) → out ≡ columnSoFar o n → bit holding n ≡ false → after ≡ out → after ≡ columnSoFar o (n + 1)
+  unfolding columnSoFar
+  column-out o n out after e h q =
+      q ∙ e ∙ where-same permissions role (λ i. (bit holding (i / 16) && eqb (i % 16) o) && ltb (i / 16) n) (λ i. (bit holding (i / 16) && eqb (i % 16) o) && ltb (i / 16) (n + 1)) grid at
     where
-      at : (j : ℕ) → j < 1024 → ((bit holding (j / 16) && bit class (j % 16)) && ltb (j / 16) n) ≡ ((bit holding (j / 16) && bit class (j % 16)) && ltb (j / 16) (n + 1))
+      at : (j : ℕ) → j < 1024 → ((bit holding (j / 16) && eqb (j % 16) o) && ltb (j / 16) n) ≡ ((bit holding (j / 16) && eqb (j % 16) o) && ltb (j / 16) (n + 1))
       at j l =
           test (eqb (j / 16) n)
           (λ t. let none : bit holding (j / 16) ≡ false = ap (bit holding) (eqb-true (j / 16) n t) ∙ h in rw none refl)
-          (λ t. ap (λ (c : Bool). (bit holding (j / 16) && bit class (j % 16)) && c) (below-next (j / 16) n (eqb-false (j / 16) n t)))
+          (λ t. ap (λ (c : Bool). (bit holding (j / 16) && eqb (j % 16) o) && c) (below-next (j / 16) n (eqb-false (j / 16) n t)))
 
-  pub part-end : (holding n : ℕ) (out : List ℕ) → out ≡ partSoFar holding n → n ≡ 64 → out ≡ addedPart holding permissions role class grid
+  pub column-end : (o n : ℕ) (out : List ℕ) → out ≡ columnSoFar o n → n ≡ 64 → out ≡ addedColumn o permissions role holding grid
+  unfolding columnSoFar addedColumn
+  column-end o n out e q =
+      e ∙ where-same permissions role (λ i. (bit holding (i / 16) && eqb (i % 16) o) && ltb (i / 16) n) (λ i. bit holding (i / 16) && eqb (i % 16) o) grid
+      (λ i l. below-all (bit holding (i / 16) && eqb (i % 16) o) (i / 16) n (omega arith))
+
+  pub column-so-long : (o n : ℕ) (out : List ℕ) → out ≡ columnSoFar o n → length out ≡ 1024
+  unfolding columnSoFar addedWhere
+  column-so-long o n out e = ap length e ∙ table-length 1024 (λ i. addedWord ((bit holding (i / 16) && eqb (i % 16) o) && ltb (i / 16) n) permissions role grid i)
+
+  -- a part so far: at the operations below n
+  unfoldable pub partSoFar : ℕ → ℕ → List ℕ
+  partSoFar class n = addedWhere (λ i. (bit holding (i / 16) && bit class (i % 16)) && ltb (i % 16) n) permissions role grid
+
+  pub part-none : (class : ℕ) → length grid ≡ 1024 → grid ≡ partSoFar class 0
+  unfolding partSoFar
+  part-none class e = where-none permissions role (λ i. (bit holding (i / 16) && bit class (i % 16)) && ltb (i % 16) 0) grid e (λ i l. below-zero (bit holding (i / 16) && bit class (i % 16)) (i % 16))
+
+  -- an operation of the class
+  pub part-in : (class n : ℕ) (out after : List ℕ) → out ≡ partSoFar class n → bit class n ≡ true → after ≡ addedColumn n permissions role holding out → after ≡ partSoFar class (n + 1)
+  unfolding partSoFar addedColumn
+  part-in class n out after e h q =
+      q ∙ ap (addedWhere (λ i. bit holding (i / 16) && eqb (i % 16) n) permissions role) e
+      ∙ where-twice permissions role (λ i. bit holding (i / 16) && eqb (i % 16) n) (λ i. (bit holding (i / 16) && bit class (i % 16)) && ltb (i % 16) n) (λ i. (bit holding (i / 16) && bit class (i % 16)) && ltb (i % 16) (n + 1)) grid apart either
+    where
+      apart : (i : ℕ) → i < 1024 → ((bit holding (i / 16) && bit class (i % 16)) && ltb (i % 16) n) ≡ true → (bit holding (i / 16) && eqb (i % 16) n) ≡ false
+      apart i l t =
+          let k = ltb-true (i % 16) n (and-r (bit holding (i / 16) && bit class (i % 16)) (ltb (i % 16) n) t) in
+          ap (λ (c : Bool). bit holding (i / 16) && c) (ne-eqb (i % 16) n (omega arith)) ∙ and-false (bit holding (i / 16))
+
+      here : (b c : Bool) → c ≡ true → ((b && c) && false) || (b && true) ≡ ((b && c) && true)
+      here b c p = rw p (at b)
+        where
+          at : (b : Bool) → (((b && true) && false) || (b && true)) ≡ ((b && true) && true)
+          at true = refl
+          at false = refl
+
+      apart-out : (b c d : Bool) → ((b && c) && d) || (b && false) ≡ ((b && c) && d)
+      apart-out b c d = ap (λ (x : Bool). ((b && c) && d) || x) (and-false b) ∙ or-false ((b && c) && d)
+
+      either : (i : ℕ) → i < 1024 → (((bit holding (i / 16) && bit class (i % 16)) && ltb (i % 16) n) || (bit holding (i / 16) && eqb (i % 16) n)) ≡ ((bit holding (i / 16) && bit class (i % 16)) && ltb (i % 16) (n + 1))
+      either i l =
+          test (eqb (i % 16) n)
+          (λ t. let k = eqb-true (i % 16) n t in
+          rw (t, le-ltb (i % 16) n (omega arith), lt-ltb (i % 16) (n + 1) (omega arith)) (here (bit holding (i / 16)) (bit class (i % 16)) (ap (bit class) k ∙ h)))
+          (λ t. rw t (apart-out (bit holding (i / 16)) (bit class (i % 16)) (ltb (i % 16) n) ∙ ap (λ (c : Bool). (bit holding (i / 16) && bit class (i % 16)) && c) (below-next (i % 16) n (eqb-false (i % 16) n t))))
+
+  -- an operation outside it
+  pub part-out : (class n : ℕ) (out after : List ℕ) → out ≡ partSoFar class n → bit class n ≡ false → after ≡ out → after ≡ partSoFar class (n + 1)
+  unfolding partSoFar
+  part-out class n out after e h q =
+      q ∙ e ∙ where-same permissions role (λ i. (bit holding (i / 16) && bit class (i % 16)) && ltb (i % 16) n) (λ i. (bit holding (i / 16) && bit class (i % 16)) && ltb (i % 16) (n + 1)) grid at
+    where
+      at : (j : ℕ) → j < 1024 → ((bit holding (j / 16) && bit class (j % 16)) && ltb (j % 16) n) ≡ ((bit holding (j / 16) && bit class (j % 16)) && ltb (j % 16) (n + 1))
+      at j l =
+          test (eqb (j % 16) n)
+          (λ t. let none : (bit holding (j / 16) && bit class (j % 16)) ≡ false = ap (λ (c : Bool). bit holding (j / 16) && c) (ap (bit class) (eqb-true (j % 16) n t) ∙ h) ∙ and-false (bit holding (j / 16)) in rw none refl)
+          (λ t. ap (λ (c : Bool). (bit holding (j / 16) && bit class (j % 16)) && c) (below-next (j % 16) n (eqb-false (j % 16) n t)))
+
+  pub part-end : (class n : ℕ) (out : List ℕ) → out ≡ partSoFar class n → n ≡ 16 → out ≡ addedPart holding permissions role class grid
   unfolding partSoFar addedPart
-  part-end holding n out e q =
-      e ∙ where-same permissions role (λ i. (bit holding (i / 16) && bit class (i % 16)) && ltb (i / 16) n) (λ i. bit holding (i / 16) && bit class (i % 16)) grid
-      (λ i l. below-all (bit holding (i / 16) && bit class (i % 16)) (i / 16) n (omega arith))
+  part-end class n out e q =
+      e ∙ where-same permissions role (λ i. (bit holding (i / 16) && bit class (i % 16)) && ltb (i % 16) n) (λ i. bit holding (i / 16) && bit class (i % 16)) grid
+      (λ i l. below-all (bit holding (i / 16) && bit class (i % 16)) (i % 16) n (omega arith))
 
-  pub part-so-long : (holding n : ℕ) (out : List ℕ) → out ≡ partSoFar holding n → length out ≡ 1024
+  pub part-so-long : (class n : ℕ) (out : List ℕ) → out ≡ partSoFar class n → length out ≡ 1024
   unfolding partSoFar addedWhere
-  part-so-long holding n out e = ap length e ∙ table-length 1024 (λ i. addedWord ((bit holding (i / 16) && bit class (i % 16)) && ltb (i / 16) n) permissions role grid i)
+  part-so-long class n out e = ap length e ∙ table-length 1024 (λ i. addedWord ((bit holding (i / 16) && bit class (i % 16)) && ltb (i % 16) n) permissions role grid i)
 
 -- ---- one grid joined to another
 
@@ -291,11 +284,6 @@ joined-means G H =
     table-ext 1024 (λ i. maskOf 64 (λ r. bit (getD (gridOf H) i 0) r || bit (getD (gridOf G) i 0) r)) (λ i. maskOf 64 (λ r. H (i / 16) r (i % 16) || G (i / 16) r (i % 16)))
     (λ i l. mask-same 64 (λ r. bit (getD (gridOf H) i 0) r || bit (getD (gridOf G) i 0) r) (λ r. H (i / 16) r (i % 16) || G (i / 16) r (i % 16))
     (λ r k. ap₂ _||_ (word-bit H i r l k) (word-bit G i r l k)))
-
--- ---- the words of the grid of no triples
-
-pub no-triples : (out : List ℕ) → length out ≡ 1024 → ((i : ℕ) → i < 1024 → getD out i 0 ≡ 0) → out ≡ gridOf (λ u r o. false)
-no-triples out e h = grid-unique out (λ u r o. false) e (λ i l. h i l ∙ sym (mask-none 64 (λ r. false) (λ r k. refl)))
 
 -- ---- a word to which a set is joined if a test passes
 

@@ -5,29 +5,38 @@ ghost use mathlib.Core.Bool.{false};
 ghost use mathlib.Core.Path.{_≡_};
 ghost use Prim.Native.Nat.{_<_};
 ghost use Rattle.grants.specs.Grid.{gridOf};
-ghost use Rattle.partgrants.specs.PartGrid.{addedRow, addedPart, joinedGrid};
+ghost use Rattle.partgrants.specs.PartGrid.{addedColumn, addedPart, joinedGrid};
 
-// Joins, for one user, the resources of each operation of the class to the user's word of that operation.
-fn add_row(permissions: &[u64; 512], role: usize, class: u64, user: usize, grid: &mut [u64])
-    requires { ⌜ (role < 32) × (user < 64) × (length (now grid) ≡ 1024) ⌝ }
-    ensures { λ _. ⌜ now (grid .exit) ≡ addedRow user (now (permissions .entry)) role class (now (grid .entry)) ⌝ }
+// Joins, at one operation, the resources that the role is permitted to the word of each user who holds it.
+fn add_column(
+    holding: u64,
+    permissions: &[u64; 512],
+    role: usize,
+    operation: usize,
+    grid: &mut [u64],
+)
+    requires { ⌜ (role < 32) × (operation < 16) × (length (now grid) ≡ 1024) ⌝ }
+    ensures { λ _. ⌜ now (grid .exit) ≡ addedColumn operation (now (permissions .entry)) role holding (now (grid .entry)) ⌝ }
 {
-    for o in 0..16 {
-        if sets::has(class, o) {
-            grid[16 * user + o] = sets::union(grid[16 * user + o], permissions[16 * role + o]);
+    for u in 0..64 {
+        if sets::has(holding, u) {
+            grid[16 * u + operation] = sets::union(
+                grid[16 * u + operation],
+                permissions[16 * role + operation],
+            );
         }
     }
 }
 
 // Into a slice, since only a slice tells its length to a proof.
-fn add_rows(holding: u64, permissions: &[u64; 512], role: usize, class: u64, grid: &mut [u64])
+fn add_columns(holding: u64, permissions: &[u64; 512], role: usize, class: u64, grid: &mut [u64])
     requires { ⌜ (role < 32) × (length (now grid) ≡ 1024) ⌝ }
     ensures { λ _. ⌜ now (grid .exit) ≡ addedPart holding (now (permissions .entry)) role class (now (grid .entry)) ⌝ }
 {
-    for u in 0..64 {
-        // Most roles have few holders, and the other users' words stay as they are.
-        if sets::has(holding, u) {
-            add_row(permissions, role, class, u, grid);
+    for o in 0..16 {
+        // Most classes have few operations, and the words of the others stay as they are.
+        if sets::has(class, o) {
+            add_column(holding, permissions, role, o, grid);
         }
     }
 }
@@ -43,24 +52,14 @@ pub fn add_part<'a>(
     requires { ⌜ role < 32 ⌝ }
     ensures { λ _. ⌜ now (grid .exit) ≡ addedPart (getD (now (holders .entry)) role 0) (now (permissions .entry)) role class (now (grid .entry)) ⌝ }
 {
-    add_rows(holders[role], permissions, role, class, grid);
-}
-
-// Into a slice, since only a slice tells its length to a proof.
-fn fill_none(grid: &mut [u64])
-    requires { ⌜ length (now grid) ≡ 1024 ⌝ }
-    ensures { λ _. ⌜ now (grid .exit) ≡ gridOf (λ u r o. false) ⌝ }
-{
-    for word in 0..1024 {
-        grid[word] = 0;
-    }
+    add_columns(holders[role], permissions, role, class, grid);
 }
 
 // The grid of no triples, whatever the table held.
 pub fn clear(grid: &mut [u64; 1024])
     ensures { λ _. ⌜ now (grid .exit) ≡ gridOf (λ u r o. false) ⌝ }
 {
-    fill_none(grid);
+    grants::fill_none(grid);
 }
 
 // Into a slice, since only a slice tells its length to a proof.

@@ -1,20 +1,18 @@
 -- What every accepted role file keeps to, whatever its bytes: the sizes that the record has room for.
 -- Assumes nothing.
-use Prim.Native.Nat.{ℕ, zero, suc}
+use Prim.Native.Nat.{ℕ, suc}
 use lib.Dec.{leb}
 use lib.ListN.{length, set}
-use mathlib.Core.Bool.{Bool, true, false, not}
-use mathlib.Core.List.{List, [], _∷_}
-use mathlib.Core.Option.{Option, none, some}
+use mathlib.Core.Bool.{not}
+use mathlib.Core.List.{List}
 use mathlib.Core.Path.{_≡_, refl, sym, ap, _∙_, subst}
 use native.Mathlib.Omega.{arith}
 use Rattle.admit.specs.AdmitLaws.{phaseCode, Sized}
 use Rattle.commands.specs.DecodeLaws.{meaning}
 use Rattle.files.specs.Answer.{Answer, andThen, tooLong, ownSenior, refused, accepted}
-use Rattle.files.specs.Bytes.{operands, close, follow, turn, decode, readOn, read}
-use Rattle.files.specs.BytesLaws.{Carries, unless-carries, then-carries}
-use Rattle.files.specs.RoleFile.{RoleCommand, roleWidths, roleCommand, Loading, blank, isEnd, fresh, settle, obeyRole, roleFormat, readRoles, sizes, declare, give, assign, permit, line, end, nothing}
-use Rattle.files.specs.RuleFile.{ends}
+use Rattle.files.specs.Bytes.{readOn, read}
+use Rattle.files.specs.BytesLaws.{Carries, unless-carries, then-carries, read-carries}
+use Rattle.files.specs.RoleFile.{RoleCommand, Loading, blank, fresh, settle, obeyRole, roleFormat, readRoles, sizes, declare, give, assign, permit, line, end, nothing}
 use Rattle.policy.specs.Policy.{circular}
 use Rattle.rolefile.specs.ReadLaws.{After, blank-sized, obeyed}
 use Rattle.rolefile.specs.Reading.{phaseAfter}
@@ -64,25 +62,7 @@ kept L c K = go (obeyRole 2 L c) (subst (λ (d : RoleCommand). Carries (After L 
 -- reading keeps what every command keeps
 read-kept : (n : ℕ) (L : Loading) (bs : List ℕ) → Kept L → Carries Kept (readOn (roleFormat 2) n L bs)
 unfolding roleFormat
-read-kept zero L bs K = tt
-read-kept (suc n) L [] K = tt
-read-kept (suc n) L (b ∷ bs) K = decoded (read-kept n) (roleWidths b)
-  where
-    closed-so : (rest : List ℕ) (M : Loading) → Kept M → Carries Kept (close (roleFormat 2) rest M)
-    closed-so [] M k = k
-    closed-so (c ∷ cs) M k = tt
-
-    on : ((L : Loading) (bs : List ℕ) → Kept L → Carries Kept (readOn (roleFormat 2) n L bs)) → (ends : Bool) (rest : List ℕ) (M : Loading) → Kept M → Carries Kept (follow (roleFormat 2) ends (readOn (roleFormat 2) n) rest M)
-    on r true rest M k = closed-so rest M k
-    on r false rest M k = r M rest k
-
-    turned : ((L : Loading) (bs : List ℕ) → Kept L → Carries Kept (readOn (roleFormat 2) n L bs)) → (o : Option (List ℕ × List ℕ)) → Carries Kept (turn (roleFormat 2) (readOn (roleFormat 2) n) L b o)
-    turned r none = tt
-    turned r (some p) = then-carries Kept Kept (obeyRole 2 L (roleCommand b (p .0))) (follow (roleFormat 2) (isEnd (roleCommand b (p .0))) (readOn (roleFormat 2) n) (p .1)) (kept L (roleCommand b (p .0)) K) (λ M k. on r (isEnd (roleCommand b (p .0))) (p .1) M k)
-
-    decoded : ((L : Loading) (bs : List ℕ) → Kept L → Carries Kept (readOn (roleFormat 2) n L bs)) → (o : Option (List ℕ)) → Carries Kept (decode (roleFormat 2) (readOn (roleFormat 2) n) L b bs o)
-    decoded r none = tt
-    decoded r (some ws) = turned r (operands ws bs)
+read-kept n L bs K = read-carries (roleFormat 2) Kept kept n L bs K
 
 -- THE LAW
 pub accepted-sized : (bytes : List ℕ) → Carries Sized (readRoles 2 bytes)

@@ -12,9 +12,9 @@ use Rattle.admit.specs.Admit.{admitOf}
 use Rattle.admit.specs.AdmitLaws.{codeOf, phaseCode, Sized, admit-means}
 use Rattle.commands.specs.Decode.{decodedOf}
 use Rattle.commands.specs.DecodeLaws.{meaning, turn-short, turn-unknown, Front, turn-whole}
-use Rattle.files.specs.Answer.{Refusal, numberOf, Answer, unless, andThen, tooLong, cutOff, unknownCommand, outOfPlace, beyond, wrongKind, ownSenior, smallScratch, shortOutput, rulesCutOff, rulesUnknown, rulesOrder, rulesOperand, refused, accepted}
+use Rattle.files.specs.Answer.{Answer, unless, andThen, ownSenior, refused, accepted}
 use Rattle.files.specs.Bytes.{close, follow, readOn, read}
-use Rattle.files.specs.BytesLaws.{Carries}
+use Rattle.files.specs.BytesLaws.{Carries, number-positive}
 use Rattle.files.specs.RoleFile.{Loading, blank, isEnd, fresh, settle, obeyRole, roleFormat, readRoles, nothing}
 use Rattle.loaded.specs.Record.{emptyRecord, tableOf, knownTable, valueTable, assignedTable, lineTable, permissionTable, attributeTable, kindTable, recordWith, recordSoFar, setValues, setAssigned, setLines, setPermissions}
 use Rattle.loaded.specs.RecordLaws.{table-none}
@@ -128,21 +128,6 @@ module _ (s : List ℕ) (f : RoleFile) (p at : ℕ) (t : State s f p at) where
       pub next : Loading
       pub so : obeyRole 2 (t .loading) (meaning c) ≡ accepted next
       pub after : After (t .loading) c next
-
-    number-positive : (d : Refusal) → numberOf d ≡ 0 → ⊥
-    number-positive tooLong h = omega arith
-    number-positive cutOff h = omega arith
-    number-positive unknownCommand h = omega arith
-    number-positive outOfPlace h = omega arith
-    number-positive beyond h = omega arith
-    number-positive wrongKind h = omega arith
-    number-positive ownSenior h = omega arith
-    number-positive smallScratch h = omega arith
-    number-positive shortOutput h = omega arith
-    number-positive rulesCutOff h = omega arith
-    number-positive rulesUnknown h = omega arith
-    number-positive rulesOrder h = omega arith
-    number-positive rulesOperand h = omega arith
 
     pub admitted : verdictAt c p f ≡ 0 → Obeyed
     admitted h = go (obeyRole 2 (t .loading) (meaning c)) refl (sym (judged c) ∙ h) (obeyed (t .loading) c (t .sized) (t .unread))

@@ -1,30 +1,27 @@
 -- What the record says of a question is what the policy says.
 -- Assumes nothing.
-use Prim.Native.Nat.{ℕ, _+_, _*_, _/_, _%_, _≤_, _<_}
+use Prim.Native.Nat.{ℕ, _+_, _*_, _≤_}
 use borrow.Author.Tests.{eq-eqb, ne-eqb, ltb-true}
 use lib.Dec.{eqb, ltb}
 use lib.ListN.{getD}
 use mathlib.Core.Bool.{Bool, true, false, cond, _&&_}
 use mathlib.Core.List.{List}
-use mathlib.Core.Path.{_≡_, refl, sym, ap, ap₂, _∙_, subst}
-use native.Mathlib.Omega.{arith}
+use mathlib.Core.Path.{_≡_, refl, sym, ap, _∙_, subst}
 use Rattle.admit.specs.AdmitLaws.{Sized}
-use Rattle.files.specs.Answer.{Refusal, numberOf, Answer, unless, andThen, tooLong, cutOff, unknownCommand, outOfPlace, beyond, wrongKind, ownSenior, smallScratch, shortOutput, rulesCutOff, rulesUnknown, rulesOrder, rulesOperand, refused, accepted}
-use Rattle.files.specs.BytesLaws.{Carries}
+use Rattle.admit.specs.TableLaws.{record-grants}
+use Rattle.files.specs.Answer.{Refusal, numberOf, Answer, unless, andThen, beyond, refused, accepted}
+use Rattle.files.specs.BytesLaws.{Carries, number-positive}
 use Rattle.files.specs.Calls.{isTriple, roleQuestion}
 use Rattle.files.specs.RoleFile.{readRoles}
-use Rattle.loaded.specs.Record.{permissionTable, recordWith, recordOf}
-use Rattle.loaded.specs.RecordLaws.{table-get}
-use Rattle.policy.specs.Policy.{Policy, held, sideOf, settingOf, rolesIn}
-use Rattle.policy.specs.PolicyLaws.{granted}
+use Rattle.loaded.specs.Record.{recordWith, recordOf}
+use Rattle.policy.specs.Policy.{Policy, sideOf, settingOf, rolesIn}
 use Rattle.policy.specs.Roles.{rolesGrant}
 use Rattle.policy.specs.Rules.{user, resource}
 use Rattle.rolefile.specs.Reading.{refusal, loadedOf}
 use Rattle.rolefile.specs.SizedLaws.{accepted-sized}
 use Rattle.rolequestion.specs.Reply.{replyOf}
-use Rattle.sets.specs.Sets.{bit, maskOf, bit-mask}
-use Rattle.sets.specs.Tests.{any, upTo, upTo-out, any-ext}
-use Rattle.loaded.specs.declared.RoleFile.{RoleFile}
+use Rattle.sets.specs.Sets.{bit}
+use Rattle.sets.specs.Tests.{any, upTo}
 use Rattle.rolefile.specs.declared.Loaded.{Loaded}
 use Rattle.rolequestion.specs.declared.Reply.{Reply}
 use Rattle.rolequestion.specs.declared.Reply.the-variants.{Yes, No, Refused}
@@ -39,33 +36,7 @@ asked l u r o =
     (cond (any (λ k. bit (getD (l .file .holders) k 0) u && bit (getD (l .file .permissions) (16 * k + o) 0) r) (upTo (l .file .roles))) Yes No)
     (Refused 5)) (Refused 5)) (Refused 5)) (Refused (l .code))
 
-number-not-zero : (e : Refusal) → numberOf e ≡ 0 → ⊥
-number-not-zero tooLong h = omega arith
-number-not-zero cutOff h = omega arith
-number-not-zero unknownCommand h = omega arith
-number-not-zero outOfPlace h = omega arith
-number-not-zero beyond h = omega arith
-number-not-zero wrongKind h = omega arith
-number-not-zero ownSenior h = omega arith
-number-not-zero smallScratch h = omega arith
-number-not-zero shortOutput h = omega arith
-number-not-zero rulesCutOff h = omega arith
-number-not-zero rulesUnknown h = omega arith
-number-not-zero rulesOrder h = omega arith
-number-not-zero rulesOperand h = omega arith
-
 module _ (F : Policy) (Z : Sized F) where
-  -- a role's holders and permissions, from the tables
-  role-grants : (u r o k : ℕ) → u < 64 → r < 64 → o < 16 → k < 32
-      → (bit (getD (recordOf F .holders) k 0) u && bit (getD (recordOf F .permissions) (16 * k + o) 0) r) ≡ (held F k u && F .permitted k r o)
-  unfolding recordOf recordWith permissionTable
-  role-grants u r o k hu hr ho hk =
-      ap₂ _&&_
-      (ap (λ (m : ℕ). bit m u) (table-get 32 (λ k. maskOf 64 (held F k)) k hk) ∙ bit-mask 64 (held F k) u hu)
-      (ap (λ (m : ℕ). bit m r) (table-get 512 (λ i. maskOf 64 (λ r. F .permitted (i / 16) r (i % 16))) (16 * k + o) (omega arith))
-      ∙ bit-mask 64 (λ r. F .permitted ((16 * k + o) / 16) r ((16 * k + o) % 16)) r hr
-      ∙ (let a : (16 * k + o) / 16 ≡ k = omega arith in let b : (16 * k + o) % 16 ≡ o = omega arith in ap₂ (λ (x y : ℕ). F .permitted x r y) a b))
-
   answered : (u r o : ℕ) → asked (record { code = 0; file = recordOf F }) u r o ≡ replyOf (unless (isTriple (settingOf F) u r o) beyond (accepted (rolesGrant (settingOf F) (rolesIn F) u r o)))
   unfolding asked replyOf isTriple recordOf recordWith settingOf sideOf
   answered u r o = go (ltb u (F .table user .count)) refl (ltb r (F .table resource .count)) refl (ltb o (F .operations)) refl
@@ -74,17 +45,7 @@ module _ (F : Policy) (Z : Sized F) where
       grants = any (λ k. bit (getD (recordOf F .holders) k 0) u && bit (getD (recordOf F .permissions) (16 * k + o) 0) r) (upTo (F .roles))
 
       inside : ltb u (F .table user .count) ≡ true → ltb r (F .table resource .count) ≡ true → ltb o (F .operations) ≡ true → grants ≡ rolesGrant (settingOf F) (rolesIn F) u r o
-      inside p q s =
-          let lu = ltb-true u (F .table user .count) p in
-          let lr = ltb-true r (F .table resource .count) q in
-          let lo = ltb-true o (F .operations) s in
-          let mu = Z .many user in
-          let mr = Z .many resource in
-          let mo = Z .operable in
-          let mk = Z .few in
-          any-ext (λ k. bit (getD (recordOf F .holders) k 0) u && bit (getD (recordOf F .permissions) (16 * k + o) 0) r) (λ k. held F k u && F .permitted k r o) (upTo (F .roles))
-          (λ k m. let l = upTo-out (F .roles) m in role-grants u r o k (omega arith) (omega arith) (omega arith) (omega arith))
-          ∙ sym (granted F u r o (record { user = lu; resource = lr; op = lo }))
+      inside p q s = record-grants F Z u r o (record { user = ltb-true u (F .table user .count) p; resource = ltb-true r (F .table resource .count) q; op = ltb-true o (F .operations) s })
 
       go : (a : Bool) → ltb u (F .table user .count) ≡ a → (b : Bool) → ltb r (F .table resource .count) ≡ b → (c : Bool) → ltb o (F .operations) ≡ c
           → cond a (cond b (cond c (cond grants Yes No) (Refused 5)) (Refused 5)) (Refused 5) ≡ replyOf (unless (a && (b && c)) beyond (accepted (rolesGrant (settingOf F) (rolesIn F) u r o)))
@@ -102,7 +63,7 @@ asked-means bytes u r o = go (readRoles 2 bytes) (accepted-sized bytes)
     go (refused e) z = refused-so e
       where
         refused-so : (e : Refusal) → asked (loadedOf (refused e)) u r o ≡ replyOf (refused e)
-        refused-so e = rw (ne-eqb (numberOf e) 0 (number-not-zero e)) refl
+        refused-so e = rw (ne-eqb (numberOf e) 0 (number-positive e)) refl
     go (accepted F) z = answered F z u r o
 
 -- ---- the answer, by the outcome of each test
@@ -123,7 +84,7 @@ unfolding loadedOf refusal recordOf recordWith
 loaded-sized bytes l e h = go (readRoles 2 bytes) (accepted-sized bytes) e
   where
     from-answer : (a : Answer Policy) → Carries Sized a → loadedOf a .code ≡ 0 → (loadedOf a .file .roles ≤ 32) × (loadedOf a .file .operations ≤ 16)
-    from-answer (refused d) z k = absurd (number-not-zero d k)
+    from-answer (refused d) z k = absurd (number-positive d k)
     from-answer (accepted F) z k = (z .few, z .operable)
 
     go : (a : Answer Policy) → Carries Sized a → l ≡ loadedOf a → (l .file .roles ≤ 32) × (l .file .operations ≤ 16)

@@ -6,7 +6,7 @@ ghost use lib.ListN.{length, getD};
 ghost use Rattle.conjuncts.specs.Summary.{metByAll, linkedWith};
 ghost use Rattle.grants.specs.Grid.{gridOf};
 ghost use Rattle.loaded.specs.Record.{tableOf};
-ghost use Rattle.rulegrants.specs.RuleGrid.{rowOf, cellOf, summaryGrants};
+ghost use Rattle.rulegrants.specs.RuleGrid.{rowOf, cellOf, withColumn, summaryGrants};
 ghost use Rattle.sets.specs.Sets.{bit};
 
 // The resources that a rule leaves a user: none if the user does not meet it.
@@ -30,23 +30,26 @@ fn fill_rows<'a>(links: &'a [u64; 2304], atoms: u64, users: u64, resources: u64,
     }
 }
 
-// A user's resources for an operation: none if the rule has no such operation.
-fn cell(rows: &[u64; 64], operations: u64, user: usize, operation: usize) -> u64
-    requires { ⌜ user < 64 ⌝ }
-    ensures { λ r. ⌜ r ≡ cellOf (now (rows .entry)) operations user operation ⌝ }
+// Puts each user's resources into the user's word of an operation.
+fn fill_column<'a>(rows: &'a [u64; 64], operation: usize, out: &mut [u64])
+    requires { ⌜ (operation < 16) × (length (now out) ≡ 1024) ⌝ }
+    ensures { λ _. ⌜ now (out .exit) ≡ withColumn (now (rows .entry)) operation (now (out .entry)) ⌝ }
 {
-    if sets::has(operations, operation) {
-        return rows[user];
+    for u in 0..64 {
+        out[16 * u + operation] = rows[u];
     }
-    0
 }
 
+// Most rules have few operations: the words of the others are cleared together.
 fn fill_cells<'a>(rows: &'a [u64; 64], operations: u64, out: &mut [u64])
     requires { ⌜ length (now out) ≡ 1024 ⌝ }
     ensures { λ _. ⌜ now (out .exit) ≡ tableOf 1024 (λ i. cellOf (now (rows .entry)) operations (i / 16) (i % 16)) ⌝ }
 {
-    for i in 0..1024 {
-        out[i] = cell(rows, operations, i / 16, i % 16);
+    grants::fill_none(out);
+    for o in 0..16 {
+        if sets::has(operations, o) {
+            fill_column(rows, o, out);
+        }
     }
 }
 

@@ -1,14 +1,13 @@
 -- The invariant: the set has those that the atoms before i join with the user. Assumes nothing.
 use denote.Ref.{now}
 use mathlib.Core.Logic.{⊎-elim}
-use mathlib.Core.Path.{_≡_, refl, sym, _∙_}
+use mathlib.Core.Path.{_≡_, sym, _∙_}
 use native.Mathlib.Omega.{arith}
-use Prim.Native.Nat.{ℕ, _+_, _*_, _-_, _≤_, _<_}
+use Prim.Native.Nat.{_+_, _*_, _-_, _≤_}
 use Rattle.sets.specs.LoopLaws.{turn-within, narrowing, narrow-none, narrow-in, narrow-out, narrow-end}
-use Rattle.sets.specs.MaskLaws.{mask-lt}
 use Rattle.sets.specs.Sets.{bit, maskOf}
-use lib.Dec.{ltb}
 use Rattle.conjuncts.specs.Summary.{linkedWith}
+use Rattle.conjuncts.specs.SummaryLaws.{no-atoms}
 use lib.ListN.{getD}
 use borrow.Author.Needs.{needs}
 use Rattle.conjuncts.proofs.linked_with.Statement.{statement}
@@ -24,26 +23,31 @@ Inv-loop links atoms user among m₀ i₀ m i = (i ≤ 36) × (m ≡ maskOf 64 (
 abbrev μ-loop : tie.MeasureT-loop
 μ-loop links atoms user among m₀ i₀ m i = 36 - i
 
+returns : tie.Need-returns Inv-loop μ-loop
+returns c =
+    let a = c .before .args in
+    no-atoms (a .links .now) (a .atoms) (a .user) (a .among) (c .before .fits .among .fits) (c .if1 .taken)
+
 loop-holds : tie.Need-loop-holds Inv-loop μ-loop
 loop-holds c =
-    let a = c .args in
-    (search needs, narrow-none (a .among) (bit (a .atoms)) (λ j. getD (now (a .links)) (64 * j + a .user) 0) (c .fits .among .fits))
+    let a = c .before .args in
+    (search needs, narrow-none (a .among) (bit (a .atoms)) (λ j. getD (now (a .links)) (64 * j + a .user) 0) (c .before .fits .among .fits))
 
 loop-again : tie.Need-loop-again Inv-loop μ-loop
 loop-again c =
-    let a = c .before .before .before .before .args in
+    let a = c .before .before .before .before .before .args in
     let turn = c .before .before .before .loop in (
       turn-within (turn .i) 36 (c .before .before .loop-test .taken),
       ⊎-elim
           (λ w. narrow-in (a .among) (bit (a .atoms)) (λ j. getD (now (a .links)) (64 * j + a .user) 0) (turn .i) (turn .m) _ (turn .inv .1) (sym (c .before .has .ensures) ∙ w .0 .taken) (w .3 ∙ w .2 .ensures))
           (λ w. narrow-out (a .among) (bit (a .atoms)) (λ j. getD (now (a .links)) (64 * j + a .user) 0) (turn .i) (turn .m) _ (turn .inv .1) (sym (c .before .has .ensures) ∙ w .0 .left) (w .1))
-          (c .if1 .came),
+          (c .if2 .came),
     )
 
-returns : tie.Need-returns Inv-loop μ-loop
+returns-2 : tie.Need-returns-2 Inv-loop μ-loop
 unfolding linkedWith
-returns c =
-    let a = c .before .before .args in
+returns-2 c =
+    let a = c .before .before .before .args in
     narrow-end (a .among) (bit (a .atoms)) (λ j. getD (now (a .links)) (64 * j + a .user) 0) (c .before .loop .i) 36 (c .before .loop .m) (c .before .loop .inv .1) (omega arith)
 
 pub linked-with-spec : {M : Type 1} → statement M
@@ -52,6 +56,7 @@ linked-with-spec =
     (tie.spec
     Inv-loop
     μ-loop
+    returns
     loop-holds
     (λ c κs. search needs)
     (λ c. search needs)
@@ -62,4 +67,4 @@ linked-with-spec =
     (λ c. search needs)
     (λ c. search needs)
     loop-again
-    returns)
+    returns-2)

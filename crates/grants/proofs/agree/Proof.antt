@@ -9,6 +9,7 @@ use mathlib.Core.List.{List}
 use mathlib.Core.Path.{_≡_, sym}
 use native.Mathlib.Omega.{arith}
 use Rattle.grants.specs.Grid.{sameWords}
+use Rattle.grants.specs.GridLaws.{fewer-words}
 use Rattle.sets.specs.LoopLaws.{turn-within, all-none, all-on, all-found, all-end}
 use Rattle.sets.specs.Tests.{all, upTo}
 use Rattle.grants.proofs.agree.Statement.{statement}
@@ -23,26 +24,33 @@ Inv-loop a b user operations o₀ o = (o ≤ operations) × (all (same-word a b 
 abbrev μ-loop : tie.MeasureT-loop
 μ-loop a b user operations o₀ o = operations - o
 
-loop-holds : tie.Need-loop-holds Inv-loop μ-loop
-loop-holds start = (search needs, all-none (same-word (start .args .a .now) (start .args .b .now) (start .args .user)))
-
 returns : tie.Need-returns Inv-loop μ-loop
-unfolding sameWords
 returns c =
-    let a = c .before .before .before .before .before .args in
-    let turn = c .before .before .before .before .loop in
-    sym (all-found (same-word (a .a .now) (a .b .now) (a .user)) (turn .o) (a .operations) (c .before .before .before .loop-test .taken) (ne-eqb _ _ (c .if1 .taken)))
+    let start = c .before .before in
+    fewer-words (start .args .a .now) (start .args .b .now) (start .args .user) (start .args .operations) 16 (start .pre .1) (c .before .alike .ensures) (c .if1 .taken)
 
-loop-again : tie.Need-loop-again Inv-loop μ-loop
-loop-again c =
-    let a = c .before .before .before .before .before .args in
-    let turn = c .before .before .before .before .loop in
-    (turn-within (turn .o) (a .operations) (c .before .before .before .loop-test .taken), all-on (same-word (a .a .now) (a .b .now) (a .user)) (turn .o) (turn .inv .1) (eq-eqb _ _ (c .if1 .left)))
+loop-holds : tie.Need-loop-holds Inv-loop μ-loop
+loop-holds c =
+    let a = c .before .before .args in
+    (search needs, all-none (same-word (a .a .now) (a .b .now) (a .user)))
 
 returns-2 : tie.Need-returns-2 Inv-loop μ-loop
 unfolding sameWords
 returns-2 c =
-    let a = c .before .before .args in
+    let a = c .before .before .before .before .before .before .before .args in
+    let turn = c .before .before .before .before .loop in
+    sym (all-found (same-word (a .a .now) (a .b .now) (a .user)) (turn .o) (a .operations) (c .before .before .before .loop-test .taken) (ne-eqb _ _ (c .if2 .taken)))
+
+loop-again : tie.Need-loop-again Inv-loop μ-loop
+loop-again c =
+    let a = c .before .before .before .before .before .before .before .args in
+    let turn = c .before .before .before .before .loop in
+    (turn-within (turn .o) (a .operations) (c .before .before .before .loop-test .taken), all-on (same-word (a .a .now) (a .b .now) (a .user)) (turn .o) (turn .inv .1) (eq-eqb _ _ (c .if2 .left)))
+
+returns-3 : tie.Need-returns-3 Inv-loop μ-loop
+unfolding sameWords
+returns-3 c =
+    let a = c .before .before .before .before .args in
     sym (all-end (same-word (a .a .now) (a .b .now) (a .user)) (c .before .loop .o) (a .operations) (c .before .loop .inv .1) (omega arith))
 
 pub agree-spec : {M : Type 1} → statement M
@@ -51,6 +59,8 @@ agree-spec =
     (tie.spec
     Inv-loop
     μ-loop
+    (λ c κs. search needs)
+    returns
     loop-holds
     (λ c. search needs)
     (λ c. search needs)
@@ -60,8 +70,8 @@ agree-spec =
     (λ c. search needs)
     (λ c. search needs)
     (λ c. search needs)
-    returns
+    returns-2
     (λ c. search needs)
     (λ c. search needs)
     loop-again
-    returns-2)
+    returns-3)

@@ -1,41 +1,39 @@
--- The invariant: the words before i are right. Assumes nothing.
-use Prim.Native.Nat.{ℕ, _/_, _%_, _-_, _≤_, _<_}
-use borrow.Author.Count.{below-none}
+-- The invariant: the grid is that of what the roles before k grant. Assumes nothing.
+use Prim.Native.Nat.{_+_, _-_, _≤_}
 use borrow.Author.Needs.{needs}
-use lib.ListN.{length, getD}
-use mathlib.Core.Path.{_≡_}
+use lib.ListN.{length}
+use mathlib.Core.Path.{_≡_, ap, _∙_}
 use native.Mathlib.Omega.{arith}
-use Rattle.grants.specs.Grid.{grantedBy}
-use Rattle.grants.specs.GridLaws.{grid-unique}
-use Rattle.sets.specs.LoopLaws.{store-next}
-use Rattle.sets.specs.Sets.{maskOf}
+use Rattle.grants.specs.Grid.{gridOf, grantedBy}
+use Rattle.grants.specs.GridLaws.{grid-long}
+use Rattle.grants.specs.UpdateLaws.{roles-none, roles-next, roles-end}
+use Rattle.sets.specs.LoopLaws.{turn-within}
 use Rattle.grants.proofs.fill_grid.Statement.{statement}
 use Rattle.grants.proofs.fill_grid.Tie as tie
 
 abbrev Inv-loop : tie.InvT-loop
-Inv-loop holders permissions roles out₀ i₀ out i =
-    (i ≤ 1024) × (length out ≡ 1024) × ((j : ℕ) → j < i → getD out j 0 ≡ maskOf 64 (λ r. grantedBy holders permissions roles (j / 16) r (j % 16)))
+Inv-loop holders permissions roles out₀ k₀ out k = (k ≤ roles) × (length out ≡ 1024) × (out ≡ gridOf (grantedBy holders permissions k))
 
 abbrev μ-loop : tie.MeasureT-loop
-μ-loop holders permissions roles out₀ i₀ out i = 1024 - i
+μ-loop holders permissions roles out₀ k₀ out k = roles - k
 
 loop-holds : tie.Need-loop-holds Inv-loop μ-loop
-loop-holds c = (search needs, search needs, below-none _)
+loop-holds c =
+    let a = c .before .before .before .before .before .args in
+    let none = roles-none (a .holders .now) (a .permissions .now) (c .before .before .fill-none .last .0) (c .before .before .fill-none .ensures) in
+    (search needs, ap length none ∙ grid-long (grantedBy (a .holders .now) (a .permissions .now) 0), none)
 
 loop-again : tie.Need-loop-again Inv-loop μ-loop
 loop-again c =
-    let a = c .before .before .before .before .args in
-    let turn = c .before .before .loop in (
-      search needs,
-      search needs,
-      store-next (turn .out) (turn .i) (c .granted .result) (λ j. maskOf 64 (λ r. grantedBy (a .holders .now) (a .permissions .now) (a .roles) (j / 16) r (j % 16)))
-          (turn .inv .2) (c .granted .ensures) (omega arith),
-    )
+    let turn = c .before .before .before .before .before .before .loop in
+    let a = c .before .before .before .before .before .before .before .before .before .before .before .before .args in
+    let next = roles-next (a .holders .now) (a .permissions .now) (turn .k) (turn .out) _ (turn .inv .2) (c .before .before .join-role .ensures) in
+    (turn-within (turn .k) (a .roles) (c .before .before .before .before .before .loop-test .taken), ap length next ∙ grid-long (grantedBy (a .holders .now) (a .permissions .now) (turn .k + 1)), next)
 
 returns : tie.Need-returns Inv-loop μ-loop
 returns c =
-    let a = c .before .before .before .args in
-    grid-unique (c .before .loop .out) (grantedBy (a .holders .now) (a .permissions .now) (a .roles)) (c .before .loop .inv .1) (λ j l. c .before .loop .inv .2 j (omega arith))
+    let a = c .before .before .before .before .before .before .before .args in
+    roles-end (a .holders .now) (a .permissions .now) (c .before .loop .k) (a .roles) (c .before .loop .out) (c .before .loop .inv .2) (omega arith)
 
 pub fill-grid-spec : {M : Type 1} → statement M
 fill-grid-spec =
@@ -43,10 +41,11 @@ fill-grid-spec =
     (tie.spec
     Inv-loop
     μ-loop
-    loop-holds
     (λ c κs. search needs)
+    loop-holds
     (λ c. search needs)
     (λ c. search needs)
+    (λ c κs. search needs)
     (λ c. search needs)
     (λ c. search needs)
     loop-again

@@ -1,40 +1,39 @@
--- The invariant: the words before i are right. Assumes nothing.
-use Prim.Native.Nat.{ℕ, _/_, _%_, _-_, _≤_, _<_}
-use borrow.Author.Count.{below-none}
+-- The invariant: the words of the atoms before this one are right. Assumes nothing.
+use Prim.Native.Nat.{_+_, _-_, _≤_}
 use borrow.Author.Needs.{needs}
-use lib.ListN.{length, getD}
+use lib.ListN.{length}
 use mathlib.Core.Path.{_≡_}
 use native.Mathlib.Omega.{arith}
-use Rattle.grants.specs.Links.{linkWord}
-use Rattle.grants.specs.LinkLaws.{links-unique}
-use Rattle.sets.specs.LoopLaws.{store-next}
+use Rattle.grants.specs.UpdateLaws.{atomsSoFar, atoms-none, atoms-next, atoms-end, atoms-so-long}
+use Rattle.sets.specs.LoopLaws.{turn-within}
 use Rattle.grants.proofs.fill_links.Statement.{statement}
 use Rattle.grants.proofs.fill_links.Tie as tie
 
 abbrev Inv-loop : tie.InvT-loop
-Inv-loop known values kinds resources out₀ i₀ out i =
-    (i ≤ 2304) × (length out ≡ 2304) × ((j : ℕ) → j < i → getD out j 0 ≡ linkWord known values kinds resources (j / 384) (j / 64 % 6) (j % 64))
+Inv-loop known values kinds resources out₀ atom₀ out atom = (atom ≤ 36) × (length out ≡ 2304) × (out ≡ atomsSoFar known values kinds resources out₀ atom)
 
 abbrev μ-loop : tie.MeasureT-loop
-μ-loop known values kinds resources out₀ i₀ out i = 2304 - i
+μ-loop known values kinds resources out₀ atom₀ out atom = 36 - atom
 
 loop-holds : tie.Need-loop-holds Inv-loop μ-loop
-loop-holds c = (search needs, search needs, below-none _)
+loop-holds c =
+    let a = c .before .args in
+    (search needs, search needs, atoms-none (a .known .now) (a .values .now) (a .kinds .now) (a .resources) (a .out .now) (search needs))
 
 loop-again : tie.Need-loop-again Inv-loop μ-loop
 loop-again c =
-    let a = c .before .before .before .before .args in
-    let turn = c .before .before .loop in (
-      search needs,
-      search needs,
-      store-next (turn .out) (turn .i) (c .link-word .result) (λ j. linkWord (a .known .now) (a .values .now) (a .kinds .now) (a .resources) (j / 384) (j / 64 % 6) (j % 64))
-          (turn .inv .2) (c .link-word .ensures) (omega arith),
+    let turn = c .before .before .before .before .before .loop in
+    let a = c .before .before .before .before .before .before .before .args in
+    let next = atoms-next (a .known .now) (a .values .now) (a .kinds .now) (a .resources) (a .out .now) (turn .atom) (turn .out) _ (turn .inv .2) (c .before .before .fill-atom .ensures) in (
+      turn-within (turn .atom) 36 (c .before .before .before .before .loop-test .taken),
+      atoms-so-long (a .known .now) (a .values .now) (a .kinds .now) (a .resources) (a .out .now) (turn .atom + 1) _ next,
+      next,
     )
 
 returns : tie.Need-returns Inv-loop μ-loop
 returns c =
     let a = c .before .before .before .args in
-    links-unique (a .known .now) (a .values .now) (a .kinds .now) (c .before .loop .out) (a .resources) (c .before .loop .inv .1) (λ j l. c .before .loop .inv .2 j (omega arith))
+    atoms-end (a .known .now) (a .values .now) (a .kinds .now) (a .resources) (a .out .now) (c .before .loop .atom) (c .before .loop .out) (c .before .loop .inv .2) (omega arith)
 
 pub fill-links-spec : {M : Type 1} → statement M
 fill-links-spec =
@@ -44,8 +43,6 @@ fill-links-spec =
     μ-loop
     loop-holds
     (λ c κs. search needs)
-    (λ c. search needs)
-    (λ c. search needs)
     (λ c. search needs)
     (λ c. search needs)
     loop-again

@@ -1,34 +1,35 @@
-use borrow.Author.Tests.{lt-ltb, le-ltb}
-use mathlib.Core.Bool.{not}
-use mathlib.Core.Path.{_≡_, refl, sym, ap, _∙_}
-use Rattle.operands.specs.Operands.{linkLegal}
-use Rattle.sets.proofs.has.Reads as has-reads
+-- Assumes nothing.
 use borrow.Author.Needs.{needs}
+use mathlib.Core.Path.{sym, _∙_}
+use Rattle.operands.specs.OperandLaws.{link-user-unknown, link-resource-unknown, link-of-set, link-of-single}
 use Rattle.operands.proofs.link_legal.Statement.{statement}
 use Rattle.operands.proofs.link_legal.Tie as tie
-use Rattle.operands.proofs.link_legal.Reads as reads
-use Rattle.operands.proofs.link_legal.Lts as lts
 
 returns : tie.Need-returns
-unfolding linkLegal
-returns c = rw (le-ltb _ _ (c .if1 .taken)) refl
+returns c =
+    let a = c .before .before .args in
+    link-user-unknown (a .a) (a .b) (a .attributes .now) (a .kinds .now) (c .if1 .taken)
 
 returns-2 : tie.Need-returns-2
-unfolding linkLegal
-returns-2 c = rw (lt-ltb _ _ (c .before .before .if1 .left), le-ltb _ _ (c .if2 .taken)) refl
+returns-2 c =
+    let first = c .before .before in
+    let a = first .before .before .args in
+    link-resource-unknown (a .a) (a .b) (a .attributes .now) (a .kinds .now) (first .if1 .left) (c .if2 .taken)
 
 returns-3 : tie.Need-returns-3
-unfolding linkLegal
 returns-3 c =
-    let e = c .before .before .before in
-    rw (lt-ltb _ _ (e .before .before .if1 .left), lt-ltb _ _ (e .if2 .left), sym (c .before .has .ensures) ∙ c .if3 .taken) refl
+    let second = c .before .before .before in
+    let first = second .before .before in
+    let a = first .before .before .args in
+    link-of-set (a .a) (a .b) (a .attributes .now) (a .kinds .now) (first .if1 .left) (second .if2 .left) (sym (c .before .has .ensures) ∙ c .if3 .taken)
 
 returns-4 : tie.Need-returns-4
-unfolding linkLegal
 returns-4 c =
-    let d = c .before .before in
-    let e = d .before .before .before in
-    rw (lt-ltb _ _ (e .before .before .if1 .left), lt-ltb _ _ (e .if2 .left), sym (d .before .has .ensures) ∙ d .if3 .left) (ap not (c .has2 .ensures))
+    let third = c .before .before in
+    let second = third .before .before .before in
+    let first = second .before .before in
+    let a = first .before .before .args in
+    link-of-single (a .a) (a .b) (a .attributes .now) (a .kinds .now) (first .if1 .left) (second .if2 .left) (sym (third .before .has .ensures) ∙ third .if3 .left) (c .has2 .ensures)
 
 pub link-legal-spec : {M : Type 1} → statement M
 link-legal-spec =

@@ -1,39 +1,45 @@
--- The invariant: the words before i are right. Assumes nothing.
-use Prim.Native.Nat.{ℕ, _/_, _%_, _-_, _≤_, _<_}
-use borrow.Author.Count.{below-none}
+-- The invariant: the words of the rule's operations before o are filled, and the others are 0. Assumes nothing.
+use Prim.Native.Nat.{_+_, _-_, _≤_}
 use borrow.Author.Needs.{needs}
-use lib.ListN.{length, getD}
-use mathlib.Core.Path.{_≡_}
+use lib.ListN.{length}
+use mathlib.Core.Logic.{⊎-elim}
+use mathlib.Core.Path.{_≡_, sym, _∙_}
 use native.Mathlib.Omega.{arith}
-use Rattle.loaded.specs.Record.{tableOf}
-use Rattle.rulegrants.specs.RuleGrid.{cellOf}
-use Rattle.sets.specs.LoopLaws.{store-next, table-unique}
+use Rattle.rulegrants.specs.RuleGridLaws.{cellsSoFar, cells-none, cells-in, cells-out, cells-end, cells-so-long}
+use Rattle.sets.specs.LoopLaws.{turn-within}
 use Rattle.rulegrants.proofs.fill_cells.Statement.{statement}
 use Rattle.rulegrants.proofs.fill_cells.Tie as tie
 
 abbrev Inv-loop : tie.InvT-loop
-Inv-loop rows operations out₀ i₀ out i = (i ≤ 1024) × (length out ≡ 1024) × ((j : ℕ) → j < i → getD out j 0 ≡ cellOf rows operations (j / 16) (j % 16))
+Inv-loop rows operations out₀ o₀ out o = (o ≤ 16) × (length out ≡ 1024) × (out ≡ cellsSoFar rows operations o)
 
 abbrev μ-loop : tie.MeasureT-loop
-μ-loop rows operations out₀ i₀ out i = 1024 - i
+μ-loop rows operations out₀ o₀ out o = 16 - o
 
 loop-holds : tie.Need-loop-holds Inv-loop μ-loop
-loop-holds c = (search needs, search needs, below-none _)
+loop-holds c =
+    let a = c .before .before .before .before .before .args in
+    let cleared = cells-none (a .rows .now) (a .operations) (c .before .before .fill-none .last .0) (c .before .before .fill-none .ensures) in
+    (search needs, cells-so-long (a .rows .now) (a .operations) 0 (c .before .before .fill-none .last .0) cleared, cleared)
 
 loop-again : tie.Need-loop-again Inv-loop μ-loop
 loop-again c =
-    let a = c .before .before .before .before .args in
-    let turn = c .before .before .loop in (
-      search needs,
-      search needs,
-      store-next (turn .out) (turn .i) (c .cell .result) (λ j. cellOf (a .rows .now) (a .operations) (j / 16) (j % 16)) (turn .inv .2) (c .cell .ensures) (omega arith),
+    let a = c .before .before .before .before .before .before .before .before .before .args in
+    let turn = c .before .before .before .loop in
+    let next : c .if1 .out ≡ cellsSoFar (a .rows .now) (a .operations) (turn .o + 1) =
+    ⊎-elim
+    (λ w. w .5 ∙ cells-in (a .rows .now) (a .operations) (turn .o) (turn .out) _ (turn .inv .2) (sym (c .before .has .ensures) ∙ w .0 .taken) (w .2 .ensures))
+    (λ w. cells-out (a .rows .now) (a .operations) (turn .o) (turn .out) _ (turn .inv .2) (sym (c .before .has .ensures) ∙ w .0 .left) (w .1))
+    (c .if1 .came) in (
+      turn-within (turn .o) 16 (c .before .before .loop-test .taken),
+      cells-so-long (a .rows .now) (a .operations) (turn .o + 1) (c .if1 .out) next,
+      next,
     )
 
 returns : tie.Need-returns Inv-loop μ-loop
-unfolding tableOf
 returns c =
-    let a = c .before .before .before .args in
-    table-unique 1024 (c .before .loop .out) (λ j. cellOf (a .rows .now) (a .operations) (j / 16) (j % 16)) (c .before .loop .inv .1) (λ j l. c .before .loop .inv .2 j (omega arith))
+    let a = c .before .before .before .before .before .before .before .args in
+    cells-end (a .rows .now) (a .operations) (c .before .loop .o) (c .before .loop .out) (c .before .loop .inv .2) (omega arith)
 
 pub fill-cells-spec : {M : Type 1} → statement M
 fill-cells-spec =
@@ -41,10 +47,10 @@ fill-cells-spec =
     (tie.spec
     Inv-loop
     μ-loop
+    (λ c κs. search needs)
     loop-holds
     (λ c κs. search needs)
-    (λ c. search needs)
-    (λ c. search needs)
+    (λ c κs. search needs)
     (λ c. search needs)
     (λ c. search needs)
     loop-again

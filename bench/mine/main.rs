@@ -1,0 +1,34 @@
+//! Mines a role file with the second miner, as often as the proved program does, and must print the same checksum.
+//!
+//! With the name of a profile and a seed it writes the second miner's random role file of these to standard output.
+
+use second_miner::makers::role_file;
+use second_miner::mining::{mine, Lent};
+use std::hint::black_box;
+use std::io::{Read, Write};
+
+/// Mines once, and adds up the length, the counts, the cost and the turn.
+fn sample(file: &[u8], lent: &Lent, turn: usize) -> u64 {
+    let said = match mine(black_box(file), lent, 0) {
+        Ok(mined) => (mined.bytes.len() + mined.parts + mined.rules + mined.merges) as u64 + mined.cost,
+        Err(number) => number as u64,
+    };
+    said + turn as u64
+}
+
+fn main() {
+    let words: Vec<String> = std::env::args().skip(1).collect();
+    if let [profile, seed] = &words[..] {
+        let file = role_file(profile, seed.parse().expect("a seed is a number"), 0);
+        std::io::stdout().write_all(&file).expect("standard output can be written");
+        return;
+    }
+    let mut input = Vec::new();
+    std::io::stdin()
+        .read_to_end(&mut input)
+        .expect("standard input can be read");
+    let turns = u16::from_le_bytes([input[0], input[1]]) as usize;
+    let lent = Lent { output: 524288, ..Lent::usual() };
+    let sum = (0..turns).fold(0u64, |sum, turn| sum.wrapping_add(sample(&input[2..], &lent, turn)));
+    println!("{sum}");
+}

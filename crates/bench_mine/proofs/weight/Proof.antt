@@ -1,0 +1,28 @@
+-- Each arm adds up the values of its case. Assumes nothing.
+use Rattle.bench_mine.specs.Checksum.{weightOf}
+use borrow.Author.Needs.{needs}
+use mathlib.Core.Path.{refl}
+use Rattle.bench_mine.proofs.weight.Statement.{statement}
+use Rattle.bench_mine.proofs.weight.Tie as tie
+
+returns : tie.Need-returns
+unfolding weightOf
+returns c = rw (c .before .mined .given .1) refl
+
+returns-2 : tie.Need-returns-2
+unfolding weightOf
+returns-2 c =
+    rw (c .before .before .before .before .before .mined2 .given .1, c .wrapping-add-u644 .ensures, c .before .wrapping-add-u643 .ensures, c .before .before .wrapping-add-u642 .ensures, c .before .before .before .wrapping-add-u64 .ensures) refl
+
+pub weight-spec : {M : Type 1} → statement M
+weight-spec =
+    tie.close
+    (tie.spec
+    (λ c. search needs)
+    (λ c. search needs)
+    (λ c κs. search needs)
+    (λ c κs. search needs)
+    (λ c κs. search needs)
+    (λ c κs. search needs)
+    returns
+    returns-2)

@@ -1,0 +1,96 @@
+-- The invariant: the rules of the slots before i are written.
+-- Assumes nothing.
+use borrow.Author.Needs.{needs}
+use denote.Ref.{now}
+use native.Mathlib.Omega.{arith}
+use Prim.Native.Nat.{_≤_, _-_}
+use Rattle.filewriter.specs.CountLaws.{file-room, file-ended}
+use Rattle.filewriter.specs.FileTable.{ruleAt}
+use Rattle.linewriter.specs.Writing.{Runs, runs-begin, runs-room, runs-within, runs-more}
+use Rattle.filewriter.proofs.write_rules.Statement.{statement}
+use Rattle.filewriter.proofs.write_rules.Tie as tie
+
+abbrev Inv-loop : tie.InvT-loop
+Inv-loop links matches known attributes values holders kinds permissions users resources operations roles scratch out₀ at₀ i₀ out at i = (i ≤ 512) × Runs (ruleAt links matches known attributes values holders kinds permissions users resources operations roles scratch) 512 out₀ out at i
+
+abbrev μ-loop : tie.MeasureT-loop
+μ-loop links matches known attributes values holders kinds permissions users resources operations roles scratch out₀ at₀ i₀ out at i = 512 - i
+
+loop-holds : tie.Need-loop-holds Inv-loop μ-loop
+loop-holds c =
+    let s = c .before .before in
+    let a = s .args in
+    let r = file-room (a .links .now) (a .matches .now) (a .known .now) (a .attributes .now) (a .values .now) (a .holders .now) (a .kinds .now) (a .permissions .now) (a .users) (a .resources) (a .operations) (a .roles) (a .scratch .now) (now (a .out)) (s .pre .5) in
+    (search needs, runs-begin (ruleAt (a .links .now) (a .matches .now) (a .known .now) (a .attributes .now) (a .values .now) (a .holders .now) (a .kinds .now) (a .permissions .now) (a .users) (a .resources) (a .operations) (a .roles) (a .scratch .now)) 512 (now (a .out)) (omega (arith, r)))
+
+write-slot-requires : tie.Need-write-slot-requires Inv-loop μ-loop
+write-slot-requires c κs =
+    let l = c .before .before .loop in
+    let s = c .before .before .before .before .before in
+    let a = s .args in
+    let t = c .before .loop-test .taken in
+    (s .pre .0, s .pre .1, s .pre .2, s .pre .3, s .pre .4, t, runs-room (ruleAt (a .links .now) (a .matches .now) (a .known .now) (a .attributes .now) (a .values .now) (a .holders .now) (a .kinds .now) (a .permissions .now) (a .users) (a .resources) (a .operations) (a .roles) (a .scratch .now)) 512 (now (a .out)) (l .out) (l .at) (l .i) t (l .inv .1))
+
+add-at : tie.Need-add-at Inv-loop μ-loop
+add-at c =
+    let l = c .before .before .before .before .before .before .loop in
+    let s = c .before .before .before .before .before .before .before .before .before in
+    let a = s .args in
+    let t = c .before .before .before .before .before .loop-test .taken in
+    let w = runs-within (ruleAt (a .links .now) (a .matches .now) (a .known .now) (a .attributes .now) (a .values .now) (a .holders .now) (a .kinds .now) (a .permissions .now) (a .users) (a .resources) (a .operations) (a .roles) (a .scratch .now)) 512 (now (a .out)) (l .out) (l .at) (l .i) t (l .inv .1) in
+    let e = c .before .before .before .write-slot .ensures .1 in
+    omega (arith, w, e, s .good)
+
+loop-again : tie.Need-loop-again Inv-loop μ-loop
+loop-again c =
+    let l = c .before .before .before .before .before .before .loop in
+    let a = c .before .before .before .before .before .before .before .before .before .args in
+    let t = c .before .before .before .before .before .loop-test .taken in
+    let w = c .before .before .before .write-slot in
+    (search needs, runs-more (ruleAt (a .links .now) (a .matches .now) (a .known .now) (a .attributes .now) (a .values .now) (a .holders .now) (a .kinds .now) (a .permissions .now) (a .users) (a .resources) (a .operations) (a .roles) (a .scratch .now)) 512 (now (a .out)) (l .out) (l .at) (l .i) t (l .inv .1) _ (w .result .bytes) (w .ensures .0) (w .ensures .1))
+
+slice-write-out : tie.Need-slice-write-out Inv-loop μ-loop
+slice-write-out c =
+    let l = c .before .loop in
+    let s = c .before .before .before .before in
+    let a = s .args in
+    let i = l .inv .0 in
+    let e = c .loop-test .left in
+    file-ended (a .links .now) (a .matches .now) (a .known .now) (a .attributes .now) (a .values .now) (a .holders .now) (a .kinds .now) (a .permissions .now) (a .users) (a .resources) (a .operations) (a .roles) (a .scratch .now) (now (a .out)) (l .out) (l .at) (l .i) (l .inv .1) (omega (arith, i, e)) (s .pre .5) .0
+
+same-length : tie.Need-same-length Inv-loop μ-loop
+same-length c =
+    let l = c .before .loop in
+    let s = c .before .before .before .before in
+    let a = s .args in
+    let i = l .inv .0 in
+    let e = c .loop-test .left in
+    file-ended (a .links .now) (a .matches .now) (a .known .now) (a .attributes .now) (a .values .now) (a .holders .now) (a .kinds .now) (a .permissions .now) (a .users) (a .resources) (a .operations) (a .roles) (a .scratch .now) (now (a .out)) (l .out) (l .at) (l .i) (l .inv .1) (omega (arith, i, e)) (s .pre .5) .2
+
+returns : tie.Need-returns Inv-loop μ-loop
+returns c =
+    let l = c .before .loop in
+    let s = c .before .before .before .before in
+    let a = s .args in
+    let i = l .inv .0 in
+    let e = c .loop-test .left in
+    file-ended (a .links .now) (a .matches .now) (a .known .now) (a .attributes .now) (a .values .now) (a .holders .now) (a .kinds .now) (a .permissions .now) (a .users) (a .resources) (a .operations) (a .roles) (a .scratch .now) (now (a .out)) (l .out) (l .at) (l .i) (l .inv .1) (omega (arith, i, e)) (s .pre .5) .1
+
+pub write-rules-spec : {M : Type 1} → statement M
+write-rules-spec =
+    tie.close
+    (tie.spec
+    Inv-loop
+    μ-loop
+    loop-holds
+    (λ c. search needs)
+    (λ c. search needs)
+    (λ c. search needs)
+    write-slot-requires
+    add-at
+    (λ c. search needs)
+    (λ c. search needs)
+    loop-again
+    slice-write-out
+    same-length
+    returns)

@@ -1,0 +1,107 @@
+-- What code writes and counts of merged groups is the mined rule file and its counts.
+-- Assumes nothing.
+use Prim.Native.Nat.{ℕ, _+_, _<_}
+use lib.ListN.{length}
+use mathlib.Core.Bool.{Bool, true, false, cond}
+use mathlib.Core.List.{List, [], _∷_, _++_, map}
+use mathlib.Core.Path.{_≡_, refl, sym, ap, _∙_}
+use native.Mathlib.Omega.{arith}
+use Rattle.admit.specs.AdmitLaws.{Sized}
+use Rattle.files.specs.Calls.{minedBytes, minedCounts}
+use Rattle.files.specs.RuleFile.{encode, encodeAll, opens}
+use Rattle.filewriter.specs.FileTable.{keptAt, ruleAt, costAt, fileBytes, measuredOf}
+use Rattle.loaded.specs.Record.{recordOf}
+use Rattle.matches.specs.MatchLaws.{knownIn, matchesIn}
+use Rattle.pairing.specs.FitLaws.{linksOf}
+use Rattle.policy.specs.Covering.{levelOf}
+use Rattle.policy.specs.Merging.{union}
+use Rattle.policy.specs.Policy.{Policy, settingOf}
+use Rattle.policy.specs.Thinning.{ruleCost}
+use Rattle.rulelists.specs.RuleLists.{ruleCostIn}
+use Rattle.rulewriter.specs.RuleTable.{ruleBytesIn}
+use Rattle.rulewriter.specs.WriterLaws.{written-bytes, written-cost}
+use Rattle.sets.specs.Tests.{Is, keep, each, upTo, sum}
+use Rattle.slotgroups.specs.MergedLaws.{heads-each, heads-sum, heads-count, parts-count}
+use Rattle.slotgroups.specs.Scratch.{wordsAt, isHeadAt, Merged}
+use Rattle.slotgroups.specs.SlotLaws.{bytes-slots, counts-slots}
+use Rattle.slotgroups.specs.Slots.{slotBlock, slotGroups, slotsOf, slotMerges, slotRule, slotLines}
+use Rattle.thinning.specs.KeptLaws.{kept-means}
+use Rattle.words.specs.Flags.{keptPlaces}
+use Rattle.filewriter.specs.declared.Measured.{Measured}
+
+-- ---- lists
+
+each-if : {C : Type 0} (p : ℕ → Bool) (f : ℕ → List C) (l : List ℕ) → each (λ i. cond (p i) (f i) []) l ≡ each f (keep p l)
+each-if p f [] = refl
+each-if p f (x ∷ l) = go (p x) (each-if p f l)
+  where
+    go : (b : Bool) → each (λ i. cond (p i) (f i) []) l ≡ each f (keep p l) → cond b (f x) [] ++ each (λ i. cond (p i) (f i) []) l ≡ each f (cond b (x ∷ keep p l) (keep p l))
+    go true e = ap (λ r. f x ++ r) e
+    go false e = e
+
+sum-if : (p : ℕ → Bool) (f : ℕ → ℕ) (l : List ℕ) → sum (λ i. cond (p i) (f i) 0) l ≡ sum f (keep p l)
+sum-if p f [] = refl
+sum-if p f (x ∷ l) = go (p x) (sum-if p f l)
+  where
+    go : (b : Bool) → sum (λ i. cond (p i) (f i) 0) l ≡ sum f (keep p l) → cond b (f x) 0 + sum (λ i. cond (p i) (f i) 0) l ≡ sum f (cond b (x ∷ keep p l) (keep p l))
+    go true e = ap (λ (n : ℕ). f x + n) e
+    go false e = let d : 0 + sum (λ i. cond (p i) (f i) 0) l ≡ sum (λ i. cond (p i) (f i) 0) l = omega arith in d ∙ e
+
+each-mapped : {A B C : Type 0} (f : B → List C) (g : A → B) (l : List A) → each (λ x. f (g x)) l ≡ each f (map g l)
+each-mapped f g [] = refl
+each-mapped f g (x ∷ l) = ap (λ r. f (g x) ++ r) (each-mapped f g l)
+
+module _ (F : Policy) (Z : Sized F) (t : List ℕ) (M : Merged F t) where
+  -- the same with the tables of the policy's record
+  abbrev kept : ℕ → ℕ
+  kept i = keptAt (linksOf F) (matchesIn F) (knownIn F) (recordOf F .attributes) (recordOf F .users) (recordOf F .resources) (recordOf F .operations) t i
+
+  abbrev block : ℕ → List ℕ
+  block i = M .groups .group i
+
+  -- the places kept are those of the written rule
+  kept-so : (i : ℕ) → i < 512 → Is (M .groups .alive i) → kept i ≡ keptPlaces (settingOf F) (wordsAt t i) (levelOf (settingOf F) (union (settingOf F) (slotBlock F) (block i)))
+  unfolding keptAt
+  kept-so i h a = rw (M .shown .words i h a, M .shown .level i h a) (kept-means F Z (union (settingOf F) (slotBlock F) (block i)) (levelOf (settingOf F) (union (settingOf F) (slotBlock F) (block i))))
+
+  abbrev bytesOf : ℕ → List ℕ
+  bytesOf i = ruleBytesIn (recordOf F .values) (recordOf F .holders) (recordOf F .kinds) (recordOf F .permissions) (recordOf F .roles) (recordOf F .operations) t i (kept i)
+
+  abbrev costOf : ℕ → ℕ
+  costOf i = ruleCostIn (recordOf F .values) (recordOf F .holders) (recordOf F .kinds) (recordOf F .roles) t i (kept i)
+
+  rule-so : (i : ℕ) → i < 512 → Is (M .groups .alive i) → bytesOf i ≡ each (encode 2) (opens ∷ slotLines F (block i))
+  rule-so i h a = written-bytes F Z t (M .groups) (M .shown) i h a (kept i) (kept-so i h a)
+
+  cost-so : (i : ℕ) → i < 512 → Is (M .groups .alive i) → costOf i ≡ ruleCost (settingOf F) (slotRule F (block i))
+  cost-so i h a = written-cost F Z t (M .groups) (M .shown) i h a (kept i) (kept-so i h a)
+
+  abbrev tables-bytes : List ℕ
+  tables-bytes = fileBytes (linksOf F) (matchesIn F) (knownIn F) (recordOf F .attributes) (recordOf F .values) (recordOf F .holders) (recordOf F .kinds) (recordOf F .permissions) (recordOf F .users) (recordOf F .resources) (recordOf F .operations) (recordOf F .roles) t
+
+  all-encoded : each (λ g. each (encode 2) (opens ∷ slotLines F g)) (slotGroups F) ++ (0x2F ∷ []) ≡ encodeAll 2 (map (slotLines F) (slotGroups F))
+  unfolding encodeAll encode
+  all-encoded = ap (λ r. r ++ (0x2F ∷ [])) (each-mapped (λ ls. each (encode 2) (opens ∷ ls)) (slotLines F) (slotGroups F))
+
+  -- THE LAW: the bytes
+  pub file-means : fileBytes (linksOf F) (matchesIn F) (knownIn F) (recordOf F .attributes) (recordOf F .values) (recordOf F .holders) (recordOf F .kinds) (recordOf F .permissions) (recordOf F .users) (recordOf F .resources) (recordOf F .operations) (recordOf F .roles) t ≡ minedBytes 2 F
+  unfolding fileBytes ruleAt
+  file-means =
+      ap (λ r. r ++ (0x2F ∷ [])) (each-if (isHeadAt t) bytesOf (upTo 512) ∙ heads-each F t M (λ g. each (encode 2) (opens ∷ slotLines F g)) bytesOf rule-so)
+      ∙ all-encoded
+      ∙ sym (bytes-slots F (Z .few) (Z .operable))
+
+  abbrev tables-measured : Measured
+  tables-measured = measuredOf (linksOf F) (matchesIn F) (knownIn F) (recordOf F .attributes) (recordOf F .values) (recordOf F .holders) (recordOf F .kinds) (recordOf F .permissions) (recordOf F .users) (recordOf F .resources) (recordOf F .operations) (recordOf F .roles) t
+
+  -- THE LAW: the counts
+  pub measure-means : (measured-of : Measured) → measured-of ≡ measuredOf (linksOf F) (matchesIn F) (knownIn F) (recordOf F .attributes) (recordOf F .values) (recordOf F .holders) (recordOf F .kinds) (recordOf F .permissions) (recordOf F .users) (recordOf F .resources) (recordOf F .operations) (recordOf F .roles) t
+      → (measured-of .bytes ≡ length (minedBytes 2 F)) × (minedCounts 2 F ≡ record { size = measured-of .bytes; parts = measured-of .parts; rules = measured-of .rules; merges = slotMerges F; cost = measured-of .cost })
+  unfolding measuredOf costAt
+  measure-means m e =
+      let sized : m .bytes ≡ length (minedBytes 2 F) = ap (λ (x : Measured). x .bytes) e ∙ ap length file-means in
+      let ruled : m .rules ≡ length (slotGroups F) = ap (λ (x : Measured). x .rules) e ∙ heads-count F t M in
+      let parted : m .parts ≡ length (slotsOf F) = ap (λ (x : Measured). x .parts) e ∙ parts-count F t M in
+      let costed : m .cost ≡ sum (λ g. ruleCost (settingOf F) (slotRule F g)) (slotGroups F) = ap (λ (x : Measured). x .cost) e ∙ sum-if (isHeadAt t) costOf (upTo 512) ∙ heads-sum F t M (λ g. ruleCost (settingOf F) (slotRule F g)) costOf cost-so in
+      let long : length (encodeAll 2 (map (slotLines F) (slotGroups F))) ≡ m .bytes = ap length (sym (bytes-slots F (Z .few) (Z .operable))) ∙ sym sized in
+      (sized, counts-slots F (Z .few) (Z .operable) ∙ rw (long, ← parted, ← ruled, ← costed) refl)

@@ -1,0 +1,3 @@
+pub mod FileTable
+pub mod FileLaws
+pub mod CountLaws

@@ -1,0 +1,30 @@
+-- Assumes nothing.
+use borrow.Author.Tests.{lt-ltb, le-ltb}
+use mathlib.Core.Path.{refl}
+use Rattle.groupwords.specs.PartWords.{isAtomOf}
+use borrow.Author.Needs.{needs}
+use Rattle.groupwords.proofs.is_atom.Statement.{statement}
+use Rattle.groupwords.proofs.is_atom.Tie as tie
+
+returns : tie.Need-returns
+unfolding isAtomOf
+returns c = rw (le-ltb _ _ (c .if1 .taken)) refl
+
+returns-2 : tie.Need-returns-2
+unfolding isAtomOf
+returns-2 c = rw (lt-ltb _ _ (c .before .before .if1 .left), le-ltb _ _ (c .if2 .taken)) refl
+
+returns-3 : tie.Need-returns-3
+unfolding isAtomOf
+returns-3 c = rw (lt-ltb _ _ (c .before .before .before .if1 .left), lt-ltb _ _ (c .before .if2 .left)) (c .true-of-all .ensures)
+
+pub is-atom-spec : {M : Type 1} → statement M
+is-atom-spec =
+    tie.close
+    (tie.spec
+    (λ c. search needs)
+    returns
+    (λ c. search needs)
+    returns-2
+    (λ c κs. search needs)
+    returns-3)

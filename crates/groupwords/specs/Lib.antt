@@ -1,0 +1,2 @@
+pub mod PartWords
+pub mod PartWordLaws

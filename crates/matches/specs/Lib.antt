@@ -1,0 +1,4 @@
+pub mod Matches
+pub mod MemberLaws
+pub mod TableLaws
+pub mod MatchLaws

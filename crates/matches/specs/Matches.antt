@@ -1,0 +1,59 @@
+-- Who meets whose value, at each of the 14 places of attributes: the tables, and what is read off them.
+-- Assumes nothing.
+use Prim.Native.Nat.{ℕ, _+_, _*_, _/_, _%_}
+use lib.Dec.{eqb, ltb}
+use lib.ListN.{getD}
+use mathlib.Core.Bool.{Bool, cond, _&&_, _||_, not}
+use mathlib.Core.List.{List}
+use Rattle.loaded.specs.Record.{tableOf}
+use Rattle.meeting.specs.Meeting.{meetingOf}
+use Rattle.sets.specs.Sets.{bit, subset, maskOf}
+use Rattle.sets.specs.Tests.{imp, all, any, upTo}
+
+-- how many there are on the side of a place: users at the first seven, resources at the others
+abbrev pub countAt : ℕ → ℕ → ℕ → ℕ
+countAt users resources i = cond (ltb i 7) users resources
+
+-- who knows the attribute of a place: for a 255 everybody there is
+unfoldable pub knownFor : (users resources : ℕ) → List ℕ → ℕ → ℕ
+knownFor users resources known i = maskOf (countAt users resources i) (λ x. eqb (i % 7) 6 || bit (getD known (6 * (i / 7) + i % 7) 0) x)
+
+unfoldable pub knownPlaces : (users resources : ℕ) → List ℕ → List ℕ
+knownPlaces users resources known = tableOf 14 (knownFor users resources known)
+
+-- the roles that a user holds
+unfoldable pub heldRoles : List ℕ → ℕ → ℕ → ℕ
+heldRoles holders roles u = maskOf roles (λ k. bit (getD holders k 0) u)
+
+-- the value that somebody has at a place: of a 255 the roles held, or the resource's number
+unfoldable pub valueFor : (values holders : List ℕ) → ℕ → ℕ → ℕ → ℕ
+valueFor values holders roles i x =
+    cond (ltb (i % 7) 6) (getD values (64 * (6 * (i / 7) + i % 7) + x) 0) (cond (ltb i 7) (heldRoles holders roles x) x)
+
+module _ (kinds known values holders : List ℕ) (users resources roles : ℕ) where
+  -- who meets the value that somebody has at a place; nobody if it is unknown
+  unfoldable pub matchWord : ℕ → ℕ → ℕ
+  matchWord i y =
+      cond (bit (knownFor users resources known i) y)
+      (meetingOf (i / 7) (bit (getD kinds (i / 7) 0) (i % 7)) (i % 7) (valueFor values holders roles i y) (countAt users resources i) roles known values holders)
+      0
+
+  -- word 64 * place + who
+  unfoldable pub matchTable : List ℕ
+  matchTable = tableOf 896 (λ i. matchWord (i / 64) (i % 64))
+
+-- a set less one of its members
+unfoldable pub lessOne : ℕ → ℕ → ℕ
+lessOne m y = maskOf 64 (λ k. bit m k && not (eqb k y))
+
+-- who meets a conjunct of the values of these members at a place
+unfoldable pub metOf : List ℕ → ℕ → ℕ → ℕ
+metOf matches i members = maskOf 64 (λ x. any (λ y. bit members y && bit (getD matches (64 * i + y) 0) x) (upTo 64))
+
+-- who, of that many on side 0 or 1, passes all conjuncts of these members: over the attributes that all of them know, and over the
+-- 255 if it is asked for
+unfoldable pub passingOf : (matches known : List ℕ) → (attributes side : ℕ) → Bool → (members count : ℕ) → ℕ
+passingOf matches known attributes side withOwn members count =
+    maskOf count (λ x.
+    all (λ a. imp (subset members (getD known (7 * side + a) 0)) (bit (metOf matches (7 * side + a) members) x)) (upTo attributes)
+    && imp withOwn (bit (metOf matches (7 * side + 6) members) x))

@@ -1,0 +1,214 @@
+// Who meets whose value, at each of the 14 places of attributes: the six of the users, their 255, the six of the resources, their 255.
+// And who passes the conjuncts of the values that some members have.
+ghost use lib.ListN.{length};
+ghost use mathlib.Core.Path.{_≡_};
+ghost use Prim.Native.Nat.{_≤_, _<_};
+ghost use Rattle.matches.specs.Matches.{countAt, knownFor, knownPlaces, heldRoles, valueFor, matchWord, matchTable, lessOne, metOf, passingOf};
+ghost use Rattle.sets.specs.Lowest.{lowestFrom};
+ghost use Rattle.sets.specs.Sets.{bit};
+
+// How many there are on the side of a place.
+fn count_at(users: usize, resources: usize, place: usize) -> usize
+    ensures { λ r. ⌜ r ≡ countAt users resources place ⌝ }
+{
+    if place < 7 {
+        return users;
+    }
+    resources
+}
+
+// Who knows the attribute of a place: for a 255 everybody there is.
+fn known_at(users: usize, resources: usize, known: &[u64; 12], place: usize) -> u64
+    requires { ⌜ (users ≤ 64) × (resources ≤ 64) × (place < 14) ⌝ }
+    ensures { λ r. ⌜ r ≡ knownFor users resources (now (known .entry)) place ⌝ }
+{
+    let everybody = sets::below(count_at(users, resources, place));
+    let attribute = place % 7;
+    if attribute == 6 {
+        return everybody;
+    }
+    sets::meet(everybody, known[6 * (place / 7) + attribute])
+}
+
+// Into a slice, since only a slice tells its length to a proof.
+fn fill_known(users: usize, resources: usize, known: &[u64; 12], out: &mut [u64])
+    requires { ⌜ (users ≤ 64) × (resources ≤ 64) × (length (now out) ≡ 14) ⌝ }
+    ensures { λ _. ⌜ now (out .exit) ≡ knownPlaces users resources (now (known .entry)) ⌝ }
+{
+    for i in 0..14 {
+        out[i] = known_at(users, resources, known, i);
+    }
+}
+
+// Who knows the attribute of each place, whatever the table held.
+pub fn known_places(users: usize, resources: usize, known: &[u64; 12], out: &mut [u64; 14])
+    requires { ⌜ (users ≤ 64) × (resources ≤ 64) ⌝ }
+    ensures { λ _. ⌜ now (out .exit) ≡ knownPlaces users resources (now (known .entry)) ⌝ }
+{
+    fill_known(users, resources, known, out);
+}
+
+// The roles that a user holds.
+fn roles_of(holders: &[u64; 32], roles: usize, user: usize) -> u64
+    requires { ⌜ roles ≤ 32 ⌝ }
+    ensures { λ r. ⌜ r ≡ heldRoles (now (holders .entry)) roles user ⌝ }
+{
+    let mut m: u64 = 0;
+    for k in 0..roles {
+        if sets::has(holders[k], user) {
+            m = sets::with(m, k);
+        }
+    }
+    m
+}
+
+// The value that somebody has at a place, known or not.
+pub fn value_at<'a>(
+    values: &'a [u64; 768],
+    holders: &'a [u64; 32],
+    roles: usize,
+    place: usize,
+    who: usize,
+) -> u64
+    requires { ⌜ (roles ≤ 32) × (place < 14) × (who < 64) ⌝ }
+    ensures { λ r. ⌜ r ≡ valueFor (now (values .entry)) (now (holders .entry)) roles place who ⌝ }
+{
+    let attribute = place % 7;
+    if attribute < 6 {
+        return values[64 * (6 * (place / 7) + attribute) + who];
+    }
+    if place < 7 {
+        return roles_of(holders, roles, who);
+    }
+    who as u64
+}
+
+// Who meets the value that somebody has at a place; nobody if it is unknown.
+fn match_word<'a>(
+    kinds: &'a [u64; 2],
+    known: &'a [u64; 12],
+    values: &'a [u64; 768],
+    holders: &'a [u64; 32],
+    users: usize,
+    resources: usize,
+    roles: usize,
+    place: usize,
+    who: usize,
+) -> u64
+    requires { ⌜ (users ≤ 64) × (resources ≤ 64) × (roles ≤ 32) × (place < 14) × (who < 64) ⌝ }
+    ensures { λ r. ⌜ r ≡ matchWord (now (kinds .entry)) (now (known .entry)) (now (values .entry)) (now (holders .entry)) users resources roles place who ⌝ }
+{
+    if sets::has(known_at(users, resources, known, place), who) {
+        let side = place / 7;
+        let attribute = place % 7;
+        let set = sets::has(kinds[side], attribute);
+        let v = value_at(values, holders, roles, place, who);
+        let count = count_at(users, resources, place);
+        return meeting::meeting(
+            side,
+            set,
+            attribute,
+            v,
+            count,
+            roles,
+            known,
+            values,
+            holders,
+        );
+    }
+    0
+}
+
+fn fill_matches<'a>(
+    kinds: &'a [u64; 2],
+    known: &'a [u64; 12],
+    values: &'a [u64; 768],
+    holders: &'a [u64; 32],
+    users: usize,
+    resources: usize,
+    roles: usize,
+    out: &mut [u64],
+)
+    requires { ⌜ (users ≤ 64) × (resources ≤ 64) × (roles ≤ 32) × (length (now out) ≡ 896) ⌝ }
+    ensures { λ _. ⌜ now (out .exit) ≡ matchTable (now (kinds .entry)) (now (known .entry)) (now (values .entry)) (now (holders .entry)) users resources roles ⌝ }
+{
+    for i in 0..896 {
+        out[i] = match_word(
+            kinds,
+            known,
+            values,
+            holders,
+            users,
+            resources,
+            roles,
+            i / 64,
+            i % 64,
+        );
+    }
+}
+
+// Who meets whose value, whatever the table held: word 64 * place + who.
+pub fn matches<'a>(
+    kinds: &'a [u64; 2],
+    known: &'a [u64; 12],
+    values: &'a [u64; 768],
+    holders: &'a [u64; 32],
+    users: usize,
+    resources: usize,
+    roles: usize,
+    out: &mut [u64; 896],
+)
+    requires { ⌜ (users ≤ 64) × (resources ≤ 64) × (roles ≤ 32) ⌝ }
+    ensures { λ _. ⌜ now (out .exit) ≡ matchTable (now (kinds .entry)) (now (known .entry)) (now (values .entry)) (now (holders .entry)) users resources roles ⌝ }
+{
+    fill_matches(kinds, known, values, holders, users, resources, roles, out);
+}
+
+// A set that is not empty, less its least member.
+pub fn without_least(m: u64) -> u64
+    requires { ⌜ 0 < m ⌝ }
+    ensures { λ r. ⌜ r ≡ lessOne m (lowestFrom (bit m) 0 64) ⌝ }
+{
+    m & (m - 1)
+}
+
+// Who meets a conjunct of the values of these members at a place.
+pub fn met_by(matches: &[u64; 896], place: usize, members: u64) -> u64
+    requires { ⌜ place < 14 ⌝ }
+    ensures { λ r. ⌜ r ≡ metOf (now (matches .entry)) place members ⌝ }
+{
+    let mut met: u64 = 0;
+    let mut rest = members;
+    while 0 < rest {
+        let y = sets::least(rest);
+        met = sets::union(met, matches[64 * place + y]);
+        rest = without_least(rest);
+    }
+    met
+}
+
+// Who passes all conjuncts of the covering rule of these members, on a side, with its 255 or without.
+pub fn passing<'a>(
+    matches: &'a [u64; 896],
+    known: &'a [u64; 14],
+    attributes: usize,
+    side: usize,
+    own: bool,
+    members: u64,
+    count: usize,
+) -> u64
+    requires { ⌜ (attributes ≤ 6) × (side < 2) × (count ≤ 64) ⌝ }
+    ensures { λ r. ⌜ r ≡ passingOf (now (matches .entry)) (now (known .entry)) attributes side own members count ⌝ }
+{
+    let mut m = sets::below(count);
+    for a in 0..attributes {
+        // An attribute that one of them does not know gives no conjunct.
+        if sets::within(members, known[7 * side + a]) {
+            m = sets::meet(m, met_by(matches, 7 * side + a, members));
+        }
+    }
+    if own {
+        m = sets::meet(m, met_by(matches, 7 * side + 6, members));
+    }
+    m
+}

@@ -1,0 +1,33 @@
+-- Assumes nothing.
+use borrow.Author.Needs.{needs}
+use Rattle.merging.specs.FillLaws.{part-atoms, part-level, filled-part, filled-none}
+use Rattle.pairing.specs.Pairing.{wordsIn}
+use Rattle.merging.proofs.slot_of.Statement.{statement}
+use Rattle.merging.proofs.slot_of.Tie as tie
+
+pack-requires : tie.Need-pack-requires
+pack-requires c κs =
+    let part = c .before in
+    let start = part .before .before .before in
+    let a = start .args in (
+      part-atoms (a .links .now) (a .matches .now) (a .known .now) (a .attributes .now) (a .holders .now) (a .permissions .now) (a .users) (a .resources) (a .operations) (a .roles) (a .k) (part .group-of .ensures),
+      part-level (a .links .now) (a .matches .now) (a .known .now) (a .attributes .now) (a .holders .now) (a .permissions .now) (a .users) (a .resources) (a .operations) (a .roles) (wordsIn (part .group-of .result)) (c .level-of-group .ensures),
+      start .pre .6,
+    )
+
+returns : tie.Need-returns
+returns c =
+    let part = c .before .before in
+    let taken = part .before in
+    let start = taken .before .before in
+    let a = start .args in
+    filled-part (a .links .now) (a .matches .now) (a .known .now) (a .attributes .now) (a .holders .now) (a .permissions .now) (a .users) (a .resources) (a .operations) (a .roles) (a .k) (taken .before .is-slot .ensures) (taken .if1 .taken)
+    (part .group-of .ensures) (c .before .level-of-group .ensures) (c .pack .ensures)
+
+returns-2 : tie.Need-returns-2
+returns-2 c =
+    let a = c .before .before .args in
+    filled-none (a .links .now) (a .matches .now) (a .known .now) (a .attributes .now) (a .holders .now) (a .permissions .now) (a .users) (a .resources) (a .operations) (a .roles) (a .k) (c .before .is-slot .ensures) (c .if1 .left)
+
+pub slot-of-spec : {M : Type 1} → statement M
+slot-of-spec = tie.close (tie.spec (λ c κs. search needs) (λ c κs. search needs) (λ c κs. search needs) pack-requires returns returns-2)

@@ -1,0 +1,562 @@
+// Groups of parts in scratch memory, merged until no pair is left. Scratch has four words for each of the 512 slots: the group's users,
+// resources and operations, and a last one with its atoms (36 bits), its level (2 bits) and the slot of its head.
+ghost use lib.ListN.{length, getD};
+ghost use mathlib.Core.Path.{_≡_};
+ghost use Prim.Native.Nat.{ℕ, _+_, _*_, _/_, _%_, _^_, _≤_, _<_, max, min};
+ghost use Rattle.admit.specs.AdmitLaws.{Sized};
+ghost use Rattle.merging.specs.Progress.{Settled};
+ghost use Rattle.merging.specs.Steps.{Paired, Tables, joinedLevel, pairAt, FirstIn, Partner, stored, reheaded, TakenIn, Reheaded, Joined, heads, slotIn, slotWords, FilledWith, FilledTo};
+ghost use Rattle.pairing.specs.Pairing.{wordsIn};
+ghost use Rattle.policy.specs.Policy.{Policy};
+ghost use Rattle.slotgroups.specs.Scratch.{restAt, levelIn, headIn, restOf, wordsAt, isPartAt, isHeadAt, Merged};
+ghost use Rattle.slotgroups.specs.Slots.{slotMerges};
+use pairing::Group;
+
+// The words of a slot as they stand in scratch.
+struct Slot {
+    users: u64,
+    resources: u64,
+    operations: u64,
+    rest: u64,
+}
+
+// The group of a slot.
+pub fn group_at(scratch: &[u64], i: usize) -> Group
+    requires { ⌜ (i < 512) × (length (now scratch) ≡ 2048) ⌝ }
+    ensures { λ g. ⌜ wordsIn g ≡ wordsAt (now (scratch .entry)) i ⌝ }
+{
+    Group {
+        users: scratch[4 * i],
+        resources: scratch[4 * i + 1],
+        operations: scratch[4 * i + 2],
+        atoms: scratch[4 * i + 3] % 0x10_0000_0000,
+    }
+}
+
+// Its level.
+pub fn level_at(scratch: &[u64], i: usize) -> usize
+    requires { ⌜ (i < 512) × (length (now scratch) ≡ 2048) ⌝ }
+    ensures { λ l. ⌜ l ≡ levelIn (restAt (now (scratch .entry)) i) ⌝ }
+{
+    (scratch[4 * i + 3] / 0x10_0000_0000 % 4) as usize
+}
+
+// The slot of its head.
+fn head_at(scratch: &[u64], i: usize) -> usize
+    requires { ⌜ (i < 512) × (length (now scratch) ≡ 2048) ⌝ }
+    ensures { λ h. ⌜ h ≡ headIn (restAt (now (scratch .entry)) i) ⌝ }
+{
+    (scratch[4 * i + 3] / 0x40_0000_0000) as usize
+}
+
+// Whether a part stands in the slot.
+pub fn is_part(scratch: &[u64], i: usize) -> bool
+    requires { ⌜ (i < 512) × (length (now scratch) ≡ 2048) ⌝ }
+    ensures { λ b. ⌜ b ≡ isPartAt (now (scratch .entry)) i ⌝ }
+{
+    scratch[4 * i] != 0
+}
+
+// Whether the slot is the head of a group.
+pub fn is_head(scratch: &[u64], i: usize) -> bool
+    requires { ⌜ (i < 512) × (length (now scratch) ≡ 2048) ⌝ }
+    ensures { λ b. ⌜ b ≡ isHeadAt (now (scratch .entry)) i ⌝ }
+{
+    if scratch[4 * i] == 0 {
+        return false;
+    }
+    head_at(scratch, i) == i
+}
+
+fn lower(a: usize, b: usize) -> usize
+    ensures { λ m. ⌜ m ≡ min a b ⌝ }
+{
+    if a < b { a } else { b }
+}
+
+fn higher(a: usize, b: usize) -> usize
+    ensures { λ m. ⌜ m ≡ max a b ⌝ }
+{
+    if a < b { b } else { a }
+}
+
+// The level of two slots' groups together, if they may be joined; else 4.
+fn level_if_joined<'a>(
+    scratch: &[u64],
+    links: &'a [u64; 2304],
+    matches: &'a [u64; 896],
+    known: &'a [u64; 14],
+    attributes: &'a [usize; 2],
+    users: usize,
+    resources: usize,
+    operations: usize,
+    i: usize,
+    j: usize,
+) -> usize
+    requires { ⌜ (users ≤ 64) × (resources ≤ 64) × (operations ≤ 64) × (getD (now attributes) 0 0 ≤ 6) × (getD (now attributes) 1 0 ≤ 6) × (i < 512) × (j < 512) × (length (now scratch) ≡ 2048) ⌝ }
+    ensures { λ l. ⌜ l ≡ joinedLevel (now (links .entry)) (now (matches .entry)) (now (known .entry)) (now (attributes .entry)) users resources operations (now (scratch .entry)) i j ⌝ }
+{
+    let limit = higher(level_at(scratch, i), level_at(scratch, j));
+    let g = group_at(scratch, i);
+    let h = group_at(scratch, j);
+    pairing::level_of_pair(
+        links,
+        matches,
+        known,
+        attributes,
+        users,
+        resources,
+        operations,
+        g,
+        h,
+        limit,
+    )
+}
+
+// Whether both slots are heads of groups that may be joined.
+fn is_pair<'a>(
+    scratch: &[u64],
+    links: &'a [u64; 2304],
+    matches: &'a [u64; 896],
+    known: &'a [u64; 14],
+    attributes: &'a [usize; 2],
+    users: usize,
+    resources: usize,
+    operations: usize,
+    i: usize,
+    j: usize,
+) -> bool
+    requires { ⌜ (users ≤ 64) × (resources ≤ 64) × (operations ≤ 64) × (getD (now attributes) 0 0 ≤ 6) × (getD (now attributes) 1 0 ≤ 6) × (i < 512) × (j < 512) × (length (now scratch) ≡ 2048) ⌝ }
+    ensures { λ b. ⌜ b ≡ pairAt (now (links .entry)) (now (matches .entry)) (now (known .entry)) (now (attributes .entry)) users resources operations (now (scratch .entry)) i j ⌝ }
+{
+    if is_head(scratch, i) {
+        if is_head(scratch, j) {
+            let level = level_if_joined(
+                scratch,
+                links,
+                matches,
+                known,
+                attributes,
+                users,
+                resources,
+                operations,
+                i,
+                j,
+            );
+            return level < 4;
+        }
+    }
+    false
+}
+
+// The first slot before c that may take c's group in; 512 if there is none.
+fn first_before<'a>(
+    scratch: &[u64],
+    links: &'a [u64; 2304],
+    matches: &'a [u64; 896],
+    known: &'a [u64; 14],
+    attributes: &'a [usize; 2],
+    users: usize,
+    resources: usize,
+    operations: usize,
+    c: usize,
+) -> usize
+    requires { ⌜ (users ≤ 64) × (resources ≤ 64) × (operations ≤ 64) × (getD (now attributes) 0 0 ≤ 6) × (getD (now attributes) 1 0 ≤ 6) × (c < 512) × (length (now scratch) ≡ 2048) ⌝ }
+    ensures { λ r. ⌜ FirstIn (λ i. pairAt (now (links .entry)) (now (matches .entry)) (now (known .entry)) (now (attributes .entry)) users resources operations (now (scratch .entry)) i c) 0 c r ⌝ }
+{
+    for i in 0..c {
+        if is_pair(
+            scratch,
+            links,
+            matches,
+            known,
+            attributes,
+            users,
+            resources,
+            operations,
+            i,
+            c,
+        ) {
+            return i;
+        }
+    }
+    512
+}
+
+// The first slot behind c whose group c's may take in; 512 if there is none.
+fn first_behind<'a>(
+    scratch: &[u64],
+    links: &'a [u64; 2304],
+    matches: &'a [u64; 896],
+    known: &'a [u64; 14],
+    attributes: &'a [usize; 2],
+    users: usize,
+    resources: usize,
+    operations: usize,
+    c: usize,
+) -> usize
+    requires { ⌜ (users ≤ 64) × (resources ≤ 64) × (operations ≤ 64) × (getD (now attributes) 0 0 ≤ 6) × (getD (now attributes) 1 0 ≤ 6) × (c < 512) × (length (now scratch) ≡ 2048) ⌝ }
+    ensures { λ r. ⌜ FirstIn (pairAt (now (links .entry)) (now (matches .entry)) (now (known .entry)) (now (attributes .entry)) users resources operations (now (scratch .entry)) c) (c + 1) 512 r ⌝ }
+{
+    // Most slots are no heads.
+    if is_head(scratch, c) {
+        for j in c + 1..512 {
+            if is_pair(
+                scratch,
+                links,
+                matches,
+                known,
+                attributes,
+                users,
+                resources,
+                operations,
+                c,
+                j,
+            ) {
+                return j;
+            }
+        }
+    }
+    512
+}
+
+// The first slot to be joined with c: one before it, or else one behind it; 512 if there is none.
+fn first_partner<'a>(
+    scratch: &[u64],
+    links: &'a [u64; 2304],
+    matches: &'a [u64; 896],
+    known: &'a [u64; 14],
+    attributes: &'a [usize; 2],
+    users: usize,
+    resources: usize,
+    operations: usize,
+    c: usize,
+) -> usize
+    requires { ⌜ (users ≤ 64) × (resources ≤ 64) × (operations ≤ 64) × (getD (now attributes) 0 0 ≤ 6) × (getD (now attributes) 1 0 ≤ 6) × (c < 512) × (length (now scratch) ≡ 2048) ⌝ }
+    ensures { λ r. ⌜ Partner (pairAt (now (links .entry)) (now (matches .entry)) (now (known .entry)) (now (attributes .entry)) users resources operations (now (scratch .entry))) c r ⌝ }
+{
+    let i = first_before(
+        scratch,
+        links,
+        matches,
+        known,
+        attributes,
+        users,
+        resources,
+        operations,
+        c,
+    );
+    if i < 512 {
+        return i;
+    }
+    first_behind(
+        scratch,
+        links,
+        matches,
+        known,
+        attributes,
+        users,
+        resources,
+        operations,
+        c,
+    )
+}
+
+// The last word of a slot.
+fn pack(atoms: u64, level: usize, head: usize) -> u64
+    requires { ⌜ (atoms < 2 ^ 36) × (level < 4) × (head < 512) ⌝ }
+    ensures { λ w. ⌜ w ≡ restOf atoms level head ⌝ }
+{
+    atoms + 0x10_0000_0000 * level as u64 + 0x40_0000_0000 * head as u64
+}
+
+// The last word of a slot, with head i in the place of head j.
+fn reheaded(rest: u64, i: usize, j: usize) -> u64
+    requires { ⌜ i < 512 ⌝ }
+    ensures { λ w. ⌜ w ≡ reheaded i j rest ⌝ }
+{
+    if rest / 0x40_0000_0000 == j as u64 {
+        return rest % 0x40_0000_0000 + 0x40_0000_0000 * i as u64;
+    }
+    rest
+}
+
+// Writes the words of a slot.
+fn store(scratch: &mut [u64], i: usize, s: Slot)
+    requires { ⌜ (i < 512) × (length (now scratch) ≡ 2048) ⌝ }
+    ensures { λ _. ⌜ now (scratch .exit) ≡ stored (now (scratch .entry)) i (s .users) (s .resources) (s .operations) (s .rest) ⌝ }
+{
+    scratch[4 * i] = s.users;
+    scratch[4 * i + 1] = s.resources;
+    scratch[4 * i + 2] = s.operations;
+    scratch[4 * i + 3] = s.rest;
+}
+
+// Slot i takes in the group of slot j: its words become those of both, with the level of both together.
+fn take_in(scratch: &mut [u64], i: usize, j: usize, level: usize)
+    requires { ⌜ (i < 512) × (j < 512) × (level < 4) × (length (now scratch) ≡ 2048) ⌝ }
+    ensures { λ _. ⌜ TakenIn (now (scratch .entry)) (now (scratch .exit)) i j level ⌝ }
+{
+    let g = group_at(scratch, i);
+    let h = group_at(scratch, j);
+    let rest = pack(sets::meet(g.atoms, h.atoms), level, i);
+    let both = Slot {
+        users: sets::union(g.users, h.users),
+        resources: sets::union(g.resources, h.resources),
+        operations: sets::union(g.operations, h.operations),
+        rest: rest,
+    };
+    store(scratch, i, both);
+}
+
+// Every slot with the head j gets the head i.
+fn rehead(scratch: &mut [u64], i: usize, j: usize)
+    requires { ⌜ (i < 512) × (length (now scratch) ≡ 2048) ⌝ }
+    ensures { λ _. ⌜ Reheaded (now (scratch .entry)) (now (scratch .exit)) i j ⌝ }
+{
+    for k in 0..512 {
+        scratch[4 * k + 3] = reheaded(scratch[4 * k + 3], i, j);
+    }
+}
+
+// Joins the group of slot j to that of slot i.
+fn join(scratch: &mut [u64], i: usize, j: usize, level: usize)
+    requires { ⌜ (i < j) × (j < 512) × (level < 4) × (length (now scratch) ≡ 2048) ⌝ }
+    ensures { λ _. ⌜ Joined (now (scratch .entry)) (now (scratch .exit)) i j level ⌝ }
+{
+    take_in(scratch, i, j, level);
+    rehead(scratch, i, j);
+}
+
+// Whether a part stands in the slot: the part of role k / 16 with the lowest operation k % 16.
+fn is_slot<'a>(
+    holders: &'a [u64; 32],
+    permissions: &'a [u64; 512],
+    operations: usize,
+    roles: usize,
+    k: usize,
+) -> bool
+    requires { ⌜ (operations ≤ 16) × (roles ≤ 32) ⌝ }
+    ensures { λ b. ⌜ b ≡ slotIn (now (holders .entry)) (now (permissions .entry)) operations roles k ⌝ }
+{
+    if roles <= k / 16 {
+        return false;
+    }
+    if operations <= k % 16 {
+        return false;
+    }
+    groupwords::is_part(holders, permissions, operations, k / 16, k % 16)
+}
+
+// The words of the part in a slot.
+fn group_of<'a>(
+    links: &'a [u64; 2304],
+    attributes: &'a [usize; 2],
+    holders: &'a [u64; 32],
+    permissions: &'a [u64; 512],
+    operations: usize,
+    k: usize,
+) -> Group
+    requires { ⌜ (operations ≤ 16) × (k < 512) ⌝ }
+    ensures { λ g. ⌜ wordsIn g ≡ slotWords (now (links .entry)) (now (attributes .entry)) (now (holders .entry)) (now (permissions .entry)) operations k ⌝ }
+{
+    let users = holders[k / 16];
+    let resources = permissions[16 * (k / 16) + k % 16];
+    let class = groupwords::class_of(permissions, k / 16, operations, k % 16);
+    let atoms = groupwords::atoms_of(links, attributes, users, resources);
+    Group {
+        users: users,
+        resources: resources,
+        operations: class,
+        atoms: atoms,
+    }
+}
+
+// What a slot is filled with: its part's words with their level, and itself as head; nothing if it has no part.
+fn slot_of<'a>(
+    links: &'a [u64; 2304],
+    matches: &'a [u64; 896],
+    known: &'a [u64; 14],
+    attributes: &'a [usize; 2],
+    holders: &'a [u64; 32],
+    permissions: &'a [u64; 512],
+    users: usize,
+    resources: usize,
+    operations: usize,
+    roles: usize,
+    k: usize,
+) -> Slot
+    requires { ⌜ (users ≤ 64) × (resources ≤ 64) × (operations ≤ 16) × (roles ≤ 32) × (getD (now attributes) 0 0 ≤ 6) × (getD (now attributes) 1 0 ≤ 6) × (k < 512) ⌝ }
+    ensures { λ s. ⌜ FilledWith (now (links .entry)) (now (matches .entry)) (now (known .entry)) (now (attributes .entry)) (now (holders .entry)) (now (permissions .entry)) users resources operations roles k (s .users) (s .resources) (s .operations) (s .rest) ⌝ }
+{
+    if is_slot(holders, permissions, operations, roles, k) {
+        let g = group_of(links, attributes, holders, permissions, operations, k);
+        let level = pairing::level_of_group(
+            links,
+            matches,
+            known,
+            attributes,
+            users,
+            resources,
+            operations,
+            g,
+        );
+        let rest = pack(g.atoms, level, k);
+        return Slot {
+            users: g.users,
+            resources: g.resources,
+            operations: g.operations,
+            rest: rest,
+        };
+    }
+    Slot {
+        users: 0,
+        resources: 0,
+        operations: 0,
+        rest: 0,
+    }
+}
+
+// Every slot's own words, whatever scratch held.
+fn fill<'a>(
+    scratch: &mut [u64],
+    links: &'a [u64; 2304],
+    matches: &'a [u64; 896],
+    known: &'a [u64; 14],
+    attributes: &'a [usize; 2],
+    holders: &'a [u64; 32],
+    permissions: &'a [u64; 512],
+    users: usize,
+    resources: usize,
+    operations: usize,
+    roles: usize,
+)
+    requires { ⌜ (users ≤ 64) × (resources ≤ 64) × (operations ≤ 16) × (roles ≤ 32) × (getD (now attributes) 0 0 ≤ 6) × (getD (now attributes) 1 0 ≤ 6) × (length (now scratch) ≡ 2048) ⌝ }
+    ensures { λ _. ⌜ (length (now (scratch .exit)) ≡ 2048) × FilledTo (now (links .entry)) (now (matches .entry)) (now (known .entry)) (now (attributes .entry)) (now (holders .entry)) (now (permissions .entry)) users resources operations roles (now (scratch .exit)) 512 ⌝ }
+{
+    for k in 0..512 {
+        let s = slot_of(
+            links,
+            matches,
+            known,
+            attributes,
+            holders,
+            permissions,
+            users,
+            resources,
+            operations,
+            roles,
+            k,
+        );
+        store(scratch, k, s);
+    }
+}
+
+// Joins pairs until the slot `start`, or an earlier one that has taken it in, is in none: how many joins were made. No pair of earlier
+// slots is left before, so that at first only the slots behind `start` are tried; after a join both sides are, since the group is a new one.
+fn settle<'a>(
+    scratch: &mut [u64],
+    links: &'a [u64; 2304],
+    matches: &'a [u64; 896],
+    known: &'a [u64; 14],
+    attributes: &'a [usize; 2],
+    users: usize,
+    resources: usize,
+    operations: usize,
+    start: usize,
+) -> usize
+    requires { ⌜ (users ≤ 64) × (resources ≤ 64) × (operations ≤ 64) × (getD (now attributes) 0 0 ≤ 6) × (getD (now attributes) 1 0 ≤ 6) × (start < 512) × (length (now scratch) ≡ 2048) ⌝ }
+    ensures { λ n. ⌜ (length (now (scratch .exit)) ≡ 2048) × (n + heads (now (scratch .exit)) ≤ heads (now (scratch .entry))) × ((F : Policy) → Sized F → Paired F (now (links .entry)) (now (matches .entry)) (now (known .entry)) (now (attributes .entry)) users resources operations → (made : ℕ) → Settled F (now (scratch .entry)) made start → Settled F (now (scratch .exit)) (made + n) (start + 1)) ⌝ }
+{
+    let mut merges: usize = 0;
+    let mut c = start;
+    let mut other = first_behind(
+        scratch,
+        links,
+        matches,
+        known,
+        attributes,
+        users,
+        resources,
+        operations,
+        c,
+    );
+    while other < 512 {
+        let i = lower(c, other);
+        let j = higher(c, other);
+        let level = level_if_joined(
+            scratch,
+            links,
+            matches,
+            known,
+            attributes,
+            users,
+            resources,
+            operations,
+            i,
+            j,
+        );
+        join(scratch, i, j, level);
+        merges += 1;
+        c = i;
+        other = first_partner(
+            scratch,
+            links,
+            matches,
+            known,
+            attributes,
+            users,
+            resources,
+            operations,
+            c,
+        );
+    }
+    merges
+}
+
+// Merges the parts of a policy, by the tables of its record, until no pair is left: how many merges were made.
+pub fn merge<'a>(
+    scratch: &mut [u64],
+    links: &'a [u64; 2304],
+    matches: &'a [u64; 896],
+    known: &'a [u64; 14],
+    attributes: &'a [usize; 2],
+    holders: &'a [u64; 32],
+    permissions: &'a [u64; 512],
+    users: usize,
+    resources: usize,
+    operations: usize,
+    roles: usize,
+) -> usize
+    requires { ⌜ (users ≤ 64) × (resources ≤ 64) × (operations ≤ 16) × (roles ≤ 32) × (getD (now attributes) 0 0 ≤ 6) × (getD (now attributes) 1 0 ≤ 6) × (length (now scratch) ≡ 2048) ⌝ }
+    ensures { λ n. ⌜ (length (now (scratch .exit)) ≡ 2048) × ((F : Policy) → Sized F → Tables F (now (links .entry)) (now (matches .entry)) (now (known .entry)) (now (attributes .entry)) (now (holders .entry)) (now (permissions .entry)) users resources operations roles → (n ≡ slotMerges F) × Merged F (now (scratch .exit))) ⌝ }
+{
+    fill(
+        scratch,
+        links,
+        matches,
+        known,
+        attributes,
+        holders,
+        permissions,
+        users,
+        resources,
+        operations,
+        roles,
+    );
+    let mut merges: usize = 0;
+    for front in 0..512 {
+        merges += settle(
+            scratch,
+            links,
+            matches,
+            known,
+            attributes,
+            users,
+            resources,
+            operations,
+            front,
+        );
+    }
+    merges
+}

@@ -1,0 +1,3 @@
+pub mod Mined
+pub mod MineLaws
+pub mod AssemblyLaws

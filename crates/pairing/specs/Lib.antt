@@ -1,0 +1,6 @@
+pub mod Pairing
+pub mod PairingLaws
+pub mod FitLaws
+pub mod JoinLaws
+pub mod Levels
+pub mod LevelLaws

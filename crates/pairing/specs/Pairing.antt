@@ -1,0 +1,71 @@
+-- Two groups of parts beside the covering rule of both together, from four words of each and the table of links; and what they cannot do
+-- without if they are to be one.
+-- Assumes nothing.
+use Prim.Native.Nat.{ℕ}
+use lib.Dec.{eqb}
+use mathlib.Core.Bool.{Bool, _&&_, _||_, not}
+use mathlib.Core.List.{List}
+use mathlib.Core.Option.{Option}
+use Rattle.files.specs.Calls.{first}
+use Rattle.grants.specs.Grid.{tripleList, differAt}
+use Rattle.policy.specs.Rules.{Block}
+use Rattle.rulegrants.specs.RuleGrid.{rowOf}
+use Rattle.sets.specs.Sets.{bit, subset, maskOf}
+use Rattle.sets.specs.Tests.{all, upTo}
+use Rattle.words.specs.Words.{Words, joined, together}
+use Rattle.pairing.specs.declared.Group.{Group}
+
+-- a group's words, as the code hands them about
+abbrev pub wordsIn : Group → Words
+wordsIn g = record { users = g .users; resources = g .resources; ops = g .operations; atoms = g .atoms }
+
+-- the triples of a group, from the table of links
+unfoldable pub tableSpans : List ℕ → Words → Block
+tableSpans links W u r o = bit (W .ops) o && bit (rowOf links (W .atoms) (W .users) (W .resources) u) r
+
+-- the covering rule of two groups together: who and what pass its conjuncts, the operations of both, the atoms that both have
+unfoldable pub covering : Words → Words → ℕ → ℕ → Words
+covering W X who what = record { users = who; resources = what; ops = joined W X .ops; atoms = joined W X .atoms }
+
+-- what it grants, and what the two groups have
+abbrev pub covered : List ℕ → Words → Words → ℕ → ℕ → Block
+covered links W X who what = tableSpans links (covering W X who what)
+
+abbrev pub grouped : List ℕ → Words → Words → Block
+grouped links W X = together (tableSpans links W) (tableSpans links X)
+
+-- the first triple at which the covering rule and the two groups differ
+unfoldable pub firstBeyond : List ℕ → Words → Words → ℕ → ℕ → ℕ → ℕ → ℕ → Option (ℕ × ℕ × ℕ)
+firstBeyond links W X who what us rs os = first (differAt (covered links W X who what) (grouped links W X)) (tripleList us rs os)
+
+-- one set without the other
+abbrev pub less : ℕ → ℕ → ℕ
+less a b = maskOf 64 (λ k. bit a k && not (bit b k))
+
+-- a user's rows agree as words, c of the covering rule, a and b of the groups: where both groups have an operation, c is both rows
+-- together; where one has an operation that the other lacks, c is its row
+unfoldable pub rowsAgree : ℕ → ℕ → ℕ → ℕ → ℕ → Bool
+rowsAgree mine theirs c a b =
+    ((eqb (maskOf 64 (λ k. bit mine k && bit theirs k)) 0 || eqb c (maskOf 64 (λ k. bit a k || bit b k)))
+    && (eqb (less mine theirs) 0 || eqb c a))
+    && (eqb (less theirs mine) 0 || eqb c b)
+
+-- ---- what two groups that fit together cannot do without
+
+-- no user of one set and resource of another are joined by all of these atoms
+unfoldable pub cornerFree : List ℕ → ℕ → ℕ → ℕ → Bool
+cornerFree links atoms us rs = all (λ u. eqb (rowOf links atoms us rs u) 0) (upTo 64)
+
+-- a group with operations that the other lacks has the other's users and resources
+unfoldable pub reaches : Words → Words → Bool
+reaches W X = eqb (less (W .ops) (X .ops)) 0 || (subset (X .users) (W .users) && subset (X .resources) (W .resources))
+
+-- the atoms of both join no user of one group only with a resource of the other only
+unfoldable pub cornersFree : List ℕ → Words → Words → Bool
+cornersFree links W X =
+    cornerFree links (joined W X .atoms) (less (W .users) (X .users)) (less (X .resources) (W .resources))
+    && cornerFree links (joined W X .atoms) (less (X .users) (W .users)) (less (W .resources) (X .resources))
+
+-- all of these
+unfoldable pub mayJoin : List ℕ → Words → Words → Bool
+mayJoin links W X = (reaches W X && reaches X W) && cornersFree links W X

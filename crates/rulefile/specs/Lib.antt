@@ -1,0 +1,4 @@
+pub mod BothFiles
+pub mod LegalLaws
+pub mod ReadsLaws
+pub mod StateLaws

@@ -1,0 +1,153 @@
+// Reads a role file and, beside it, a rule file of any length.
+ghost use lib.Dec.{eqb};
+ghost use mathlib.Core.Bool.{_||_};
+ghost use mathlib.Core.Path.{_≡_};
+ghost use Rattle.files.specs.Calls.{readBoth};
+ghost use Rattle.rulefile.specs.BothFiles.{nothingRead, bothOf};
+use loaded::RoleFile;
+use operands::Checked;
+use rulecommands::Raw;
+
+// Both files read: 0, the record of the role file, what the rules grant together (word 16 * user + operation is a set of resources),
+// whether some rule grants other than its parts and which is the first of them, and by role the lowest operations of the parts that the
+// rules list, once or more and more than once; or the number of the refusal and nothing else.
+pub struct BothFiles {
+    pub code: usize,
+    pub file: RoleFile,
+    pub grid: [u64; 1024],
+    pub strays: bool,
+    pub stray: usize,
+    pub seen: [u64; 32],
+    pub again: [u64; 32],
+}
+
+fn refuse(n: usize) -> BothFiles
+    ensures { λ r. ⌜ r ≡ nothingRead n ⌝ }
+{
+    let e = RoleFile::empty();
+    BothFiles {
+        code: n,
+        file: e,
+        grid: [0u64; 1024],
+        strays: false,
+        stray: 0,
+        seen: [0u64; 32],
+        again: [0u64; 32],
+    }
+}
+
+// Whether a command closes the open rule.
+fn closes(b: usize) -> bool
+    ensures { λ r. ⌜ r ≡ (eqb b 0x21 || eqb b 0x2F) ⌝ }
+{
+    if b == 0x21 {
+        return true;
+    }
+    b == 0x2F
+}
+
+// One pass over the rule file: each line is summed up where it stands, and what a rule grants is worked out when it is closed.
+pub fn read(file: &[u8], rules: &[u8]) -> BothFiles
+    ensures { λ r. ⌜ r ≡ bothOf (readBoth 2 (now (file .entry)) (now (rules .entry))) ⌝ }
+{
+    let l = rolefile::read(file);
+    if l.code != 0 {
+        return refuse(l.code);
+    }
+    let f = l.file;
+    let mut links = [0u64; 2304];
+    grants::links(&f.known, &f.values, &f.kinds, f.resources, &mut links);
+    let mut k = rulesteps::begun();
+    let mut met = [0u64; 14];
+    let mut listed = [0u64; 1024];
+    let mut grid = [0u64; 1024];
+    let mut seen = [0u64; 32];
+    let mut again = [0u64; 32];
+    let mut at: usize = 0;
+    loop {
+        match rulecommands::next(&rules[at..]) {
+            Raw::Unknown => {
+                return refuse(11);
+            }
+            Raw::Short => {
+                return refuse(10);
+            }
+            Raw::Whole(b, x, y, w) => {
+                at = at + w;
+                if closes(b) {
+                    if !rulesteps::may_close(k) {
+                        return refuse(12);
+                    }
+                    k = rulesteps::finish(
+                        k,
+                        &met,
+                        &listed,
+                        &links,
+                        f.users,
+                        f.resources,
+                        f.operations,
+                        &mut grid,
+                    );
+                    if b == 0x2F {
+                        if at != rules.len() {
+                            return refuse(12);
+                        }
+                        return BothFiles {
+                            code: 0,
+                            file: f,
+                            grid: grid,
+                            strays: k.strays,
+                            stray: k.stray,
+                            seen: seen,
+                            again: again,
+                        };
+                    }
+                    k = rulesteps::opened(k);
+                    met = [0u64; 14];
+                    partgrants::clear(&mut listed);
+                } else {
+                    if !rulesteps::follows(k, b, x, y) {
+                        return refuse(12);
+                    }
+                    match operands::check(
+                        b,
+                        x,
+                        y,
+                        f.resources,
+                        f.operations,
+                        f.roles,
+                        &f.attributes,
+                        &f.kinds,
+                        &f.holders,
+                        &f.permissions,
+                    ) {
+                        Checked::Illegal => {
+                            return refuse(13);
+                        }
+                        Checked::Legal(c) => {
+                            k = rulesteps::note(k, c, b, x, y);
+                            rulesteps::meet_line(
+                                c,
+                                f.users,
+                                f.resources,
+                                f.roles,
+                                &f.known,
+                                &f.values,
+                                &f.holders,
+                                &mut met,
+                            );
+                            rulesteps::list_line(
+                                c,
+                                &f.holders,
+                                &f.permissions,
+                                &mut listed,
+                                &mut seen,
+                                &mut again,
+                            );
+                        }
+                    }
+                }
+            }
+        }
+    }
+}

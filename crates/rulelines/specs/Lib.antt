@@ -1,0 +1,7 @@
+pub mod ListLaws
+pub mod RuleLines
+pub mod RuleLinesLaws
+pub mod PartLines
+pub mod RuleBytes
+pub mod WrittenValues
+pub mod RuleBounds

@@ -1,0 +1,1 @@
+// The lines of a mined rule in the order of the file: definitions and theorems only (specs/).

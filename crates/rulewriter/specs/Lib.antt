@@ -1,0 +1,4 @@
+pub mod RuleTable
+pub mod SectionLaws
+pub mod AnswerLaws
+pub mod WriterLaws

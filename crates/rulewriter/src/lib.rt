@@ -1,0 +1,304 @@
+// Writes a mined rule: its bytes, how many they are, and what the rule costs. Each function writes at the front of the slice that it is
+// lent, answers how many bytes it wrote, and leaves what stands behind them as it was.
+ghost use lib.ListN.{length, drop};
+ghost use mathlib.Core.List.{_++_};
+ghost use mathlib.Core.Path.{_≡_};
+ghost use Prim.Native.Nat.{_≤_, _<_};
+ghost use Rattle.files.specs.RoleFile.{sideBy};
+ghost use Rattle.linewriter.specs.Writing.{wrote};
+ghost use Rattle.rulelists.specs.RuleLists.{ruleCostIn};
+ghost use Rattle.rulewriter.specs.RuleTable.{keptAs, placeBytesIn, kindBytesIn, conjunctBytesIn, atomBytesAt, atomBytesIn, roleBytesIn, partBytesIn, ruleBytesIn, sectionBytesIn};
+ghost use Rattle.words.specs.Flags.{placeSide};
+
+pub struct Written {
+    pub bytes: usize,
+    pub cost: usize,
+}
+
+// ---- lines
+
+// Whether a conjunct of this kind is kept at a place.
+fn kept_as(kinds: &[u64; 2], kept: u64, set: bool, place: usize) -> bool
+    requires { ⌜ place < 14 ⌝ }
+    ensures { λ r. ⌜ r ≡ keptAs (now (kinds .entry)) kept set place ⌝ }
+{
+    if sets::has(kept, place) {
+        return rulelists::set_place(kinds, place) == set;
+    }
+    false
+}
+
+// The lines of a kind at a place.
+fn put_place<'a>(
+    values: &'a [u64; 768],
+    holders: &'a [u64; 32],
+    kinds: &'a [u64; 2],
+    roles: usize,
+    scratch: &'a [u64],
+    head: usize,
+    kept: u64,
+    set: bool,
+    place: usize,
+    out: &mut [u8],
+) -> usize
+    requires { ⌜ (roles ≤ 32) × (length (now scratch) ≡ 2048) × (head < 512) × (place < 14) ⌝ }
+    requires { ⌜ length (placeBytesIn (now values) (now holders) (now kinds) roles (now scratch) head kept (placeSide place) set place) ≤ length (now out) ⌝ }
+    ensures { λ r. ⌜ (r ≡ length (placeBytesIn (now (values .entry)) (now (holders .entry)) (now (kinds .entry)) roles (now (scratch .entry)) head kept (placeSide place) set place)) × (now (out .exit) ≡ wrote (placeBytesIn (now (values .entry)) (now (holders .entry)) (now (kinds .entry)) roles (now (scratch .entry)) head kept (placeSide place) set place) (now (out .entry))) ⌝ }
+{
+    if kept_as(kinds, kept, set, place) {
+        let mut list = [0u64; 64];
+        let count = rulelists::list_values(
+            values,
+            holders,
+            kinds,
+            roles,
+            scratch,
+            head,
+            place,
+            &mut list,
+        );
+        return linewriter::put_values(&list, count, place, set, out);
+    }
+    0
+}
+
+// The lines of a kind: a side, and sets or singles.
+fn put_kind<'a>(
+    values: &'a [u64; 768],
+    holders: &'a [u64; 32],
+    kinds: &'a [u64; 2],
+    roles: usize,
+    scratch: &'a [u64],
+    head: usize,
+    kept: u64,
+    side: usize,
+    set: bool,
+    out: &mut [u8],
+) -> usize
+    requires { ⌜ (roles ≤ 32) × (length (now scratch) ≡ 2048) × (head < 512) × (side < 2) ⌝ }
+    requires { ⌜ length (kindBytesIn (now values) (now holders) (now kinds) roles (now scratch) head kept (sideBy side) set) ≤ length (now out) ⌝ }
+    ensures { λ r. ⌜ (r ≡ length (kindBytesIn (now (values .entry)) (now (holders .entry)) (now (kinds .entry)) roles (now (scratch .entry)) head kept (sideBy side) set)) × (now (out .exit) ≡ wrote (kindBytesIn (now (values .entry)) (now (holders .entry)) (now (kinds .entry)) roles (now (scratch .entry)) head kept (sideBy side) set) (now (out .entry))) ⌝ }
+{
+    let mut at: usize = 0;
+    for j in 0..7 {
+        at += put_place(
+            values,
+            holders,
+            kinds,
+            roles,
+            scratch,
+            head,
+            kept,
+            set,
+            7 * side + j,
+            &mut out[at..],
+        );
+    }
+    at
+}
+
+// The lines 22 to 25.
+fn put_conjuncts<'a>(
+    values: &'a [u64; 768],
+    holders: &'a [u64; 32],
+    kinds: &'a [u64; 2],
+    roles: usize,
+    scratch: &'a [u64],
+    head: usize,
+    kept: u64,
+    out: &mut [u8],
+) -> usize
+    requires { ⌜ (roles ≤ 32) × (length (now scratch) ≡ 2048) × (head < 512) ⌝ }
+    requires { ⌜ length (conjunctBytesIn (now values) (now holders) (now kinds) roles (now scratch) head kept) ≤ length (now out) ⌝ }
+    ensures { λ r. ⌜ (r ≡ length (conjunctBytesIn (now (values .entry)) (now (holders .entry)) (now (kinds .entry)) roles (now (scratch .entry)) head kept)) × (now (out .exit) ≡ wrote (conjunctBytesIn (now (values .entry)) (now (holders .entry)) (now (kinds .entry)) roles (now (scratch .entry)) head kept) (now (out .entry))) ⌝ }
+{
+    let mut at: usize = 0;
+    for k in 0..4 {
+        at += put_kind(
+            values,
+            holders,
+            kinds,
+            roles,
+            scratch,
+            head,
+            kept,
+            k / 2,
+            k % 2 == 1,
+            &mut out[at..],
+        );
+    }
+    at
+}
+
+// ---- atoms
+
+// The line 27 of an atom by its number.
+fn put_atom(kept: u64, atom: usize, out: &mut [u8]) -> usize
+    requires { ⌜ (atom < 36) × (length (atomBytesAt kept atom) ≤ length (now out)) ⌝ }
+    ensures { λ r. ⌜ (r ≡ length (atomBytesAt kept atom)) × (now (out .exit) ≡ wrote (atomBytesAt kept atom) (now (out .entry))) ⌝ }
+{
+    if sets::has(kept, 14 + atom) {
+        linewriter::put_three(out, 39, atom / 6, atom % 6);
+        return 3;
+    }
+    0
+}
+
+// The lines 27.
+fn put_atoms(kept: u64, out: &mut [u8]) -> usize
+    requires { ⌜ length (atomBytesIn kept) ≤ length (now out) ⌝ }
+    ensures { λ r. ⌜ (r ≡ length (atomBytesIn kept)) × (now (out .exit) ≡ wrote (atomBytesIn kept) (now (out .entry))) ⌝ }
+{
+    let mut at: usize = 0;
+    for j in 0..36 {
+        at += put_atom(kept, j, &mut out[at..]);
+    }
+    at
+}
+
+// ---- parts
+
+// The lines 28 of a role.
+fn put_role<'a>(
+    permissions: &'a [u64; 512],
+    operations: usize,
+    scratch: &'a [u64],
+    head: usize,
+    role: usize,
+    out: &mut [u8],
+) -> usize
+    requires { ⌜ (operations ≤ 16) × (length (now scratch) ≡ 2048) × (head < 512) × (role < 32) ⌝ }
+    requires { ⌜ length (roleBytesIn (now permissions) operations (now scratch) head role) ≤ length (now out) ⌝ }
+    ensures { λ r. ⌜ (r ≡ length (roleBytesIn (now (permissions .entry)) operations (now (scratch .entry)) head role)) × (now (out .exit) ≡ wrote (roleBytesIn (now (permissions .entry)) operations (now (scratch .entry)) head role) (now (out .entry))) ⌝ }
+{
+    let mut list = [0u64; 64];
+    let count = rulelists::list_classes(permissions, operations, scratch, head, role, &mut list);
+    linewriter::put_classes(&list, count, role, out)
+}
+
+// The lines 28.
+fn put_parts<'a>(
+    permissions: &'a [u64; 512],
+    operations: usize,
+    scratch: &'a [u64],
+    head: usize,
+    out: &mut [u8],
+) -> usize
+    requires { ⌜ (operations ≤ 16) × (length (now scratch) ≡ 2048) × (head < 512) ⌝ }
+    requires { ⌜ length (partBytesIn (now permissions) operations (now scratch) head) ≤ length (now out) ⌝ }
+    ensures { λ r. ⌜ (r ≡ length (partBytesIn (now (permissions .entry)) operations (now (scratch .entry)) head)) × (now (out .exit) ≡ wrote (partBytesIn (now (permissions .entry)) operations (now (scratch .entry)) head) (now (out .entry))) ⌝ }
+{
+    let mut at: usize = 0;
+    for k in 0..32 {
+        at += put_role(permissions, operations, scratch, head, k, &mut out[at..]);
+    }
+    at
+}
+
+// ---- cost
+
+// One of the five sections: what opens the rule, its conjuncts, its operations, its atoms, its parts.
+fn put_section<'a>(
+    values: &'a [u64; 768],
+    holders: &'a [u64; 32],
+    kinds: &'a [u64; 2],
+    permissions: &'a [u64; 512],
+    roles: usize,
+    operations: usize,
+    scratch: &'a [u64],
+    head: usize,
+    kept: u64,
+    section: usize,
+    out: &mut [u8],
+) -> usize
+    requires { ⌜ (roles ≤ 32) × (operations ≤ 16) × (length (now scratch) ≡ 2048) × (head < 512) ⌝ }
+    requires { ⌜ length (sectionBytesIn (now values) (now holders) (now kinds) (now permissions) roles operations (now scratch) head kept section) ≤ length (now out) ⌝ }
+    ensures { λ r. ⌜ (r ≡ length (sectionBytesIn (now (values .entry)) (now (holders .entry)) (now (kinds .entry)) (now (permissions .entry)) roles operations (now (scratch .entry)) head kept section)) × (now (out .exit) ≡ wrote (sectionBytesIn (now (values .entry)) (now (holders .entry)) (now (kinds .entry)) (now (permissions .entry)) roles operations (now (scratch .entry)) head kept section) (now (out .entry))) ⌝ }
+{
+    if section == 0 {
+        linewriter::put_one(out, 33);
+        return 1;
+    }
+    if section == 1 {
+        return put_conjuncts(values, holders, kinds, roles, scratch, head, kept, out);
+    }
+    if section == 2 {
+        let ops = scratch[4 * head + 2];
+        linewriter::put_three(out, 38, (ops % 256) as usize, (ops / 256 % 256) as usize);
+        return 3;
+    }
+    if section == 3 {
+        return put_atoms(kept, out);
+    }
+    put_parts(permissions, operations, scratch, head, out)
+}
+
+// The bytes of the rule, section by section.
+fn put_rule<'a>(
+    values: &'a [u64; 768],
+    holders: &'a [u64; 32],
+    kinds: &'a [u64; 2],
+    permissions: &'a [u64; 512],
+    roles: usize,
+    operations: usize,
+    scratch: &'a [u64],
+    head: usize,
+    kept: u64,
+    out: &mut [u8],
+) -> usize
+    requires { ⌜ (roles ≤ 32) × (operations ≤ 16) × (length (now scratch) ≡ 2048) × (head < 512) ⌝ }
+    requires { ⌜ length (ruleBytesIn (now values) (now holders) (now kinds) (now permissions) roles operations (now scratch) head kept) ≤ length (now out) ⌝ }
+    ensures { λ r. ⌜ (r ≡ length (ruleBytesIn (now (values .entry)) (now (holders .entry)) (now (kinds .entry)) (now (permissions .entry)) roles operations (now (scratch .entry)) head kept)) × (now (out .exit) ≡ wrote (ruleBytesIn (now (values .entry)) (now (holders .entry)) (now (kinds .entry)) (now (permissions .entry)) roles operations (now (scratch .entry)) head kept) (now (out .entry))) ⌝ }
+{
+    let mut at: usize = 0;
+    for i in 0..5 {
+        at += put_section(
+            values,
+            holders,
+            kinds,
+            permissions,
+            roles,
+            operations,
+            scratch,
+            head,
+            kept,
+            i,
+            &mut out[at..],
+        );
+    }
+    at
+}
+
+// Writes the rule of the group with this head, of whose 50 places these are kept; answers how many bytes it has and what it costs.
+pub fn write_rule<'a>(
+    values: &'a [u64; 768],
+    holders: &'a [u64; 32],
+    kinds: &'a [u64; 2],
+    permissions: &'a [u64; 512],
+    roles: usize,
+    operations: usize,
+    scratch: &'a [u64],
+    head: usize,
+    kept: u64,
+    out: &mut [u8],
+) -> Written
+    requires { ⌜ (roles ≤ 32) × (operations ≤ 16) × (length (now scratch) ≡ 2048) × (head < 512) ⌝ }
+    requires { ⌜ length (ruleBytesIn (now values) (now holders) (now kinds) (now permissions) roles operations (now scratch) head kept) ≤ length (now out) ⌝ }
+    ensures { λ r. ⌜ r ≡ record { bytes = length (ruleBytesIn (now (values .entry)) (now (holders .entry)) (now (kinds .entry)) (now (permissions .entry)) roles operations (now (scratch .entry)) head kept); cost = ruleCostIn (now (values .entry)) (now (holders .entry)) (now (kinds .entry)) roles (now (scratch .entry)) head kept } ⌝ }
+    ensures { λ _. ⌜ now (out .exit) ≡ ruleBytesIn (now (values .entry)) (now (holders .entry)) (now (kinds .entry)) (now (permissions .entry)) roles operations (now (scratch .entry)) head kept ++ drop (length (ruleBytesIn (now (values .entry)) (now (holders .entry)) (now (kinds .entry)) (now (permissions .entry)) roles operations (now (scratch .entry)) head kept)) (now (out .entry)) ⌝ }
+{
+    let bytes = put_rule(
+        values,
+        holders,
+        kinds,
+        permissions,
+        roles,
+        operations,
+        scratch,
+        head,
+        kept,
+        out,
+    );
+    let cost = rulelists::rule_cost(values, holders, kinds, roles, scratch, head, kept);
+    Written { bytes, cost }
+}

@@ -1,0 +1,67 @@
+// Whose values pass a test. A table of values has 64 to a slot, one for each user or resource, and the answer is the set of those in the
+// slot whose value passes. Each loop goes from the last to the first and shifts the set up, which takes no branch.
+ghost use lib.Dec.{eqb};
+ghost use lib.ListN.{length, getD};
+ghost use mathlib.Core.Path.{_≡_};
+ghost use Prim.Native.Nat.{_+_, _*_, _<_};
+ghost use Rattle.sets.specs.Sets.{bit, subset, maskOf};
+
+// Whose values contain a set.
+pub fn containing(values: &[u64; 768], slot: usize, v: u64) -> u64
+    requires { ⌜ slot < 12 ⌝ }
+    ensures { λ m. ⌜ m ≡ maskOf 64 (λ x. subset v (getD (now (values .entry)) (64 * slot + x) 0)) ⌝ }
+{
+    let mut m: u64 = 0;
+    for x in 0..64 {
+        m = m << 1;
+        if sets::within(v, values[64 * slot + (63 - x)]) {
+            m = m | 1;
+        }
+    }
+    m
+}
+
+// Whose values are contained in a set.
+pub fn contained(values: &[u64; 768], slot: usize, v: u64) -> u64
+    requires { ⌜ slot < 12 ⌝ }
+    ensures { λ m. ⌜ m ≡ maskOf 64 (λ x. subset (getD (now (values .entry)) (64 * slot + x) 0) v) ⌝ }
+{
+    let mut m: u64 = 0;
+    for x in 0..64 {
+        m = m << 1;
+        if sets::within(values[64 * slot + (63 - x)], v) {
+            m = m | 1;
+        }
+    }
+    m
+}
+
+// Whose values are numbers in a set.
+pub fn elements(values: &[u64; 768], slot: usize, v: u64) -> u64
+    requires { ⌜ slot < 12 ⌝ }
+    ensures { λ m. ⌜ m ≡ maskOf 64 (λ x. bit v (getD (now (values .entry)) (64 * slot + x) 0)) ⌝ }
+{
+    let mut m: u64 = 0;
+    for x in 0..64 {
+        m = m << 1;
+        if sets::has(v, values[64 * slot + (63 - x)] as usize) {
+            m = m | 1;
+        }
+    }
+    m
+}
+
+// Whose values are a number.
+pub fn equal(values: &[u64; 768], slot: usize, v: u64) -> u64
+    requires { ⌜ slot < 12 ⌝ }
+    ensures { λ m. ⌜ m ≡ maskOf 64 (λ x. eqb v (getD (now (values .entry)) (64 * slot + x) 0)) ⌝ }
+{
+    let mut m: u64 = 0;
+    for x in 0..64 {
+        m = m << 1;
+        if v == values[64 * slot + (63 - x)] {
+            m = m | 1;
+        }
+    }
+    m
+}

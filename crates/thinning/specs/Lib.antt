@@ -1,0 +1,4 @@
+pub mod Kept
+pub mod SearchLaws
+pub mod PlaceLaws
+pub mod KeptLaws
