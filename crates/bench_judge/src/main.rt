@@ -3,9 +3,9 @@
 // does the same, and the two are measured against each other; beside the proofs it judges example A of 01, a hundred times.
 ghost use mathlib.Core.Path.{_≡_};
 ghost use Rattle.files.specs.Calls.{judge};
-ghost use Rattle.judge.specs.Judgement.{judgementOf};
+ghost use Rattle.judging.specs.Judgement.{judgementOf};
 ghost use Rattle.bench_judge.specs.Checksum.{weightOf, sampleOf, total};
-use judge::Judgement;
+use judging::Judgement;
 
 // The verdict's number and values, added up.
 fn weight(judgement: Judgement) -> u64
@@ -28,7 +28,7 @@ fn weight(judgement: Judgement) -> u64
 fn sample(file: &[u8], rules: &[u8], turn: usize) -> u64
     ensures { λ r. ⌜ r ≡ sampleOf (judgementOf (judge 2 (now (file .entry)) (now (rules .entry)))) turn ⌝ }
 {
-    std::num::wrapping_add_u64(weight(judge::judge(file, rules)), turn as u64)
+    std::num::wrapping_add_u64(weight(judging::judge(file, rules)), turn as u64)
 }
 
 fn checksum(file: &[u8], rules: &[u8], turns: usize) -> u64

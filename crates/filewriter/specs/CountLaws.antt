@@ -1,22 +1,26 @@
 -- The loops that measure and write a rule file, slot by slot.
 -- Assumes nothing.
 use Prim.Native.Nat.{ℕ, _+_, _*_, _≤_, _<_}
-use lib.ListN.{length, set, length-append}
+use lib.ListN.{length, getD, set, length-append}
 use mathlib.Core.Bool.{Bool, true, false, cond}
 use mathlib.Core.List.{List, [], _∷_, _++_}
 use mathlib.Core.Path.{_≡_, refl, sym, ap, ap₂, _∙_}
 use native.Mathlib.Omega.{arith}
-use Rattle.filewriter.specs.FileTable.{keptAt, ruleAt, costAt, fileBytes, measuredOf}
+use Rattle.filewriter.specs.FileTable.{keptAt, keptHead, keptTable, ruleAt, costAt, fileBytes, measuredOf}
 use Rattle.rulelists.specs.RuleLists.{ruleCostIn}
 use Rattle.rulewriter.specs.RuleTable.{ruleBytesIn}
 use Rattle.rulewriter.specs.SectionLaws.{bytes-most}
 use Rattle.linewriter.specs.Writing.{wrote, length-wrote, Runs, runs-end}
+use Rattle.loaded.specs.Record.{tableOf}
 use Rattle.rulelines.specs.ListLaws.{each-more, sum-more, keep-more}
 use Rattle.rulelines.specs.RuleBytes.{atomSet}
 use Rattle.rulelists.specs.ListingLaws.{costs-most}
+use Rattle.sets.specs.LoopLaws.{table-unique}
 use Rattle.sets.specs.MaskLaws.{size-most}
 use Rattle.sets.specs.Tests.{keep, each, only, upTo, sum}
-use Rattle.slotgroups.specs.Scratch.{wordsAt, isPartAt, isHeadAt}
+use Rattle.slotgroups.specs.Scratch.{restAt, levelIn, wordsAt, isPartAt, isHeadAt}
+use Rattle.thinning.specs.Kept.{keptIn}
+use Rattle.words.specs.Words.{Words}
 use Rattle.filewriter.specs.declared.Measured.{Measured}
 
 -- the last byte behind what was written
@@ -33,66 +37,87 @@ pub flag-low : (b : Bool) → cond b 1 0 ≤ 1
 flag-low true = omega arith
 flag-low false = omega arith
 
+-- ---- what is kept
+
+module _ (links matches known attributes : List ℕ) (users resources operations : ℕ) (t : List ℕ) where
+  pub kept-some : (i : ℕ) (W : Words) (l r : ℕ) → isHeadAt t i ≡ true → W ≡ wordsAt t i → l ≡ levelIn (restAt t i) → r ≡ keptIn links matches known attributes users resources operations W l
+      → r ≡ keptHead links matches known attributes users resources operations t i
+  unfolding keptHead keptAt
+  kept-some i W l r h e f g =
+      g ∙ ap₂ (λ (X : Words) (n : ℕ). keptIn links matches known attributes users resources operations X n) e f
+      ∙ sym (ap (λ (b : Bool). cond b (keptIn links matches known attributes users resources operations (wordsAt t i) (levelIn (restAt t i))) 0) h)
+
+  pub kept-none : (i : ℕ) → isHeadAt t i ≡ false → 0 ≡ keptHead links matches known attributes users resources operations t i
+  unfolding keptHead
+  kept-none i h = sym (ap (λ (b : Bool). cond b (keptAt links matches known attributes users resources operations t i) 0) h)
+
+  pub kept-unique : (out : List ℕ) → length out ≡ 512 → ((i : ℕ) → i < 512 → getD out i 0 ≡ keptHead links matches known attributes users resources operations t i)
+      → out ≡ keptTable links matches known attributes users resources operations t
+  unfolding keptTable tableOf
+  kept-unique out e h = table-unique 512 out (keptHead links matches known attributes users resources operations t) e h
+
+-- ---- what one slot can take
+
 -- what one rule can cost
-rule-cost-most : (values holders kinds : List ℕ) (roles : ℕ) (t : List ℕ) (head kept : ℕ) → ruleCostIn values holders kinds roles t head kept ≤ 65536
+rule-cost-most : (distinct having inside kinds : List ℕ) (t : List ℕ) (head kept : ℕ) → ruleCostIn distinct having inside kinds t head kept ≤ 65536
 unfolding ruleCostIn
-rule-cost-most values holders kinds roles t head kept =
-    let a = costs-most values holders kinds roles t head kept 14 in
+rule-cost-most distinct having inside kinds t head kept =
+    let a = costs-most distinct having inside kinds t head kept 14 in
     let b = size-most (wordsAt t head .ops) in
     let c = size-most (atomSet kept) in
     omega (arith, a, b, c)
 
-module _ (links matches known attributes values holders kinds permissions : List ℕ) (users resources operations roles : ℕ) (t : List ℕ) where
+module _ (kept distinct having inside kinds t : List ℕ) (i : ℕ) where
+  pub cost-head : isHeadAt t i ≡ true → ruleCostIn distinct having inside kinds t i (getD kept i 0) ≡ costAt kept distinct having inside kinds t i
+  unfolding costAt
+  cost-head h = sym (ap (λ (b : Bool). cond b (ruleCostIn distinct having inside kinds t i (getD kept i 0)) 0) h)
+
+  pub cost-none : isHeadAt t i ≡ false → 0 ≡ costAt kept distinct having inside kinds t i
+  unfolding costAt
+  cost-none h = sym (ap (λ (b : Bool). cond b (ruleCostIn distinct having inside kinds t i (getD kept i 0)) 0) h)
+
+  pub cost-low : costAt kept distinct having inside kinds t i ≤ 65536
+  unfolding costAt
+  cost-low = go (isHeadAt t i)
+    where
+      go : (b : Bool) → cond b (ruleCostIn distinct having inside kinds t i (getD kept i 0)) 0 ≤ 65536
+      go true = rule-cost-most distinct having inside kinds t i (getD kept i 0)
+      go false = omega arith
+
+module _ (kept distinct having inside kinds permissions : List ℕ) (operations : ℕ) (t : List ℕ) where
   abbrev rule : ℕ → List ℕ
-  rule = ruleAt links matches known attributes values holders kinds permissions users resources operations roles t
+  rule = ruleAt kept distinct having inside kinds permissions operations t
 
   abbrev cost : ℕ → ℕ
-  cost = costAt links matches known attributes values holders kinds permissions users resources operations roles t
+  cost = costAt kept distinct having inside kinds t
 
   -- ---- one slot
 
-  pub slot-head : (i kept : ℕ) → isHeadAt t i ≡ true → kept ≡ keptAt links matches known attributes users resources operations t i
-      → (ruleBytesIn values holders kinds permissions roles operations t i kept ≡ ruleAt links matches known attributes values holders kinds permissions users resources operations roles t i)
-      × (ruleCostIn values holders kinds roles t i kept ≡ costAt links matches known attributes values holders kinds permissions users resources operations roles t i)
-  unfolding ruleAt costAt
-  slot-head i kept h e = (
-    ap (ruleBytesIn values holders kinds permissions roles operations t i) e ∙ sym (ap (λ (b : Bool). cond b (ruleBytesIn values holders kinds permissions roles operations t i (keptAt links matches known attributes users resources operations t i)) []) h),
-    ap (ruleCostIn values holders kinds roles t i) e ∙ sym (ap (λ (b : Bool). cond b (ruleCostIn values holders kinds roles t i (keptAt links matches known attributes users resources operations t i)) 0) h),
-  )
+  pub slot-head : (i : ℕ) → isHeadAt t i ≡ true → ruleBytesIn distinct having inside kinds permissions operations t i (getD kept i 0) ≡ ruleAt kept distinct having inside kinds permissions operations t i
+  unfolding ruleAt
+  slot-head i h = sym (ap (λ (b : Bool). cond b (ruleBytesIn distinct having inside kinds permissions operations t i (getD kept i 0)) []) h)
 
-  pub slot-none : (i : ℕ) → isHeadAt t i ≡ false
-      → (ruleAt links matches known attributes values holders kinds permissions users resources operations roles t i ≡ []) × (costAt links matches known attributes values holders kinds permissions users resources operations roles t i ≡ 0)
-  unfolding ruleAt costAt
-  slot-none i h = (
-    ap (λ (b : Bool). cond b (ruleBytesIn values holders kinds permissions roles operations t i (keptAt links matches known attributes users resources operations t i)) []) h,
-    ap (λ (b : Bool). cond b (ruleCostIn values holders kinds roles t i (keptAt links matches known attributes users resources operations t i)) 0) h,
-  )
+  pub slot-none : (i : ℕ) → isHeadAt t i ≡ false → ruleAt kept distinct having inside kinds permissions operations t i ≡ []
+  unfolding ruleAt
+  slot-none i h = ap (λ (b : Bool). cond b (ruleBytesIn distinct having inside kinds permissions operations t i (getD kept i 0)) []) h
 
-  pub rule-most : (i : ℕ) → length (ruleAt links matches known attributes values holders kinds permissions users resources operations roles t i) ≤ 12288
+  pub rule-most : (i : ℕ) → length (ruleAt kept distinct having inside kinds permissions operations t i) ≤ 12288
   unfolding ruleAt
   rule-most i = go (isHeadAt t i)
     where
-      go : (b : Bool) → length (cond b (ruleBytesIn values holders kinds permissions roles operations t i (keptAt links matches known attributes users resources operations t i)) []) ≤ 12288
-      go true = bytes-most values holders kinds permissions roles operations t i (keptAt links matches known attributes users resources operations t i)
-      go false = omega arith
-
-  pub cost-low : (i : ℕ) → costAt links matches known attributes values holders kinds permissions users resources operations roles t i ≤ 65536
-  unfolding costAt
-  cost-low i = go (isHeadAt t i)
-    where
-      go : (b : Bool) → cond b (ruleCostIn values holders kinds roles t i (keptAt links matches known attributes users resources operations t i)) 0 ≤ 65536
-      go true = rule-cost-most values holders kinds roles t i (keptAt links matches known attributes users resources operations t i)
+      go : (b : Bool) → length (cond b (ruleBytesIn distinct having inside kinds permissions operations t i (getD kept i 0)) []) ≤ 12288
+      go true = bytes-most distinct having inside kinds permissions operations t i (getD kept i 0)
       go false = omega arith
 
   -- ---- so many slots
 
   pub record Counted (bytes rules costs parts i : ℕ) : Type 0 where
     pub within : i ≤ 512
-    pub bytes-so : bytes ≡ length (each (ruleAt links matches known attributes values holders kinds permissions users resources operations roles t) (upTo i))
+    pub bytes-so : bytes ≡ length (each (ruleAt kept distinct having inside kinds permissions operations t) (upTo i))
     pub bytes-low : bytes ≤ 12288 * i
     pub rules-so : rules ≡ length (keep (isHeadAt t) (upTo i))
     pub rules-low : rules ≤ i
-    pub costs-so : costs ≡ sum (costAt links matches known attributes values holders kinds permissions users resources operations roles t) (upTo i)
+    pub costs-so : costs ≡ sum (costAt kept distinct having inside kinds t) (upTo i)
     pub costs-low : costs ≤ 65536 * i
     pub parts-so : parts ≡ length (keep (isPartAt t) (upTo i))
     pub parts-low : parts ≤ i
@@ -110,7 +135,7 @@ module _ (links matches known attributes values holders kinds permissions : List
   pub counted-more : (b r c p i db dr dc dp : ℕ) → Counted b r c p i → i < 512 → db ≡ length (rule i) → dr ≡ cond (isHeadAt t i) 1 0 → dc ≡ cost i → dp ≡ cond (isPartAt t i) 1 0 → Counted (b + db) (r + dr) (c + dc) (p + dp) (i + 1)
   counted-more b r c p i db dr dc dp n l e f g h =
       let m = rule-most i in
-      let o = cost-low i in
+      let o = cost-low kept distinct having inside kinds t i in
       let x = flag-low (isHeadAt t i) in
       let y = flag-low (isPartAt t i) in
       let q = n .bytes-low in
@@ -130,7 +155,7 @@ module _ (links matches known attributes values holders kinds permissions : List
       }
 
   pub counted-end : (b r c p i : ℕ) → Counted b r c p i → i ≡ 512
-      → record { bytes = b + 1; rules = r; cost = c; parts = p } ≡ measuredOf links matches known attributes values holders kinds permissions users resources operations roles t
+      → record { bytes = b + 1; rules = r; cost = c; parts = p } ≡ measuredOf kept distinct having inside kinds permissions operations t
   unfolding measuredOf fileBytes
   counted-end b r c p i n e =
       let long : b + 1 ≡ length (each rule (upTo 512) ++ (0x2F ∷ [])) = ap (λ (k : ℕ). k + 1) (n .bytes-so ∙ ap (λ (k : ℕ). length (each rule (upTo k))) e) ∙ sym (length-append (each rule (upTo 512)) (0x2F ∷ [])) in
@@ -145,22 +170,22 @@ module _ (links matches known attributes values holders kinds permissions : List
   -- ---- the end of writing
 
   -- behind all rules there is room for the last byte, and with it the file is written
-  pub file-room : (o : List ℕ) → length (fileBytes links matches known attributes values holders kinds permissions users resources operations roles t) ≤ length o → length (each (ruleAt links matches known attributes values holders kinds permissions users resources operations roles t) (upTo 512)) < length o
+  pub file-room : (o : List ℕ) → length (fileBytes kept distinct having inside kinds permissions operations t) ≤ length o → length (each (ruleAt kept distinct having inside kinds permissions operations t) (upTo 512)) < length o
   unfolding fileBytes
   file-room o h = let e = length-append (each rule (upTo 512)) (0x2F ∷ []) in omega arith
 
-  pub file-written : (o out : List ℕ) (at : ℕ) → length (fileBytes links matches known attributes values holders kinds permissions users resources operations roles t) ≤ length o
-      → at ≡ length (each (ruleAt links matches known attributes values holders kinds permissions users resources operations roles t) (upTo 512)) → out ≡ wrote (each (ruleAt links matches known attributes values holders kinds permissions users resources operations roles t) (upTo 512)) o
-      → set out at 0x2F ≡ wrote (fileBytes links matches known attributes values holders kinds permissions users resources operations roles t) o
+  pub file-written : (o out : List ℕ) (at : ℕ) → length (fileBytes kept distinct having inside kinds permissions operations t) ≤ length o
+      → at ≡ length (each (ruleAt kept distinct having inside kinds permissions operations t) (upTo 512)) → out ≡ wrote (each (ruleAt kept distinct having inside kinds permissions operations t) (upTo 512)) o
+      → set out at 0x2F ≡ wrote (fileBytes kept distinct having inside kinds permissions operations t) o
   unfolding fileBytes
   file-written o out at h e f = ap₂ (λ (l : List ℕ) (k : ℕ). set l k 0x2F) f e ∙ end-written (each rule (upTo 512)) o 0x2F h
 
-  pub file-ended : (o out : List ℕ) (at i : ℕ) → Runs (ruleAt links matches known attributes values holders kinds permissions users resources operations roles t) 512 o out at i → i ≡ 512 → length (fileBytes links matches known attributes values holders kinds permissions users resources operations roles t) ≤ length o
-      → (at < length out) × (set out at 0x2F ≡ wrote (fileBytes links matches known attributes values holders kinds permissions users resources operations roles t) o) × (length (set out at 0x2F) ≡ length o)
+  pub file-ended : (o out : List ℕ) (at i : ℕ) → Runs (ruleAt kept distinct having inside kinds permissions operations t) 512 o out at i → i ≡ 512 → length (fileBytes kept distinct having inside kinds permissions operations t) ≤ length o
+      → (at < length out) × (set out at 0x2F ≡ wrote (fileBytes kept distinct having inside kinds permissions operations t) o) × (length (set out at 0x2F) ≡ length o)
   file-ended o out at i w e h =
       let r = runs-end rule 512 o out at i e w in
       let f = file-written o out at h (r .0) (r .1) in
       let k = file-room o h in
       let l = w .long in
       let x = r .0 in
-      (omega (arith, k, l, x), f, ap length f ∙ length-wrote (fileBytes links matches known attributes values holders kinds permissions users resources operations roles t) o h)
+      (omega (arith, k, l, x), f, ap length f ∙ length-wrote (fileBytes kept distinct having inside kinds permissions operations t) o h)

@@ -1,7 +1,7 @@
 -- What code writes and counts of merged groups is the mined rule file and its counts.
 -- Assumes nothing.
 use Prim.Native.Nat.{ℕ, _+_, _<_}
-use lib.ListN.{length}
+use lib.ListN.{length, getD}
 use mathlib.Core.Bool.{Bool, true, false, cond}
 use mathlib.Core.List.{List, [], _∷_, _++_, map}
 use mathlib.Core.Path.{_≡_, refl, sym, ap, _∙_}
@@ -9,8 +9,9 @@ use native.Mathlib.Omega.{arith}
 use Rattle.admit.specs.AdmitLaws.{Sized}
 use Rattle.files.specs.Calls.{minedBytes, minedCounts}
 use Rattle.files.specs.RuleFile.{encode, encodeAll, opens}
-use Rattle.filewriter.specs.FileTable.{keptAt, ruleAt, costAt, fileBytes, measuredOf}
+use Rattle.filewriter.specs.FileTable.{keptAt, keptHead, keptTable, ruleAt, costAt, fileBytes, measuredOf}
 use Rattle.loaded.specs.Record.{recordOf}
+use Rattle.loaded.specs.RecordLaws.{table-get}
 use Rattle.matches.specs.MatchLaws.{knownIn, matchesIn}
 use Rattle.pairing.specs.FitLaws.{linksOf}
 use Rattle.policy.specs.Covering.{levelOf}
@@ -19,7 +20,7 @@ use Rattle.policy.specs.Policy.{Policy, settingOf}
 use Rattle.policy.specs.Thinning.{ruleCost}
 use Rattle.rulelists.specs.RuleLists.{ruleCostIn}
 use Rattle.rulewriter.specs.RuleTable.{ruleBytesIn}
-use Rattle.rulewriter.specs.WriterLaws.{written-bytes, written-cost}
+use Rattle.rulewriter.specs.WriterLaws.{distinctIn, havingIn, insideIn, written-bytes, written-cost}
 use Rattle.sets.specs.Tests.{Is, keep, each, upTo, sum}
 use Rattle.slotgroups.specs.MergedLaws.{heads-each, heads-sum, heads-count, parts-count}
 use Rattle.slotgroups.specs.Scratch.{wordsAt, isHeadAt, Merged}
@@ -52,23 +53,29 @@ each-mapped f g [] = refl
 each-mapped f g (x ∷ l) = ap (λ r. f (g x) ++ r) (each-mapped f g l)
 
 module _ (F : Policy) (Z : Sized F) (t : List ℕ) (M : Merged F t) where
-  -- the same with the tables of the policy's record
+  -- the table of what is kept, by the tables of the policy's record
+  abbrev pub keptIn : List ℕ
+  keptIn = keptTable (linksOf F) (matchesIn F) (knownIn F) (recordOf F .attributes) (recordOf F .users) (recordOf F .resources) (recordOf F .operations) t
+
   abbrev kept : ℕ → ℕ
-  kept i = keptAt (linksOf F) (matchesIn F) (knownIn F) (recordOf F .attributes) (recordOf F .users) (recordOf F .resources) (recordOf F .operations) t i
+  kept i = getD keptIn i 0
 
   abbrev block : ℕ → List ℕ
   block i = M .groups .group i
 
   -- the places kept are those of the written rule
   kept-so : (i : ℕ) → i < 512 → Is (M .groups .alive i) → kept i ≡ keptPlaces (settingOf F) (wordsAt t i) (levelOf (settingOf F) (union (settingOf F) (slotBlock F) (block i)))
-  unfolding keptAt
-  kept-so i h a = rw (M .shown .words i h a, M .shown .level i h a) (kept-means F Z (union (settingOf F) (slotBlock F) (block i)) (levelOf (settingOf F) (union (settingOf F) (slotBlock F) (block i))))
+  unfolding keptTable keptHead keptAt
+  kept-so i h a =
+      table-get 512 (keptHead (linksOf F) (matchesIn F) (knownIn F) (recordOf F .attributes) (recordOf F .users) (recordOf F .resources) (recordOf F .operations) t) i h
+      ∙ ap (λ (b : Bool). cond b (keptAt (linksOf F) (matchesIn F) (knownIn F) (recordOf F .attributes) (recordOf F .users) (recordOf F .resources) (recordOf F .operations) t i) 0) (M .shown .heads i h ∙ a)
+      ∙ rw (M .shown .words i h a, M .shown .level i h a) (kept-means F Z (union (settingOf F) (slotBlock F) (block i)) (levelOf (settingOf F) (union (settingOf F) (slotBlock F) (block i))))
 
   abbrev bytesOf : ℕ → List ℕ
-  bytesOf i = ruleBytesIn (recordOf F .values) (recordOf F .holders) (recordOf F .kinds) (recordOf F .permissions) (recordOf F .roles) (recordOf F .operations) t i (kept i)
+  bytesOf i = ruleBytesIn (distinctIn F) (havingIn F) (insideIn F) (recordOf F .kinds) (recordOf F .permissions) (recordOf F .operations) t i (kept i)
 
   abbrev costOf : ℕ → ℕ
-  costOf i = ruleCostIn (recordOf F .values) (recordOf F .holders) (recordOf F .kinds) (recordOf F .roles) t i (kept i)
+  costOf i = ruleCostIn (distinctIn F) (havingIn F) (insideIn F) (recordOf F .kinds) t i (kept i)
 
   rule-so : (i : ℕ) → i < 512 → Is (M .groups .alive i) → bytesOf i ≡ each (encode 2) (opens ∷ slotLines F (block i))
   rule-so i h a = written-bytes F Z t (M .groups) (M .shown) i h a (kept i) (kept-so i h a)
@@ -77,14 +84,14 @@ module _ (F : Policy) (Z : Sized F) (t : List ℕ) (M : Merged F t) where
   cost-so i h a = written-cost F Z t (M .groups) (M .shown) i h a (kept i) (kept-so i h a)
 
   abbrev tables-bytes : List ℕ
-  tables-bytes = fileBytes (linksOf F) (matchesIn F) (knownIn F) (recordOf F .attributes) (recordOf F .values) (recordOf F .holders) (recordOf F .kinds) (recordOf F .permissions) (recordOf F .users) (recordOf F .resources) (recordOf F .operations) (recordOf F .roles) t
+  tables-bytes = fileBytes keptIn (distinctIn F) (havingIn F) (insideIn F) (recordOf F .kinds) (recordOf F .permissions) (recordOf F .operations) t
 
   all-encoded : each (λ g. each (encode 2) (opens ∷ slotLines F g)) (slotGroups F) ++ (0x2F ∷ []) ≡ encodeAll 2 (map (slotLines F) (slotGroups F))
   unfolding encodeAll encode
   all-encoded = ap (λ r. r ++ (0x2F ∷ [])) (each-mapped (λ ls. each (encode 2) (opens ∷ ls)) (slotLines F) (slotGroups F))
 
   -- THE LAW: the bytes
-  pub file-means : fileBytes (linksOf F) (matchesIn F) (knownIn F) (recordOf F .attributes) (recordOf F .values) (recordOf F .holders) (recordOf F .kinds) (recordOf F .permissions) (recordOf F .users) (recordOf F .resources) (recordOf F .operations) (recordOf F .roles) t ≡ minedBytes 2 F
+  pub file-means : fileBytes keptIn (distinctIn F) (havingIn F) (insideIn F) (recordOf F .kinds) (recordOf F .permissions) (recordOf F .operations) t ≡ minedBytes 2 F
   unfolding fileBytes ruleAt
   file-means =
       ap (λ r. r ++ (0x2F ∷ [])) (each-if (isHeadAt t) bytesOf (upTo 512) ∙ heads-each F t M (λ g. each (encode 2) (opens ∷ slotLines F g)) bytesOf rule-so)
@@ -92,10 +99,10 @@ module _ (F : Policy) (Z : Sized F) (t : List ℕ) (M : Merged F t) where
       ∙ sym (bytes-slots F (Z .few) (Z .operable))
 
   abbrev tables-measured : Measured
-  tables-measured = measuredOf (linksOf F) (matchesIn F) (knownIn F) (recordOf F .attributes) (recordOf F .values) (recordOf F .holders) (recordOf F .kinds) (recordOf F .permissions) (recordOf F .users) (recordOf F .resources) (recordOf F .operations) (recordOf F .roles) t
+  tables-measured = measuredOf keptIn (distinctIn F) (havingIn F) (insideIn F) (recordOf F .kinds) (recordOf F .permissions) (recordOf F .operations) t
 
   -- THE LAW: the counts
-  pub measure-means : (measured-of : Measured) → measured-of ≡ measuredOf (linksOf F) (matchesIn F) (knownIn F) (recordOf F .attributes) (recordOf F .values) (recordOf F .holders) (recordOf F .kinds) (recordOf F .permissions) (recordOf F .users) (recordOf F .resources) (recordOf F .operations) (recordOf F .roles) t
+  pub measure-means : (measured-of : Measured) → measured-of ≡ measuredOf keptIn (distinctIn F) (havingIn F) (insideIn F) (recordOf F .kinds) (recordOf F .permissions) (recordOf F .operations) t
       → (measured-of .bytes ≡ length (minedBytes 2 F)) × (minedCounts 2 F ≡ record { size = measured-of .bytes; parts = measured-of .parts; rules = measured-of .rules; merges = slotMerges F; cost = measured-of .cost })
   unfolding measuredOf costAt
   measure-means m e =

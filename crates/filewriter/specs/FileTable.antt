@@ -1,10 +1,11 @@
--- The bytes of a mined rule file and what is counted of it, read off the tables of the loaded role file and the groups in scratch memory: the
+-- The bytes of a mined rule file and what is counted of it, read off the tables of the policy and the groups in scratch memory: the
 -- form in which code works them out.
 -- Assumes nothing.
 use Prim.Native.Nat.{ℕ}
-use lib.ListN.{length}
+use lib.ListN.{length, getD}
 use mathlib.Core.Bool.{cond}
 use mathlib.Core.List.{List, [], _∷_, _++_}
+use Rattle.loaded.specs.Record.{tableOf}
 use Rattle.rulelists.specs.RuleLists.{ruleCostIn}
 use Rattle.rulewriter.specs.RuleTable.{ruleBytesIn}
 use Rattle.sets.specs.Tests.{keep, each, upTo, sum}
@@ -16,16 +17,21 @@ use Rattle.filewriter.specs.declared.Measured.{Measured}
 unfoldable pub keptAt : (links matches known attributes : List ℕ) → (users resources operations : ℕ) → List ℕ → ℕ → ℕ
 keptAt links matches known attributes users resources operations t i = keptIn links matches known attributes users resources operations (wordsAt t i) (levelIn (restAt t i))
 
-module _ (links matches known attributes values holders kinds permissions : List ℕ) (users resources operations roles : ℕ) (t : List ℕ) where
-  abbrev kept : ℕ → ℕ
-  kept i = keptAt links matches known attributes users resources operations t i
+-- none where the slot is no head
+unfoldable pub keptHead : (links matches known attributes : List ℕ) → (users resources operations : ℕ) → List ℕ → ℕ → ℕ
+keptHead links matches known attributes users resources operations t i = cond (isHeadAt t i) (keptAt links matches known attributes users resources operations t i) 0
 
-  -- its bytes and its cost; none where the slot is no head
+unfoldable pub keptTable : (links matches known attributes : List ℕ) → (users resources operations : ℕ) → List ℕ → List ℕ
+keptTable links matches known attributes users resources operations t = tableOf 512 (keptHead links matches known attributes users resources operations t)
+
+-- what the rule of a slot's group costs; nothing where the slot is no head
+unfoldable pub costAt : (kept distinct having inside kinds t : List ℕ) → ℕ → ℕ
+costAt kept distinct having inside kinds t i = cond (isHeadAt t i) (ruleCostIn distinct having inside kinds t i (getD kept i 0)) 0
+
+module _ (kept distinct having inside kinds permissions : List ℕ) (operations : ℕ) (t : List ℕ) where
+  -- its bytes; none where the slot is no head
   unfoldable pub ruleAt : ℕ → List ℕ
-  ruleAt i = cond (isHeadAt t i) (ruleBytesIn values holders kinds permissions roles operations t i (kept i)) []
-
-  unfoldable pub costAt : ℕ → ℕ
-  costAt i = cond (isHeadAt t i) (ruleCostIn values holders kinds roles t i (kept i)) 0
+  ruleAt i = cond (isHeadAt t i) (ruleBytesIn distinct having inside kinds permissions operations t i (getD kept i 0)) []
 
   -- the rule file: the rules in the order of their heads, and behind them 2F
   unfoldable pub fileBytes : List ℕ
@@ -36,6 +42,6 @@ module _ (links matches known attributes values holders kinds permissions : List
   measuredOf = record {
     bytes = length fileBytes;
     rules = length (keep (isHeadAt t) (upTo 512));
-    cost = sum costAt (upTo 512);
+    cost = sum (costAt kept distinct having inside kinds t) (upTo 512);
     parts = length (keep (isPartAt t) (upTo 512));
   }

@@ -3,9 +3,8 @@ ghost use lib.ListN.{length};
 ghost use mathlib.Core.Bool.{cond};
 ghost use mathlib.Core.Path.{_≡_};
 ghost use Prim.Native.Nat.{_≤_, _<_};
-ghost use Rattle.filewriter.specs.FileTable.{keptAt, ruleAt, costAt, fileBytes, measuredOf};
+ghost use Rattle.filewriter.specs.FileTable.{keptAt, keptHead, keptTable, ruleAt, costAt, fileBytes, measuredOf};
 ghost use Rattle.linewriter.specs.Writing.{wrote};
-use rulewriter::Written;
 
 // The bytes of a rule file, its rules, their cost, and the parts that they list.
 pub struct Measured {
@@ -15,8 +14,10 @@ pub struct Measured {
     pub parts: usize,
 }
 
-// The places that the rule of a slot's group keeps.
-fn kept_at<'a>(
+// ---- what is kept
+
+// The places that the rule of a slot's group keeps; none where the slot is no head.
+fn kept_head<'a>(
     links: &'a [u64; 2304],
     matches: &'a [u64; 896],
     known: &'a [u64; 14],
@@ -28,46 +29,43 @@ fn kept_at<'a>(
     i: usize,
 ) -> u64
     requires { ⌜ (users ≤ 64) × (resources ≤ 64) × (i < 512) × (length (now scratch) ≡ 2048) ⌝ }
-    ensures { λ r. ⌜ r ≡ keptAt (now (links .entry)) (now (matches .entry)) (now (known .entry)) (now (attributes .entry)) users resources operations (now (scratch .entry)) i ⌝ }
+    ensures { λ r. ⌜ r ≡ keptHead (now (links .entry)) (now (matches .entry)) (now (known .entry)) (now (attributes .entry)) users resources operations (now (scratch .entry)) i ⌝ }
 {
-    let g = merging::group_at(scratch, i);
-    let level = merging::level_at(scratch, i);
-    thinning::kept_places(
-        links,
-        matches,
-        known,
-        attributes,
-        g,
-        level,
-        users,
-        resources,
-        operations,
-    )
+    if merging::is_head(scratch, i) {
+        let g = merging::group_at(scratch, i);
+        let level = merging::level_at(scratch, i);
+        return thinning::kept_places(
+            links,
+            matches,
+            known,
+            attributes,
+            g,
+            level,
+            users,
+            resources,
+            operations,
+        );
+    }
+    0
 }
 
-// Writes the rule of a slot's group at the front of a slice; nothing where the slot is no head.
-fn write_slot<'a>(
+// Into a slice, since only a slice tells its length to a proof.
+fn fill_kept<'a>(
     links: &'a [u64; 2304],
     matches: &'a [u64; 896],
     known: &'a [u64; 14],
     attributes: &'a [usize; 2],
-    values: &'a [u64; 768],
-    holders: &'a [u64; 32],
-    kinds: &'a [u64; 2],
-    permissions: &'a [u64; 512],
     users: usize,
     resources: usize,
     operations: usize,
-    roles: usize,
     scratch: &'a [u64],
-    i: usize,
-    out: &mut [u8],
-) -> Written
-    requires { ⌜ (users ≤ 64) × (resources ≤ 64) × (operations ≤ 16) × (roles ≤ 32) × (length (now scratch) ≡ 2048) × (i < 512) × (length (ruleAt (now links) (now matches) (now known) (now attributes) (now values) (now holders) (now kinds) (now permissions) users resources operations roles (now scratch) i) ≤ length (now out)) ⌝ }
-    ensures { λ r. ⌜ (now (out .exit) ≡ wrote (ruleAt (now (links .entry)) (now (matches .entry)) (now (known .entry)) (now (attributes .entry)) (now (values .entry)) (now (holders .entry)) (now (kinds .entry)) (now (permissions .entry)) users resources operations roles (now (scratch .entry)) i) (now (out .entry))) × (r .bytes ≡ length (ruleAt (now (links .entry)) (now (matches .entry)) (now (known .entry)) (now (attributes .entry)) (now (values .entry)) (now (holders .entry)) (now (kinds .entry)) (now (permissions .entry)) users resources operations roles (now (scratch .entry)) i)) × (r .cost ≡ costAt (now (links .entry)) (now (matches .entry)) (now (known .entry)) (now (attributes .entry)) (now (values .entry)) (now (holders .entry)) (now (kinds .entry)) (now (permissions .entry)) users resources operations roles (now (scratch .entry)) i) ⌝ }
+    out: &mut [u64],
+)
+    requires { ⌜ (users ≤ 64) × (resources ≤ 64) × (length (now scratch) ≡ 2048) × (length (now out) ≡ 512) ⌝ }
+    ensures { λ _. ⌜ now (out .exit) ≡ keptTable (now (links .entry)) (now (matches .entry)) (now (known .entry)) (now (attributes .entry)) users resources operations (now (scratch .entry)) ⌝ }
 {
-    if merging::is_head(scratch, i) {
-        let kept = kept_at(
+    for i in 0..512 {
+        out[i] = kept_head(
             links,
             matches,
             known,
@@ -78,20 +76,89 @@ fn write_slot<'a>(
             scratch,
             i,
         );
+    }
+}
+
+// The places that each rule keeps, whatever the table held: worked out once, for measuring and for writing.
+pub fn kept_places<'a>(
+    links: &'a [u64; 2304],
+    matches: &'a [u64; 896],
+    known: &'a [u64; 14],
+    attributes: &'a [usize; 2],
+    users: usize,
+    resources: usize,
+    operations: usize,
+    scratch: &'a [u64],
+    out: &mut [u64; 512],
+)
+    requires { ⌜ (users ≤ 64) × (resources ≤ 64) × (length (now scratch) ≡ 2048) ⌝ }
+    ensures { λ _. ⌜ now (out .exit) ≡ keptTable (now (links .entry)) (now (matches .entry)) (now (known .entry)) (now (attributes .entry)) users resources operations (now (scratch .entry)) ⌝ }
+{
+    fill_kept(
+        links,
+        matches,
+        known,
+        attributes,
+        users,
+        resources,
+        operations,
+        scratch,
+        out,
+    );
+}
+
+// ---- one slot
+
+// Writes the rule of a slot's group at the front of a slice; nothing where the slot is no head.
+fn write_slot<'a>(
+    kept: &'a [u64; 512],
+    distinct: &'a [u64; 896],
+    having: &'a [u64; 896],
+    inside: &'a [u64; 896],
+    kinds: &'a [u64; 2],
+    permissions: &'a [u64; 512],
+    operations: usize,
+    scratch: &'a [u64],
+    i: usize,
+    out: &mut [u8],
+) -> usize
+    requires { ⌜ (operations ≤ 16) × (length (now scratch) ≡ 2048) × (i < 512) × (length (ruleAt (now kept) (now distinct) (now having) (now inside) (now kinds) (now permissions) operations (now scratch) i) ≤ length (now out)) ⌝ }
+    ensures { λ r. ⌜ (now (out .exit) ≡ wrote (ruleAt (now (kept .entry)) (now (distinct .entry)) (now (having .entry)) (now (inside .entry)) (now (kinds .entry)) (now (permissions .entry)) operations (now (scratch .entry)) i) (now (out .entry))) × (r ≡ length (ruleAt (now (kept .entry)) (now (distinct .entry)) (now (having .entry)) (now (inside .entry)) (now (kinds .entry)) (now (permissions .entry)) operations (now (scratch .entry)) i)) ⌝ }
+{
+    if merging::is_head(scratch, i) {
         return rulewriter::write_rule(
-            values,
-            holders,
+            distinct,
+            having,
+            inside,
             kinds,
             permissions,
-            roles,
             operations,
             scratch,
             i,
-            kept,
+            kept[i],
             out,
         );
     }
-    Written { bytes: 0, cost: 0 }
+    0
+}
+
+// What the rule of a slot's group costs; nothing where the slot is no head.
+fn cost_slot<'a>(
+    kept: &'a [u64; 512],
+    distinct: &'a [u64; 896],
+    having: &'a [u64; 896],
+    inside: &'a [u64; 896],
+    kinds: &'a [u64; 2],
+    scratch: &'a [u64],
+    i: usize,
+) -> usize
+    requires { ⌜ (length (now scratch) ≡ 2048) × (i < 512) ⌝ }
+    ensures { λ r. ⌜ r ≡ costAt (now (kept .entry)) (now (distinct .entry)) (now (having .entry)) (now (inside .entry)) (now (kinds .entry)) (now (scratch .entry)) i ⌝ }
+{
+    if merging::is_head(scratch, i) {
+        return rulelists::rule_cost(distinct, having, inside, kinds, scratch, i, kept[i]);
+    }
+    0
 }
 
 fn one_if(b: bool) -> usize
@@ -100,49 +167,40 @@ fn one_if(b: bool) -> usize
     if b { 1 } else { 0 }
 }
 
+// ---- all slots
+
 fn measure_into<'a>(
-    links: &'a [u64; 2304],
-    matches: &'a [u64; 896],
-    known: &'a [u64; 14],
-    attributes: &'a [usize; 2],
-    values: &'a [u64; 768],
-    holders: &'a [u64; 32],
+    kept: &'a [u64; 512],
+    distinct: &'a [u64; 896],
+    having: &'a [u64; 896],
+    inside: &'a [u64; 896],
     kinds: &'a [u64; 2],
     permissions: &'a [u64; 512],
-    users: usize,
-    resources: usize,
     operations: usize,
-    roles: usize,
     scratch: &'a [u64],
     buffer: &mut [u8],
 ) -> Measured
-    requires { ⌜ (users ≤ 64) × (resources ≤ 64) × (operations ≤ 16) × (roles ≤ 32) × (length (now scratch) ≡ 2048) × (length (now buffer) ≡ 12288) ⌝ }
-    ensures { λ r. ⌜ r ≡ measuredOf (now (links .entry)) (now (matches .entry)) (now (known .entry)) (now (attributes .entry)) (now (values .entry)) (now (holders .entry)) (now (kinds .entry)) (now (permissions .entry)) users resources operations roles (now (scratch .entry)) ⌝ }
+    requires { ⌜ (operations ≤ 16) × (length (now scratch) ≡ 2048) × (length (now buffer) ≡ 12288) ⌝ }
+    ensures { λ r. ⌜ r ≡ measuredOf (now (kept .entry)) (now (distinct .entry)) (now (having .entry)) (now (inside .entry)) (now (kinds .entry)) (now (permissions .entry)) operations (now (scratch .entry)) ⌝ }
 {
     let mut bytes: usize = 0;
     let mut rules: usize = 0;
     let mut cost: usize = 0;
     let mut parts: usize = 0;
     for i in 0..512 {
-        let w = write_slot(
-            links,
-            matches,
-            known,
-            attributes,
-            values,
-            holders,
+        bytes += write_slot(
+            kept,
+            distinct,
+            having,
+            inside,
             kinds,
             permissions,
-            users,
-            resources,
             operations,
-            roles,
             scratch,
             i,
             buffer,
         );
-        bytes += w.bytes;
-        cost += w.cost;
+        cost += cost_slot(kept, distinct, having, inside, kinds, scratch, i);
         rules += one_if(merging::is_head(scratch, i));
         parts += one_if(merging::is_part(scratch, i));
     }
@@ -156,37 +214,27 @@ fn measure_into<'a>(
 
 // Measures the rule file by writing each rule into a buffer that has room for any.
 pub fn measure<'a>(
-    links: &'a [u64; 2304],
-    matches: &'a [u64; 896],
-    known: &'a [u64; 14],
-    attributes: &'a [usize; 2],
-    values: &'a [u64; 768],
-    holders: &'a [u64; 32],
+    kept: &'a [u64; 512],
+    distinct: &'a [u64; 896],
+    having: &'a [u64; 896],
+    inside: &'a [u64; 896],
     kinds: &'a [u64; 2],
     permissions: &'a [u64; 512],
-    users: usize,
-    resources: usize,
     operations: usize,
-    roles: usize,
     scratch: &'a [u64],
 ) -> Measured
-    requires { ⌜ (users ≤ 64) × (resources ≤ 64) × (operations ≤ 16) × (roles ≤ 32) × (length (now scratch) ≡ 2048) ⌝ }
-    ensures { λ r. ⌜ r ≡ measuredOf (now (links .entry)) (now (matches .entry)) (now (known .entry)) (now (attributes .entry)) (now (values .entry)) (now (holders .entry)) (now (kinds .entry)) (now (permissions .entry)) users resources operations roles (now (scratch .entry)) ⌝ }
+    requires { ⌜ (operations ≤ 16) × (length (now scratch) ≡ 2048) ⌝ }
+    ensures { λ r. ⌜ r ≡ measuredOf (now (kept .entry)) (now (distinct .entry)) (now (having .entry)) (now (inside .entry)) (now (kinds .entry)) (now (permissions .entry)) operations (now (scratch .entry)) ⌝ }
 {
     let mut buffer = [0u8; 12288];
     measure_into(
-        links,
-        matches,
-        known,
-        attributes,
-        values,
-        holders,
+        kept,
+        distinct,
+        having,
+        inside,
         kinds,
         permissions,
-        users,
-        resources,
         operations,
-        roles,
         scratch,
         &mut buffer,
     )
@@ -194,44 +242,33 @@ pub fn measure<'a>(
 
 // Writes the rule file. A rule is written from the place where the rule before it ended.
 pub fn write_rules<'a>(
-    links: &'a [u64; 2304],
-    matches: &'a [u64; 896],
-    known: &'a [u64; 14],
-    attributes: &'a [usize; 2],
-    values: &'a [u64; 768],
-    holders: &'a [u64; 32],
+    kept: &'a [u64; 512],
+    distinct: &'a [u64; 896],
+    having: &'a [u64; 896],
+    inside: &'a [u64; 896],
     kinds: &'a [u64; 2],
     permissions: &'a [u64; 512],
-    users: usize,
-    resources: usize,
     operations: usize,
-    roles: usize,
     scratch: &'a [u64],
     out: &mut [u8],
 )
-    requires { ⌜ (users ≤ 64) × (resources ≤ 64) × (operations ≤ 16) × (roles ≤ 32) × (length (now scratch) ≡ 2048) × (length (fileBytes (now links) (now matches) (now known) (now attributes) (now values) (now holders) (now kinds) (now permissions) users resources operations roles (now scratch)) ≤ length (now out)) ⌝ }
-    ensures { λ _. ⌜ now (out .exit) ≡ wrote (fileBytes (now (links .entry)) (now (matches .entry)) (now (known .entry)) (now (attributes .entry)) (now (values .entry)) (now (holders .entry)) (now (kinds .entry)) (now (permissions .entry)) users resources operations roles (now (scratch .entry))) (now (out .entry)) ⌝ }
+    requires { ⌜ (operations ≤ 16) × (length (now scratch) ≡ 2048) × (length (fileBytes (now kept) (now distinct) (now having) (now inside) (now kinds) (now permissions) operations (now scratch)) ≤ length (now out)) ⌝ }
+    ensures { λ _. ⌜ now (out .exit) ≡ wrote (fileBytes (now (kept .entry)) (now (distinct .entry)) (now (having .entry)) (now (inside .entry)) (now (kinds .entry)) (now (permissions .entry)) operations (now (scratch .entry))) (now (out .entry)) ⌝ }
 {
     let mut at: usize = 0;
     for i in 0..512 {
-        let w = write_slot(
-            links,
-            matches,
-            known,
-            attributes,
-            values,
-            holders,
+        at += write_slot(
+            kept,
+            distinct,
+            having,
+            inside,
             kinds,
             permissions,
-            users,
-            resources,
             operations,
-            roles,
             scratch,
             i,
             &mut out[at..],
         );
-        at = at + w.bytes;
     }
     out[at] = 0x2F;
 }

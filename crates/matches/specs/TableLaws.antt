@@ -8,7 +8,7 @@ use mathlib.Core.Bool.{Bool, true, false, cond, _&&_, _||_, and-assoc}
 use mathlib.Core.List.{List}
 use mathlib.Core.Path.{_≡_, refl, sym, ap, ap₂, _∙_}
 use Rattle.loaded.specs.Record.{tableOf}
-use Rattle.matches.specs.Matches.{countAt, knownFor, knownPlaces, valueFor, matchWord, matchTable, metOf, passingOf}
+use Rattle.matches.specs.Matches.{countAt, knownFor, knownPlaces, valueFor, matchWord, metOf, passingOf}
 use Rattle.meeting.specs.Meeting.{meetingOf}
 use Rattle.sets.specs.LoopLaws.{narrowing, table-unique}
 use Rattle.sets.specs.MaskLaws.{and-true, mask-same, mask-wide}
@@ -62,12 +62,6 @@ module _ (kinds known values holders : List ℕ) (users resources roles : ℕ) w
       → m ≡ meetingOf (i / 7) set (i % 7) v n roles known values holders → m ≡ matchWord kinds known values holders users resources roles i y
   unfolding matchWord
   word-known i y k n v m set e h es ev en q = rw (sym (ap (λ (m : ℕ). bit m y) e) ∙ h, ← es, ← ev, ← en) q
-
-  -- a table with these words is the table
-  pub matches-unique : (t : List ℕ) → length t ≡ 896 → ((i : ℕ) → i < 896 → getD t i 0 ≡ matchWord kinds known values holders users resources roles (i / 64) (i % 64))
-      → t ≡ matchTable kinds known values holders users resources roles
-  unfolding matchTable tableOf
-  matches-unique t e h = table-unique 896 t (λ i. matchWord kinds known values holders users resources roles (i / 64) (i % 64)) e h
 
 -- ---- who passes the conjuncts of some members
 

@@ -1,9 +1,9 @@
-// Who meets whose value, at each of the 14 places of attributes: the six of the users, their 255, the six of the resources, their 255.
-// And who passes the conjuncts of the values that some members have.
+// The 14 places of attributes, the six of the users, their 255, the six of the resources, their 255: who knows the attribute of each, what
+// value somebody has, and who passes the conjuncts of the values that some members have.
 ghost use lib.ListN.{length};
 ghost use mathlib.Core.Path.{_≡_};
 ghost use Prim.Native.Nat.{_≤_, _<_};
-ghost use Rattle.matches.specs.Matches.{countAt, knownFor, knownPlaces, heldRoles, valueFor, matchWord, matchTable, lessOne, metOf, passingOf};
+ghost use Rattle.matches.specs.Matches.{countAt, knownFor, knownPlaces, heldRoles, valueFor, lessOne, metOf, passingOf};
 ghost use Rattle.sets.specs.Lowest.{lowestFrom};
 ghost use Rattle.sets.specs.Sets.{bit};
 
@@ -81,87 +81,6 @@ pub fn value_at<'a>(
         return roles_of(holders, roles, who);
     }
     who as u64
-}
-
-// Who meets the value that somebody has at a place; nobody if it is unknown.
-fn match_word<'a>(
-    kinds: &'a [u64; 2],
-    known: &'a [u64; 12],
-    values: &'a [u64; 768],
-    holders: &'a [u64; 32],
-    users: usize,
-    resources: usize,
-    roles: usize,
-    place: usize,
-    who: usize,
-) -> u64
-    requires { ⌜ (users ≤ 64) × (resources ≤ 64) × (roles ≤ 32) × (place < 14) × (who < 64) ⌝ }
-    ensures { λ r. ⌜ r ≡ matchWord (now (kinds .entry)) (now (known .entry)) (now (values .entry)) (now (holders .entry)) users resources roles place who ⌝ }
-{
-    if sets::has(known_at(users, resources, known, place), who) {
-        let side = place / 7;
-        let attribute = place % 7;
-        let set = sets::has(kinds[side], attribute);
-        let v = value_at(values, holders, roles, place, who);
-        let count = count_at(users, resources, place);
-        return meeting::meeting(
-            side,
-            set,
-            attribute,
-            v,
-            count,
-            roles,
-            known,
-            values,
-            holders,
-        );
-    }
-    0
-}
-
-fn fill_matches<'a>(
-    kinds: &'a [u64; 2],
-    known: &'a [u64; 12],
-    values: &'a [u64; 768],
-    holders: &'a [u64; 32],
-    users: usize,
-    resources: usize,
-    roles: usize,
-    out: &mut [u64],
-)
-    requires { ⌜ (users ≤ 64) × (resources ≤ 64) × (roles ≤ 32) × (length (now out) ≡ 896) ⌝ }
-    ensures { λ _. ⌜ now (out .exit) ≡ matchTable (now (kinds .entry)) (now (known .entry)) (now (values .entry)) (now (holders .entry)) users resources roles ⌝ }
-{
-    for i in 0..896 {
-        out[i] = match_word(
-            kinds,
-            known,
-            values,
-            holders,
-            users,
-            resources,
-            roles,
-            i / 64,
-            i % 64,
-        );
-    }
-}
-
-// Who meets whose value, whatever the table held: word 64 * place + who.
-pub fn matches<'a>(
-    kinds: &'a [u64; 2],
-    known: &'a [u64; 12],
-    values: &'a [u64; 768],
-    holders: &'a [u64; 32],
-    users: usize,
-    resources: usize,
-    roles: usize,
-    out: &mut [u64; 896],
-)
-    requires { ⌜ (users ≤ 64) × (resources ≤ 64) × (roles ≤ 32) ⌝ }
-    ensures { λ _. ⌜ now (out .exit) ≡ matchTable (now (kinds .entry)) (now (known .entry)) (now (values .entry)) (now (holders .entry)) users resources roles ⌝ }
-{
-    fill_matches(kinds, known, values, holders, users, resources, roles, out);
 }
 
 // A set that is not empty, less its least member.

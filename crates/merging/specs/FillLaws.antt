@@ -1,4 +1,4 @@
--- The laws of the filling: each slot has the words of its part, and scratch then shows every part alone.
+-- The laws of the filling: each slot has the words of its part, and every part then stands alone in scratch.
 -- Assumes nothing.
 use Prim.Native.Nat.{ℕ, _+_, _/_, _%_, _^_, _≤_, _<_}
 use borrow.Author.Tests.{eqb-true, eqb-false, eq-eqb, ne-eqb, ltb-true, lt-ltb, le-ltb}
@@ -16,6 +16,7 @@ use Rattle.loaded.specs.Record.{recordWith, recordOf}
 use Rattle.merging.specs.Steps.{Tables, stored, slotIn, slotWords, partLevel, FilledWith, FilledTo}
 use Rattle.merging.specs.StoreLaws.{atoms-packed, level-packed, head-packed, stored-users, stored-resources, stored-operations, stored-rest, stored-kept, stored-kept-rest}
 use Rattle.merging.specs.PairLaws.{users-some, level-most, both-first}
+use Rattle.merging.specs.Traced.{tracedTo, Traced}
 use Rattle.pairing.specs.FitLaws.{linksOf, words-same}
 use Rattle.pairing.specs.LevelLaws.{group-means}
 use Rattle.pairing.specs.Levels.{tablesFit, groupLevel}
@@ -25,8 +26,8 @@ use Rattle.policy.specs.Policy.{Policy, settingOf}
 use Rattle.policy.specs.Rules.{Block, Some}
 use Rattle.sets.specs.Lowest.{lowest-most}
 use Rattle.sets.specs.MaskLaws.{or-false, mask-lt}
-use Rattle.sets.specs.Tests.{Is, never, test}
-use Rattle.slotgroups.specs.Scratch.{usersAt, resourcesAt, operationsAt, restAt, atomsIn, levelIn, headIn, restOf, wordsAt, isPartAt, Shows}
+use Rattle.sets.specs.Tests.{Is, never, test, elem}
+use Rattle.slotgroups.specs.Scratch.{usersAt, resourcesAt, operationsAt, restAt, atomsIn, levelIn, headIn, restOf, wordsAt, isPartAt}
 use Rattle.slotgroups.specs.SlotLaws.{slot-part, block-fits, block-some}
 use Rattle.slotgroups.specs.Slots.{slotPart, isSlot, slotBlock}
 use Rattle.words.specs.Words.{Words, wordsOf}
@@ -173,17 +174,24 @@ module _ (F : Policy) (Z : Sized F) {links matches known attributes holders perm
       (λ p. ap not (ne-eqb (usersAt t k) 0 (λ e. users-some (settingOf F) (block k) (here-some k p) (sym (ap (λ (W : Words). W .users) (shown-words k h p)) ∙ e))) ∙ sym p)
       (λ p. ap not (eq-eqb (usersAt t k) 0 (f k h .users-in ∙ ap (λ (b : Bool). cond b (slotWords links attributes holders permissions operations k .users) 0) (here-slot k h ∙ p))) ∙ sym p)
 
-  shown-members : (i k : ℕ) → i < 512 → k < 512 → Is (isSlot F i) → (eqb k i || false) ≡ (isPartAt t k && eqb (headIn (restAt t k)) i)
-  shown-members i k hi hk p = or-false (eqb k i) ∙ sym (ap (λ (b : Bool). b && eqb (headIn (restAt t k)) i) (shown-slots k hk) ∙ by-part (isSlot F k) refl)
+  own : (k : ℕ) → k < 512 → (b : Bool) → isSlot F k ≡ b → (b && eqb (headIn (restAt t k)) k) ≡ b
+  own k h true q = eq-eqb (headIn (restAt t k)) k (shown-head k h q)
+  own k h false q = refl
+
+  shown-members : (i k : ℕ) → k < 512 → Is (isSlot F i) → (eqb k i || false) ≡ tracedTo t (i ∷ []) i k
+  shown-members i k h p = or-false (eqb k i) ∙ sym (ap (λ (b : Bool). b && cond (eqb (headIn (restAt t k)) k) (eqb k i) (elem (headIn (restAt t k)) (i ∷ []))) (shown-slots k h) ∙ by-part (isSlot F k) refl)
     where
-      by-part : (b : Bool) → isSlot F k ≡ b → (b && eqb (headIn (restAt t k)) i) ≡ eqb k i
-      by-part true q = ap (λ (x : ℕ). eqb x i) (shown-head k hk q)
+      by-part : (b : Bool) → isSlot F k ≡ b → (b && cond (eqb (headIn (restAt t k)) k) (eqb k i) (elem (headIn (restAt t k)) (i ∷ []))) ≡ eqb k i
+      by-part true q = rw (eq-eqb (headIn (restAt t k)) k (shown-head k h q)) refl
       by-part false q = sym (ne-eqb k i (λ e. never p (ap (isSlot F) (sym e) ∙ q)))
 
+  shown-earlier : (k : ℕ) → k < 512 → Is (isPartAt t k) → (headIn (restAt t k) ≤ k) × Is (isPartAt t (headIn (restAt t k)))
+  shown-earlier k h p = let e = shown-head k h (sym (shown-slots k h) ∙ p) in (omega arith, ap (isPartAt t) e ∙ p)
+
   -- THE LAW of the filling
-  pub alone-shows : Shows F t (alone F)
+  pub alone-traced : Traced F t (alone F)
   unfolding alone
-  alone-shows = record {
+  alone-traced = record {
     long = long;
     slots = shown-slots;
     heads = λ k h. ap (λ (b : Bool). b && eqb (headIn (restAt t k)) k) (shown-slots k h) ∙ own k h (isSlot F k) refl;
@@ -191,10 +199,7 @@ module _ (F : Policy) (Z : Sized F) {links matches known attributes holders perm
     level = λ k h p. ap levelIn (here-rest k h p) ∙ level-packed (wordsOf (settingOf F) (block k) .atoms) (levelOf (settingOf F) (block k)) k (few k) (low k);
     fitting = λ k h p. here-fits k p;
     filled = λ k h p. here-some k p;
-    members = shown-members;
+    earlier = shown-earlier;
+    members = λ i k _ h p. shown-members i k h p;
     low = λ i k h p q. let e = eqb-true k i (sym (or-false (eqb k i)) ∙ q) in omega arith;
   }
-    where
-      own : (k : ℕ) → k < 512 → (b : Bool) → isSlot F k ≡ b → (b && eqb (headIn (restAt t k)) k) ≡ b
-      own k h true q = eq-eqb (headIn (restAt t k)) k (shown-head k h q)
-      own k h false q = refl

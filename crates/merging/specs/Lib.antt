@@ -1,8 +1,11 @@
 pub mod Steps
+pub mod Traced
 pub mod Progress
 pub mod StoreLaws
+pub mod HeadLaws
 pub mod SearchLaws
 pub mod PairLaws
 pub mod JoinLaws
 pub mod FillLaws
+pub mod ResolveLaws
 pub mod ProgressLaws

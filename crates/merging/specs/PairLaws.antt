@@ -10,6 +10,7 @@ use native.Mathlib.Omega.{arith}
 use Rattle.admit.specs.AdmitLaws.{Sized}
 use Rattle.frontier.specs.Frontier.{Slots, okAt}
 use Rattle.merging.specs.Steps.{Paired, joinedLevel, pairAt}
+use Rattle.merging.specs.Traced.{Traced}
 use Rattle.pairing.specs.LevelLaws.{pairLevelIn, groups-mean}
 use Rattle.pairing.specs.Levels.{pairLevel}
 use Rattle.policy.specs.CoverLaws.{pair-in, stands-in}
@@ -20,7 +21,7 @@ use Rattle.policy.specs.Rules.{Setting, Block, Some, user}
 use Rattle.sets.specs.Lowest.{lowest-most}
 use Rattle.sets.specs.Sets.{bit, bit-none, bit-mask}
 use Rattle.sets.specs.Tests.{Is, never}
-use Rattle.slotgroups.specs.Scratch.{restAt, levelIn, wordsAt, Shows}
+use Rattle.slotgroups.specs.Scratch.{restAt, levelIn, wordsAt}
 use Rattle.slotgroups.specs.Slots.{slotBlock}
 use Rattle.words.specs.Words.{Words, wordsOf}
 
@@ -52,7 +53,7 @@ same-level : (links matches known attributes : List ℕ) (users resources operat
     → pairLevel links matches known attributes users resources operations U X k ≡ pairLevel links matches known attributes users resources operations W Y l
 same-level links matches known attributes users resources operations p q r = rw (p, q, r) refl
 
-module _ (F : Policy) (Z : Sized F) (links matches known attributes : List ℕ) (users resources operations : ℕ) (T : Paired F links matches known attributes users resources operations) (t : List ℕ) (s : Slots (List ℕ)) (S : Shows F t s) where
+module _ (F : Policy) (Z : Sized F) (links matches known attributes : List ℕ) (users resources operations : ℕ) (T : Paired F links matches known attributes users resources operations) (t : List ℕ) (s : Slots (List ℕ)) (S : Traced F t s) where
   policy-tables : (i j : ℕ) → joinedLevel links matches known attributes users resources operations t i j ≡ pairLevelIn F (wordsAt t i) (wordsAt t j) (max (levelIn (restAt t i)) (levelIn (restAt t j)))
   unfolding joinedLevel
   policy-tables i j = rw (T .of-links, T .of-matches, T .of-known, T .of-attributes, T .of-users, T .of-resources, T .of-operations) refl

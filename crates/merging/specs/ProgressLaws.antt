@@ -14,17 +14,19 @@ use native.Mathlib.Omega.{arith}
 use Rattle.admit.specs.AdmitLaws.{Sized}
 use Rattle.frontier.specs.Frontier.{Slots, groupsIn, joinedAt, okAt, Clean}
 use Rattle.frontier.specs.FrontierLaws.{okAt-out, joined-length, step-none, back-found, behind-found, run-found, run-none}
-use Rattle.merging.specs.FillLaws.{alone, alone-shows}
-use Rattle.merging.specs.JoinLaws.{joined-shows}
+use Rattle.merging.specs.FillLaws.{alone, alone-traced}
+use Rattle.merging.specs.JoinLaws.{joined-traced}
 use Rattle.merging.specs.PairLaws.{level-means, pair-means}
 use Rattle.merging.specs.Progress.{Progress, Refused, Settled}
+use Rattle.merging.specs.ResolveLaws.{resolved-shows}
 use Rattle.merging.specs.SearchLaws.{partner-same, partner-behind}
-use Rattle.merging.specs.Steps.{Paired, Tables, joinedLevel, pairAt, NoneIn, FirstIn, Partner, Joined, FilledTo}
+use Rattle.merging.specs.Steps.{Paired, Tables, joinedLevel, pairAt, NoneIn, FirstIn, Partner, Joined, Resolved, FilledTo}
+use Rattle.merging.specs.Traced.{Traced}
 use Rattle.policy.specs.Covering.{levelOf}
 use Rattle.policy.specs.Merging.{step, run, merges, union, mergeable}
 use Rattle.policy.specs.Policy.{Policy, settingOf}
 use Rattle.sets.specs.Tests.{test}
-use Rattle.slotgroups.specs.Scratch.{Shows, Merged}
+use Rattle.slotgroups.specs.Scratch.{Merged}
 use Rattle.slotgroups.specs.SlotLaws.{groups-enough, counted-enough}
 use Rattle.slotgroups.specs.Slots.{slotBlock, slotsOf, slotMerges}
 
@@ -45,7 +47,7 @@ module _ (F : Policy) where
     pub partner : Partner (okAt (mergeable (settingOf F) (slotBlock F)) groups) c other
 
   -- a step that is made is the next of the run
-  step-made : {t u : List ℕ} {made next : ℕ} (s : Slots (List ℕ)) (i j : ℕ) → next ≡ made + 1 → i < j → j < 512 → Progress F t made s → okAt ok s i j ≡ true → Shows F u (joinedAt _++_ s i j) → step ok _++_ (groupsIn 512 s) ≡ some (groupsIn 512 (joinedAt _++_ s i j))
+  step-made : {t u : List ℕ} {made next : ℕ} (s : Slots (List ℕ)) (i j : ℕ) → next ≡ made + 1 → i < j → j < 512 → Progress F t made s → okAt ok s i j ≡ true → Traced F u (joinedAt _++_ s i j) → step ok _++_ (groupsIn 512 s) ≡ some (groupsIn 512 (joinedAt _++_ s i j))
       → Progress F u next (joinedAt _++_ s i j)
   step-made s i j k h l P may shown e =
       let n = joined-length ok _++_ 512 s i j may h l in
@@ -72,20 +74,20 @@ module _ (F : Policy) where
       none (inr (inl (p, e, k))) = absurd (omega arith)
       none (inr (inr (p, q, e, k, m))) = absurd (omega arith)
 
-  -- at the end scratch shows the groups that merging leaves, and the merges are counted
-  pub settled-end : {t : List ℕ} {made front : ℕ} → Settled F t made front → 512 ≤ front → (made ≡ slotMerges F) × Merged F t
-  settled-end {made = made} S h =
+  -- at the end, with the heads resolved, scratch shows the groups that merging leaves, and the merges are counted
+  pub settled-end : {t u : List ℕ} {made front : ℕ} → Settled F t made front → 512 ≤ front → Resolved t u → (made ≡ slotMerges F) × Merged F u
+  settled-end {t} {u} S h R =
       let r = run-none ok _++_ (length (groupsIn 512 (S .groups))) (groupsIn 512 (S .groups)) (step-none ok _++_ 512 (S .groups) (λ a b p q. S .refused a b p q (omega arith))) in
       let z = r .1 in
       let c = S .progress .counted in
-      (omega arith, record { groups = S .groups; shown = S .progress .shown; left = sym (r .0) ∙ S .progress .ends })
+      (omega arith, record { groups = S .groups; shown = resolved-shows F t u (S .groups) (S .progress .shown) R; left = sym (r .0) ∙ S .progress .ends })
 
   -- it begins with every part alone
   alone-groups : groupsIn 512 (alone F) ≡ map (λ i. i ∷ []) (slotsOf F)
   unfolding groupsIn slotsOf alone
   alone-groups = refl
 
-  begun : {t : List ℕ} → Shows F t (alone F) → Settled F t 0 0
+  begun : {t : List ℕ} → Traced F t (alone F) → Settled F t 0 0
   begun {t} S =
       let e = length-map (slotsOf F) (λ (i : ℕ). i ∷ []) in
       let n : length (slotsOf F) ≤ length (groupsIn 512 (alone F)) = rw alone-groups (omega arith) in
@@ -99,7 +101,7 @@ module _ (F : Policy) where
   -- after the filling nothing is merged, and no pair is tested
   pub settled-begin : {t links matches known attributes holders permissions : List ℕ} {users resources operations roles : ℕ} → Sized F → Tables F links matches known attributes holders permissions users resources operations roles → length t ≡ 2048
       → FilledTo links matches known attributes holders permissions users resources operations roles t 512 → Settled F t 0 0
-  settled-begin {t} Z T long f = begun (alone-shows F Z T t long f)
+  settled-begin {t} Z T long f = begun (alone-traced F Z T t long f)
 
 module _ (F : Policy) (Z : Sized F) (links matches known attributes : List ℕ) (users resources operations : ℕ) (T : Paired F links matches known attributes users resources operations) where
   abbrev pair : List ℕ → ℕ → ℕ → Bool
@@ -140,7 +142,7 @@ module _ (F : Policy) (Z : Sized F) (links matches known attributes : List ℕ) 
           let live = okAt-out (ok F) (G .groups) i j may in
           let means = level-means F Z links matches known attributes users resources operations T t (G .groups) (G .progress .shown) i j (omega arith) k (live .0) (live .1) in
           let right = e ∙ means ∙ ap (λ (b : Bool). cond b (levelOf (settingOf F) (union (settingOf F) (slotBlock F) (G .groups .group i ++ G .groups .group j))) 4) (live .2) in
-          let shown = joined-shows F Z t u (G .groups) i j level h k (G .progress .shown) J may right in
+          let shown = joined-traced F Z t u (G .groups) i j level h k (G .progress .shown) J may right in
           record {
             groups = joinedAt _++_ (G .groups) i j;
             progress = step-made F (G .groups) i j n h k (G .progress) may shown stepped;

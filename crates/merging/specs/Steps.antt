@@ -1,10 +1,10 @@
--- What the code does to scratch memory, in terms of its words: which slots may be joined, what a join and the filling leave, and what
+-- What the code does to scratch memory, in terms of its words: which slots may be joined, what a join, the filling and the last pass over the heads leave, and what
 -- the search has found out.
 -- Assumes nothing.
-use Prim.Native.Nat.{ℕ, _+_, _*_, _/_, _%_, _^_, _≤_, _<_, max}
+use Prim.Native.Nat.{ℕ, _+_, _*_, _/_, _%_, _^_, _≤_, _<_, max, min}
 use lib.Dec.{eqb, ltb}
 use lib.ListN.{length, getD, set}
-use mathlib.Core.Bool.{Bool, true, false, cond, _&&_}
+use mathlib.Core.Bool.{Bool, true, false, cond, _&&_, not}
 use mathlib.Core.List.{List}
 use mathlib.Core.Logic.{_⊎_}
 use mathlib.Core.Path.{_≡_}
@@ -14,9 +14,11 @@ use Rattle.matches.specs.MatchLaws.{knownIn, matchesIn}
 use Rattle.operands.specs.Operands.{classRow}
 use Rattle.pairing.specs.FitLaws.{linksOf}
 use Rattle.pairing.specs.Levels.{pairLevel, groupLevel}
+use Rattle.pairing.specs.Pairing.{reaches}
 use Rattle.policy.specs.Policy.{Policy}
-use Rattle.sets.specs.Tests.{keep, upTo}
-use Rattle.slotgroups.specs.Scratch.{usersAt, resourcesAt, operationsAt, restAt, levelIn, headIn, restOf, wordsAt, isHeadAt}
+use Rattle.sets.specs.Sets.{bit, maskOf}
+use Rattle.sets.specs.Tests.{Is, keep, upTo}
+use Rattle.slotgroups.specs.Scratch.{usersAt, resourcesAt, operationsAt, restAt, levelIn, headIn, restOf, wordsAt, isPartAt, isHeadAt}
 use Rattle.words.specs.Words.{Words, joined}
 
 -- the tables by which pairs are tested are those of the policy
@@ -53,6 +55,14 @@ module _ (links matches known attributes : List ℕ) (users resources operations
   unfoldable pub pairAt : List ℕ → ℕ → ℕ → Bool
   pairAt t i j = isHeadAt t i && (isHeadAt t j && ltb (joinedLevel t i j) 4)
 
+  -- the level of slot c's group together with another slot's, the earlier slot first; else 4
+  unfoldable pub partnerLevel : List ℕ → ℕ → ℕ → ℕ
+  partnerLevel t c k = cond (eqb k c) 4 (joinedLevel t (min c k) (max c k))
+
+  -- both are heads of groups that may be joined
+  unfoldable pub partnerAt : List ℕ → ℕ → ℕ → Bool
+  partnerAt t c k = isHeadAt t c && (isHeadAt t k && ltb (partnerLevel t c k) 4)
+
 -- none from a on below b passes; r is the first that does, or 512
 abbrev pub NoneIn : (ℕ → Bool) → ℕ → ℕ → Type 0
 NoneIn f a b = (k : ℕ) → a ≤ k → k < b → f k ≡ false
@@ -67,15 +77,44 @@ Partner pair c r =
     ⊎ (((r < c) × (pair r c ≡ true) × NoneIn (λ i. pair i c) 0 r)
     ⊎ ((c < r) × (r < 512) × (pair c r ≡ true) × NoneIn (λ i. pair i c) 0 c × NoneIn (pair c) (c + 1) r))
 
+module _ (links matches known attributes : List ℕ) (users resources operations : ℕ) where
+  -- the slot is the first from `from` on to be joined with slot c, or 512, and the level is that of both
+  pub record Finds (t : List ℕ) (c from slot level : ℕ) : Type 0 where
+    pub first : FirstIn (partnerAt links matches known attributes users resources operations t c) from 512 slot
+    pub leveled : slot < 512 → level ≡ partnerLevel links matches known attributes users resources operations t c slot
+
+-- the words of slot k say nothing plain against a join with these
+abbrev pub nearAt : List ℕ → Words → ℕ → Bool
+nearAt t W k = reaches W (wordsAt t k) && reaches (wordsAt t k) W
+
+-- ---- the marks of heads
+
+-- slot k is marked: bit k % 64 of word k / 64
+abbrev pub marked : List ℕ → ℕ → Bool
+marked marks k = bit (getD marks (k / 64) 0) (k % 64)
+
+-- it is, and its words are near these
+abbrev pub nearHead : List ℕ → List ℕ → Words → ℕ → Bool
+nearHead marks t W k = marked marks k && nearAt t W k
+
+-- slot j without its mark
+abbrev pub unmarked : List ℕ → ℕ → List ℕ
+unmarked marks j = set marks (j / 64) (maskOf 64 (λ k. bit (getD marks (j / 64) 0) k && not (eqb k (j % 64))))
+
+-- the heads are marked, and no other slots
+pub record Marked (marks t : List ℕ) : Type 0 where
+  pub long : length marks ≡ 8
+  pub right : (k : ℕ) → k < 512 → marked marks k ≡ isHeadAt t k
+
 -- ---- a join
 
 -- four words stored in slot i
 abbrev pub stored : List ℕ → (i a b c d : ℕ) → List ℕ
 stored t i a b c d = set (set (set (set t (4 * i) a) (4 * i + 1) b) (4 * i + 2) c) (4 * i + 3) d
 
--- the last word of a slot: head i in the place of head j
-abbrev pub reheaded : ℕ → ℕ → ℕ → ℕ
-reheaded i j rest = cond (eqb (headIn rest) j) (rest % 2 ^ 38 + 2 ^ 38 * i) rest
+-- slot k has the head that slot p names
+abbrev pub headTaken : List ℕ → ℕ → ℕ → List ℕ
+headTaken t k p = set t (4 * k + 3) (restAt t k % 2 ^ 38 + 2 ^ 38 * headIn (restAt t p))
 
 -- the words of slot k stay, apart from its last
 pub record Kept (t u : List ℕ) (k : ℕ) : Type 0 where
@@ -89,26 +128,31 @@ pub record TakenIn (t u : List ℕ) (i j level : ℕ) : Type 0 where
   pub words : wordsAt u i ≡ joined (wordsAt t i) (wordsAt t j)
   pub level-set : levelIn (restAt u i) ≡ level
   pub head : headIn (restAt u i) ≡ i
+  pub part : Is (isPartAt t i) → Is (isPartAt u i)
   pub others : (k : ℕ) → (k ≡ i → ⊥) → Kept t u k × (restAt u k ≡ restAt t k)
 
--- every slot with the head j has the head i
-pub record Reheaded (t u : List ℕ) (i j : ℕ) : Type 0 where
-  pub long : length u ≡ 2048
-  pub kept : (k : ℕ) → Kept t u k
-  pub moved : (k : ℕ) → k < 512 → restAt u k ≡ reheaded i j (restAt t k)
-
--- slot i has the words of both groups, and each slot of j's group has the head i
+-- slot i has the words of both groups, slot j names it, and the others are as they were
 pub record Joined (t u : List ℕ) (i j level : ℕ) : Type 0 where
   pub long : length u ≡ 2048
   pub words : wordsAt u i ≡ joined (wordsAt t i) (wordsAt t j)
   pub level-set : levelIn (restAt u i) ≡ level
   pub head : headIn (restAt u i) ≡ i
-  pub kept : (k : ℕ) → k < 512 → (k ≡ i → ⊥) → Kept t u k
-  pub moved : (k : ℕ) → k < 512 → (k ≡ i → ⊥) → restAt u k ≡ reheaded i j (restAt t k)
+  pub part : Is (isPartAt t i) → Is (isPartAt u i)
+  pub named : headIn (restAt u j) ≡ i
+  pub kept : (k : ℕ) → (k ≡ i → ⊥) → Kept t u k
+  pub others : (k : ℕ) → (k ≡ i → ⊥) → (k ≡ j → ⊥) → restAt u k ≡ restAt t k
+
+-- a slot that named itself still does, and one that named an earlier slot now names what that one does
+pub record Resolved (t u : List ℕ) : Type 0 where
+  pub long : length u ≡ 2048
+  pub kept : (k : ℕ) → Kept t u k
+  pub low : (k : ℕ) → k < 512 → restAt u k % 2 ^ 38 ≡ restAt t k % 2 ^ 38
+  pub own : (k : ℕ) → k < 512 → headIn (restAt t k) ≡ k → headIn (restAt u k) ≡ k
+  pub named : (k : ℕ) → k < 512 → headIn (restAt t k) < k → headIn (restAt u k) ≡ headIn (restAt u (headIn (restAt t k)))
 
 -- how many groups there are
-unfoldable pub heads : List ℕ → ℕ
-heads t = length (keep (isHeadAt t) (upTo 512))
+unfoldable pub headCount : List ℕ → ℕ
+headCount t = length (keep (isHeadAt t) (upTo 512))
 
 -- ---- the filling
 

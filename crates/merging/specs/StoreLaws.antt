@@ -1,20 +1,20 @@
 -- The laws of the words of scratch memory: what a store, a join and a change of heads leave.
 -- Assumes nothing.
-use Prim.Native.Nat.{ℕ, _+_, _*_, _/_, _%_, _^_, _≤_, _<_}
-use borrow.Author.Tests.{eqb-true, eqb-false, ne-eqb, ltb-false}
+use Prim.Native.Nat.{ℕ, _+_, _*_, _/_, _%_, _^_, _≤_, _<_, min}
+use borrow.Author.Tests.{eqb-true, eqb-false, eq-eqb, ne-eqb, ltb-false}
 use lib.Dec.{eqb, ltb}
 use lib.ListN.{length, getD, set, length-set}
 use lib.Seq.{getD-set-same, getD-set-other}
-use mathlib.Core.Bool.{cond, _&&_, _||_}
+use mathlib.Core.Bool.{_&&_, _||_, not}
 use mathlib.Core.List.{List}
 use mathlib.Core.Path.{_≡_, refl, sym, ap, _∙_}
 use native.Mathlib.Nat.{mod-lt}
 use native.Mathlib.Omega.{arith}
-use Rattle.merging.specs.Steps.{stored, reheaded, Kept, TakenIn, Reheaded, Joined}
+use Rattle.merging.specs.Steps.{stored, headTaken, Kept, TakenIn, Joined, Resolved}
 use Rattle.pairing.specs.FitLaws.{words-same}
-use Rattle.sets.specs.MaskLaws.{bit-out, mask-lt, mask-same, mask-wide}
-use Rattle.sets.specs.Sets.{bit, maskOf}
-use Rattle.sets.specs.Tests.{test}
+use Rattle.sets.specs.MaskLaws.{bit-out, bits-same, mask-lt, mask-same, mask-wide}
+use Rattle.sets.specs.Sets.{bit, bit-none, maskOf, bit-mask}
+use Rattle.sets.specs.Tests.{Is, or-l, never, test, fails}
 use Rattle.slotgroups.specs.Scratch.{usersAt, resourcesAt, operationsAt, restAt, atomsIn, levelIn, headIn, restOf, wordsAt}
 use Rattle.words.specs.Words.{Words, joined}
 
@@ -32,30 +32,6 @@ module _ (atoms level head : ℕ) (a : atoms < 2 ^ 36) (l : level < 4) where
   -- its head
   pub head-packed : headIn (restOf atoms level head) ≡ head
   head-packed = omega arith
-
--- what a word of which one head may have taken the place of another says
-module _ (i j rest : ℕ) where
-  by-head : (P : ℕ → Type 0) → (headIn rest ≡ j → P (rest % 2 ^ 38 + 2 ^ 38 * i)) → P rest → P (reheaded i j rest)
-  by-head P f p = test (eqb (headIn rest) j) (λ e. rw e (f (eqb-true (headIn rest) j e))) (λ e. rw e p)
-
-  -- the same atoms
-  pub atoms-stay : atomsIn (reheaded i j rest) ≡ atomsIn rest
-  atoms-stay = by-head (λ w. atomsIn w ≡ atomsIn rest) (λ e. omega arith) refl
-
-  -- the same level
-  pub level-stays : levelIn (reheaded i j rest) ≡ levelIn rest
-  level-stays = by-head (λ w. levelIn w ≡ levelIn rest) (λ e. omega arith) refl
-
-  -- head i in the place of head j
-  pub head-moves : headIn (reheaded i j rest) ≡ cond (eqb (headIn rest) j) i (headIn rest)
-  head-moves = test (eqb (headIn rest) j) (λ e. rw e moved) (λ e. rw e refl)
-    where
-      moved : headIn (rest % 2 ^ 38 + 2 ^ 38 * i) ≡ i
-      moved = omega arith
-
-  -- another head stays
-  pub other-head : (headIn rest ≡ j → ⊥) → reheaded i j rest ≡ rest
-  other-head d = rw (ne-eqb (headIn rest) j d) refl
 
 -- the atoms that two words have
 pub meet-low : {m a : ℕ} (b : ℕ) → a < 2 ^ 36 → m ≡ maskOf 64 (λ k. bit a k && bit b k) → m < 2 ^ 36
@@ -149,16 +125,21 @@ module _ (t : List ℕ) (i a b c d : ℕ) where
   pub stored-kept-rest : (k : ℕ) → (k ≡ i → ⊥) → restAt (stored t i a b c d) k ≡ restAt t k
   stored-kept-rest k n = stored-other (4 * k + 3) (λ e. n (omega arith))
 
+-- a union is empty only where the first set is
+some-stay : {a : ℕ} (b c : ℕ) → c < 2 ^ 64 → a ≡ maskOf 64 (λ k. bit c k || bit b k) → a ≡ 0 → Is (not (eqb c 0)) → ⊥
+some-stay {a} b c h e f o = never o (ap not (eq-eqb c 0 (bits-same 64 c 0 h (omega arith) (λ k l. fails (bit c k) (λ p. never (or-l (bit b k) p) (sym (bit-mask 64 (λ k. bit c k || bit b k) k l) ∙ ap (λ (x : ℕ). bit x k) (sym e ∙ f) ∙ bit-none k)) ∙ sym (bit-none k)))))
+
 -- the words of both groups, stored in slot i
 pub taken-in : {u : List ℕ} {W X : Words} {a b c d m : ℕ} (t : List ℕ) (i j level : ℕ) → length t ≡ 2048 → i < 512 → level < 4 → W ≡ wordsAt t i → X ≡ wordsAt t j
     → m ≡ maskOf 64 (λ k. bit (W .atoms) k && bit (X .atoms) k) → d ≡ restOf m level i → a ≡ maskOf 64 (λ k. bit (W .users) k || bit (X .users) k)
-    → b ≡ maskOf 64 (λ k. bit (W .resources) k || bit (X .resources) k) → c ≡ maskOf 64 (λ k. bit (W .ops) k || bit (X .ops) k) → u ≡ stored t i a b c d → TakenIn t u i j level
+    → b ≡ maskOf 64 (λ k. bit (W .resources) k || bit (X .resources) k) → c ≡ maskOf 64 (λ k. bit (W .ops) k || bit (X .ops) k) → usersAt t i < 2 ^ 64 → u ≡ stored t i a b c d → TakenIn t u i j level
 unfolding joined
-taken-in {u} {W} {X} {a} {b} {c} {d} {m} t i j level long l low p q e f g h k s = rw s (record {
+taken-in {u} {W} {X} {a} {b} {c} {d} {m} t i j level long l low p q e f g h k z s = rw s (record {
   long = stored-long t i a b c d ∙ long;
   words = words-same (stored-users t i a b c d long l ∙ g) (stored-resources t i a b c d long l ∙ h) (stored-operations t i a b c d long l ∙ k) (ap atomsIn rest ∙ atoms-packed m level i few low ∙ e) ∙ both;
   level-set = ap levelIn rest ∙ level-packed m level i few low;
   head = ap headIn rest ∙ head-packed m level i few low;
+  part = λ o. ap not (ne-eqb (usersAt (stored t i a b c d) i) 0 (λ y. some-stay (X .users) (usersAt t i) z (g ∙ ap (λ (Y : Words). maskOf 64 (λ k. bit (Y .users) k || bit (X .users) k)) p) (sym (stored-users t i a b c d long l) ∙ y) o));
   others = λ n d. (stored-kept t i a b c _ n d, stored-kept-rest t i a b c _ n d);
 })
   where
@@ -171,52 +152,103 @@ taken-in {u} {W} {X} {a} {b} {c} {d} {m} t i j level long l low p q e f g h k s 
     both : joined W X ≡ joined (wordsAt t i) (wordsAt t j)
     both = rw (p, q) refl
 
--- ---- heads changed, slot by slot
+-- ---- the head that another slot names
 
--- the slots before n have their heads changed, and the others are as they were
-pub record ReheadedTo (t u : List ℕ) (i j n : ℕ) : Type 0 where
-  pub long : length u ≡ 2048
-  pub kept : (k : ℕ) → Kept t u k
-  pub moved : (k : ℕ) → k < n → restAt u k ≡ reheaded i j (restAt t k)
-  pub left : (k : ℕ) → n ≤ k → restAt u k ≡ restAt t k
+module _ (t : List ℕ) (k p : ℕ) where
+  abbrev word : ℕ
+  word = restAt t k % 2 ^ 38 + 2 ^ 38 * headIn (restAt t p)
 
-module _ (t : List ℕ) (i j : ℕ) where
-  -- none is changed at first
-  pub rehead-none : length t ≡ 2048 → ReheadedTo t t i j 0
-  rehead-none h = record { long = h; kept = λ k. record { users = refl; resources = refl; operations = refl }; moved = λ k l. absurd (omega arith); left = λ k l. refl }
+  -- scratch is as long as it was
+  pub taken-long : length (headTaken t k p) ≡ length t
+  taken-long = length-set t (4 * k + 3) word
 
-  -- one more
-  pub rehead-turn : {u : List ℕ} {v n : ℕ} → n < 512 → ReheadedTo t u i j n → v ≡ reheaded i j (getD u (4 * n + 3) 0) → ReheadedTo t (set u (4 * n + 3) v) i j (n + 1)
-  rehead-turn {u} {v} {n} l R e = record {
-    long = length-set u (4 * n + 3) v ∙ R .long;
-    kept = λ k. record {
-      users = getD-set-other u (4 * n + 3) (4 * k) v 0 (λ q. omega arith) ∙ R .kept k .users;
-      resources = getD-set-other u (4 * n + 3) (4 * k + 1) v 0 (λ q. omega arith) ∙ R .kept k .resources;
-      operations = getD-set-other u (4 * n + 3) (4 * k + 2) v 0 (λ q. omega arith) ∙ R .kept k .operations;
-    };
-    moved = λ k h. test (eqb k n) (λ q. here k (eqb-true k n q)) (λ q. let d = eqb-false k n q in getD-set-other u (4 * n + 3) (4 * k + 3) v 0 (λ q. omega arith) ∙ R .moved k (omega arith));
-    left = λ k h. getD-set-other u (4 * n + 3) (4 * k + 3) v 0 (λ q. omega arith) ∙ R .left k (omega arith);
+  -- every slot keeps its words, apart from its last
+  pub taken-kept : (n : ℕ) → Kept t (headTaken t k p) n
+  taken-kept n = record {
+    users = getD-set-other t (4 * k + 3) (4 * n) word 0 (λ q. omega arith);
+    resources = getD-set-other t (4 * k + 3) (4 * n + 1) word 0 (λ q. omega arith);
+    operations = getD-set-other t (4 * k + 3) (4 * n + 2) word 0 (λ q. omega arith);
   }
-    where
-      here : (k : ℕ) → k ≡ n → restAt (set u (4 * n + 3) v) k ≡ reheaded i j (restAt t k)
-      here k q = let long = R .long in rw q (getD-set-same u (4 * n + 3) v 0 (omega arith) ∙ e ∙ ap (reheaded i j) (R .left n (omega arith)))
 
-  -- all are changed at the end
-  pub rehead-end : {u : List ℕ} {n : ℕ} → ReheadedTo t u i j n → 512 ≤ n → Reheaded t u i j
-  rehead-end R h = record { long = R .long; kept = R .kept; moved = λ k l. R .moved k (omega arith) }
+  -- another slot keeps that too
+  pub taken-other : (n : ℕ) → (n ≡ k → ⊥) → restAt (headTaken t k p) n ≡ restAt t n
+  taken-other n d = getD-set-other t (4 * k + 3) (4 * n + 3) word 0 (λ q. d (omega arith))
+
+  module _ (long : length t ≡ 2048) (l : k < 512) where
+    taken-word : restAt (headTaken t k p) k ≡ word
+    taken-word = getD-set-same t (4 * k + 3) word 0 (omega arith)
+
+    -- the slot keeps its atoms and its level
+    pub taken-low : restAt (headTaken t k p) k % 2 ^ 38 ≡ restAt t k % 2 ^ 38
+    taken-low = let e = taken-word in omega arith
+
+    -- and has the head that p names
+    pub taken-head : headIn (restAt (headTaken t k p) k) ≡ headIn (restAt t p)
+    taken-head = let e = taken-word in omega arith
 
 -- ---- both
 
--- slot i takes in slot j's group, and the heads are changed
-pub joined-slots : {t u v : List ℕ} {i j level : ℕ} → i < j → TakenIn t u i j level → Reheaded u v i j → i < 512 → Joined t v i j level
-joined-slots {t} {u} {v} {i} {j} h T R l = record {
-  long = R .long;
-  words = words-same (R .kept i .users) (R .kept i .resources) (R .kept i .operations) (ap atomsIn own) ∙ T .words;
+-- slot i takes in slot j's group, and slot j takes the head that slot i names
+pub joined-slots : {t u v : List ℕ} {i j level : ℕ} → i < j → j < 512 → TakenIn t u i j level → v ≡ headTaken u j i → Joined t v i j level
+joined-slots {t} {u} {v} {i} {j} h l T e = rw e (record {
+  long = taken-long u j i ∙ T .long;
+  words = let o = taken-kept u j i i in words-same (o .users) (o .resources) (o .operations) (ap atomsIn own) ∙ T .words;
   level-set = ap levelIn own ∙ T .level-set;
   head = ap headIn own ∙ T .head;
-  kept = λ k l d. let o = T .others k d .0 in record { users = R .kept k .users ∙ o .users; resources = R .kept k .resources ∙ o .resources; operations = R .kept k .operations ∙ o .operations };
-  moved = λ k l d. R .moved k l ∙ ap (reheaded i j) (T .others k d .1);
-}
+  part = λ p. ap (λ (x : ℕ). not (eqb x 0)) (taken-kept u j i i .users) ∙ T .part p;
+  named = taken-head u j i (T .long) l ∙ T .head;
+  kept = λ k d. let o = T .others k d .0 in let n = taken-kept u j i k in record { users = n .users ∙ o .users; resources = n .resources ∙ o .resources; operations = n .operations ∙ o .operations };
+  others = λ k di dj. taken-other u j i k dj ∙ T .others k di .1;
+})
   where
-    own : restAt v i ≡ restAt u i
-    own = let e = T .head in R .moved i l ∙ other-head i j (restAt u i) (λ q. omega arith)
+    own : restAt (headTaken u j i) i ≡ restAt u i
+    own = taken-other u j i i (λ q. omega arith)
+
+-- ---- the last pass over the heads, slot by slot
+
+-- the slots before n are resolved, and the others are as they were
+pub record ResolvedTo (t u : List ℕ) (n : ℕ) : Type 0 where
+  pub long : length u ≡ 2048
+  pub kept : (k : ℕ) → Kept t u k
+  pub low : (k : ℕ) → k < n → restAt u k % 2 ^ 38 ≡ restAt t k % 2 ^ 38
+  pub own : (k : ℕ) → k < n → headIn (restAt t k) ≡ k → headIn (restAt u k) ≡ k
+  pub named : (k : ℕ) → k < n → headIn (restAt t k) < k → headIn (restAt u k) ≡ headIn (restAt u (headIn (restAt t k)))
+  pub left : (k : ℕ) → n ≤ k → restAt u k ≡ restAt t k
+
+module _ (t : List ℕ) where
+  -- none is resolved at first
+  pub resolve-none : length t ≡ 2048 → ResolvedTo t t 0
+  resolve-none h = record {
+    long = h;
+    kept = λ k. record { users = refl; resources = refl; operations = refl };
+    low = λ k l. absurd (omega arith);
+    own = λ k l. absurd (omega arith);
+    named = λ k l. absurd (omega arith);
+    left = λ k l. refl;
+  }
+
+  -- one more
+  pub resolve-turn : {u v : List ℕ} {n h p : ℕ} → n < 512 → ResolvedTo t u n → h ≡ headIn (restAt u n) → p ≡ min h 511 → v ≡ headTaken u n p → ResolvedTo t v (n + 1)
+  resolve-turn {u} {v} {n} {h} {p} l R f g e = rw e (record {
+    long = taken-long u n p ∙ R .long;
+    kept = λ k. let o = R .kept k in let m = taken-kept u n p k in record { users = m .users ∙ o .users; resources = m .resources ∙ o .resources; operations = m .operations ∙ o .operations };
+    low = λ k b. by-turn k b (λ x. restAt (headTaken u n p) x % 2 ^ 38 ≡ restAt t x % 2 ^ 38) (taken-low u n p (R .long) l ∙ ap (λ (x : ℕ). x % 2 ^ 38) (R .left n (omega arith))) (λ d. ap (λ (x : ℕ). x % 2 ^ 38) (taken-other u n p k (λ q. omega arith)) ∙ R .low k d);
+    own = λ k b. by-turn k b (λ x. headIn (restAt t x) ≡ x → headIn (restAt (headTaken u n p) x) ≡ x) (λ q. here n l q ∙ ap headIn (R .left n (omega arith)) ∙ q) (λ d q. ap headIn (taken-other u n p k (λ q. omega arith)) ∙ R .own k d q);
+    named = λ k b. by-turn k b (λ x. headIn (restAt t x) < x → headIn (restAt (headTaken u n p) x) ≡ headIn (restAt (headTaken u n p) (headIn (restAt t x))))
+        (λ q. here (headIn (restAt t n)) (omega arith) refl ∙ ap headIn (sym (taken-other u n p (headIn (restAt t n)) (λ z. omega arith))))
+        (λ d q. ap headIn (taken-other u n p k (λ q. omega arith)) ∙ R .named k d q ∙ ap headIn (sym (taken-other u n p (headIn (restAt t k)) (λ z. omega arith))));
+    left = λ k b. taken-other u n p k (λ q. omega arith) ∙ R .left k (omega arith);
+  })
+    where
+      by-turn : (k : ℕ) → k < n + 1 → (P : ℕ → Type 0) → P n → (k < n → P k) → P k
+      by-turn k b P x y = test (eqb k n) (λ q. rw (eqb-true k n q) x) (λ q. let d = eqb-false k n q in y (omega arith))
+
+      here : (x : ℕ) → x < 512 → headIn (restAt t n) ≡ x → headIn (restAt (headTaken u n p) n) ≡ headIn (restAt u x)
+      here x b q =
+          let o = ap headIn (R .left n (omega arith)) in
+          let z : p ≡ x = omega arith in
+          taken-head u n p (R .long) l ∙ ap (λ (y : ℕ). headIn (restAt u y)) z
+
+  -- all are resolved at the end
+  pub resolve-end : {u : List ℕ} {n : ℕ} → ResolvedTo t u n → 512 ≤ n → Resolved t u
+  resolve-end R h = record { long = R .long; kept = R .kept; low = λ k l. R .low k (omega arith); own = λ k l. R .own k (omega arith); named = λ k l. R .named k (omega arith) }

@@ -1,13 +1,16 @@
 // Groups of parts in scratch memory, merged until no pair is left. Scratch has four words for each of the 512 slots: the group's users,
-// resources and operations, and a last one with its atoms (36 bits), its level (2 bits) and the slot of its head.
+// resources and operations, and a last one with its atoms (36 bits), its level (2 bits) and the slot of its head. While groups are merged
+// a slot that is no head may name an earlier slot of its group instead, so that a join writes no more than two slots.
 ghost use lib.ListN.{length, getD};
+ghost use mathlib.Core.Bool.{_&&_};
 ghost use mathlib.Core.Path.{_≡_};
 ghost use Prim.Native.Nat.{ℕ, _+_, _*_, _/_, _%_, _^_, _≤_, _<_, max, min};
 ghost use Rattle.admit.specs.AdmitLaws.{Sized};
 ghost use Rattle.merging.specs.Progress.{Settled};
-ghost use Rattle.merging.specs.Steps.{Paired, Tables, joinedLevel, pairAt, FirstIn, Partner, stored, reheaded, TakenIn, Reheaded, Joined, heads, slotIn, slotWords, FilledWith, FilledTo};
+ghost use Rattle.merging.specs.Steps.{Paired, Tables, joinedLevel, partnerLevel, FirstIn, Finds, nearAt, nearHead, Marked, unmarked, stored, headTaken, TakenIn, Joined, Resolved, headCount, slotIn, slotWords, FilledWith, FilledTo};
 ghost use Rattle.pairing.specs.Pairing.{wordsIn};
 ghost use Rattle.policy.specs.Policy.{Policy};
+ghost use Rattle.sets.specs.Sets.{bit, maskOf};
 ghost use Rattle.slotgroups.specs.Scratch.{restAt, levelIn, headIn, restOf, wordsAt, isPartAt, isHeadAt, Merged};
 ghost use Rattle.slotgroups.specs.Slots.{slotMerges};
 use pairing::Group;
@@ -18,6 +21,12 @@ struct Slot {
     resources: u64,
     operations: u64,
     rest: u64,
+}
+
+// A slot to be joined with another, and the level of both together; the slot is 512 if there is none.
+struct Found {
+    slot: usize,
+    level: usize,
 }
 
 // The group of a slot.
@@ -113,44 +122,8 @@ fn level_if_joined<'a>(
     )
 }
 
-// Whether both slots are heads of groups that may be joined.
-fn is_pair<'a>(
-    scratch: &[u64],
-    links: &'a [u64; 2304],
-    matches: &'a [u64; 896],
-    known: &'a [u64; 14],
-    attributes: &'a [usize; 2],
-    users: usize,
-    resources: usize,
-    operations: usize,
-    i: usize,
-    j: usize,
-) -> bool
-    requires { ⌜ (users ≤ 64) × (resources ≤ 64) × (operations ≤ 64) × (getD (now attributes) 0 0 ≤ 6) × (getD (now attributes) 1 0 ≤ 6) × (i < 512) × (j < 512) × (length (now scratch) ≡ 2048) ⌝ }
-    ensures { λ b. ⌜ b ≡ pairAt (now (links .entry)) (now (matches .entry)) (now (known .entry)) (now (attributes .entry)) users resources operations (now (scratch .entry)) i j ⌝ }
-{
-    if is_head(scratch, i) {
-        if is_head(scratch, j) {
-            let level = level_if_joined(
-                scratch,
-                links,
-                matches,
-                known,
-                attributes,
-                users,
-                resources,
-                operations,
-                i,
-                j,
-            );
-            return level < 4;
-        }
-    }
-    false
-}
-
-// The first slot before c that may take c's group in; 512 if there is none.
-fn first_before<'a>(
+// The level of slot c's group together with that of slot k, the earlier slot first, if they may be joined; else 4.
+fn level_beside<'a>(
     scratch: &[u64],
     links: &'a [u64; 2304],
     matches: &'a [u64; 896],
@@ -160,32 +133,65 @@ fn first_before<'a>(
     resources: usize,
     operations: usize,
     c: usize,
+    k: usize,
 ) -> usize
-    requires { ⌜ (users ≤ 64) × (resources ≤ 64) × (operations ≤ 64) × (getD (now attributes) 0 0 ≤ 6) × (getD (now attributes) 1 0 ≤ 6) × (c < 512) × (length (now scratch) ≡ 2048) ⌝ }
-    ensures { λ r. ⌜ FirstIn (λ i. pairAt (now (links .entry)) (now (matches .entry)) (now (known .entry)) (now (attributes .entry)) users resources operations (now (scratch .entry)) i c) 0 c r ⌝ }
+    requires { ⌜ (users ≤ 64) × (resources ≤ 64) × (operations ≤ 64) × (getD (now attributes) 0 0 ≤ 6) × (getD (now attributes) 1 0 ≤ 6) × (c < 512) × (k < 512) × (length (now scratch) ≡ 2048) ⌝ }
+    ensures { λ l. ⌜ l ≡ partnerLevel (now (links .entry)) (now (matches .entry)) (now (known .entry)) (now (attributes .entry)) users resources operations (now (scratch .entry)) c k ⌝ }
 {
-    for i in 0..c {
-        if is_pair(
-            scratch,
-            links,
-            matches,
-            known,
-            attributes,
-            users,
-            resources,
-            operations,
-            i,
-            c,
-        ) {
-            return i;
+    if k == c {
+        return 4;
+    }
+    let i = lower(c, k);
+    let j = higher(c, k);
+    level_if_joined(
+        scratch,
+        links,
+        matches,
+        known,
+        attributes,
+        users,
+        resources,
+        operations,
+        i,
+        j,
+    )
+}
+
+// The first of these slots of a word of marks whose group is near: 512 if there is none.
+fn near_within(scratch: &[u64], slots: u64, word: usize, g: Group) -> usize
+    requires { ⌜ (word < 8) × (length (now scratch) ≡ 2048) ⌝ }
+    ensures { λ r. ⌜ FirstIn (λ k. bit slots (k % 64) && nearAt (now (scratch .entry)) (wordsIn g) k) (64 * word) (64 * word + 64) r ⌝ }
+{
+    let mut rest = slots;
+    while 0 < rest {
+        let k = 64 * word + sets::least(rest);
+        if pairing::near(g, group_at(scratch, k)) {
+            return k;
+        }
+        rest = matches::without_least(rest);
+    }
+    512
+}
+
+// The first marked slot from a slot on whose group is near: 512 if there is none.
+fn next_near(scratch: &[u64], heads: &[u64; 8], g: Group, from: usize) -> usize
+    requires { ⌜ length (now scratch) ≡ 2048 ⌝ }
+    ensures { λ r. ⌜ FirstIn (nearHead (now (heads .entry)) (now (scratch .entry)) (wordsIn g)) from 512 r ⌝ }
+{
+    for word in from / 64..8 {
+        let passed = sets::below(higher(from, 64 * word) - 64 * word);
+        let k = near_within(scratch, sets::without(heads[word], passed), word, g);
+        if k < 512 {
+            return k;
         }
     }
     512
 }
 
-// The first slot behind c whose group c's may take in; 512 if there is none.
-fn first_behind<'a>(
+// The first slot from a slot on that may be joined with slot c. Heads alone are looked at, and of these only the near ones.
+fn first_partner<'a>(
     scratch: &[u64],
+    heads: &[u64; 8],
     links: &'a [u64; 2304],
     matches: &'a [u64; 896],
     known: &'a [u64; 14],
@@ -194,14 +200,17 @@ fn first_behind<'a>(
     resources: usize,
     operations: usize,
     c: usize,
-) -> usize
-    requires { ⌜ (users ≤ 64) × (resources ≤ 64) × (operations ≤ 64) × (getD (now attributes) 0 0 ≤ 6) × (getD (now attributes) 1 0 ≤ 6) × (c < 512) × (length (now scratch) ≡ 2048) ⌝ }
-    ensures { λ r. ⌜ FirstIn (pairAt (now (links .entry)) (now (matches .entry)) (now (known .entry)) (now (attributes .entry)) users resources operations (now (scratch .entry)) c) (c + 1) 512 r ⌝ }
+    from: usize,
+) -> Found
+    requires { ⌜ (users ≤ 64) × (resources ≤ 64) × (operations ≤ 64) × (getD (now attributes) 0 0 ≤ 6) × (getD (now attributes) 1 0 ≤ 6) × (c < 512) × (from ≤ 512) × (length (now scratch) ≡ 2048) × Marked (now heads) (now scratch) ⌝ }
+    ensures { λ r. ⌜ Finds (now (links .entry)) (now (matches .entry)) (now (known .entry)) (now (attributes .entry)) users resources operations (now (scratch .entry)) c from (r .slot) (r .level) ⌝ }
 {
     // Most slots are no heads.
     if is_head(scratch, c) {
-        for j in c + 1..512 {
-            if is_pair(
+        let g = group_at(scratch, c);
+        let mut k = next_near(scratch, heads, g, from);
+        while k < 512 {
+            let level = level_beside(
                 scratch,
                 links,
                 matches,
@@ -211,55 +220,21 @@ fn first_behind<'a>(
                 resources,
                 operations,
                 c,
-                j,
-            ) {
-                return j;
+                k,
+            );
+            if level < 4 {
+                return Found {
+                    slot: k,
+                    level: level,
+                };
             }
+            k = next_near(scratch, heads, g, k + 1);
         }
     }
-    512
-}
-
-// The first slot to be joined with c: one before it, or else one behind it; 512 if there is none.
-fn first_partner<'a>(
-    scratch: &[u64],
-    links: &'a [u64; 2304],
-    matches: &'a [u64; 896],
-    known: &'a [u64; 14],
-    attributes: &'a [usize; 2],
-    users: usize,
-    resources: usize,
-    operations: usize,
-    c: usize,
-) -> usize
-    requires { ⌜ (users ≤ 64) × (resources ≤ 64) × (operations ≤ 64) × (getD (now attributes) 0 0 ≤ 6) × (getD (now attributes) 1 0 ≤ 6) × (c < 512) × (length (now scratch) ≡ 2048) ⌝ }
-    ensures { λ r. ⌜ Partner (pairAt (now (links .entry)) (now (matches .entry)) (now (known .entry)) (now (attributes .entry)) users resources operations (now (scratch .entry))) c r ⌝ }
-{
-    let i = first_before(
-        scratch,
-        links,
-        matches,
-        known,
-        attributes,
-        users,
-        resources,
-        operations,
-        c,
-    );
-    if i < 512 {
-        return i;
+    Found {
+        slot: 512,
+        level: 4,
     }
-    first_behind(
-        scratch,
-        links,
-        matches,
-        known,
-        attributes,
-        users,
-        resources,
-        operations,
-        c,
-    )
 }
 
 // The last word of a slot.
@@ -268,17 +243,6 @@ fn pack(atoms: u64, level: usize, head: usize) -> u64
     ensures { λ w. ⌜ w ≡ restOf atoms level head ⌝ }
 {
     atoms + 0x10_0000_0000 * level as u64 + 0x40_0000_0000 * head as u64
-}
-
-// The last word of a slot, with head i in the place of head j.
-fn reheaded(rest: u64, i: usize, j: usize) -> u64
-    requires { ⌜ i < 512 ⌝ }
-    ensures { λ w. ⌜ w ≡ reheaded i j rest ⌝ }
-{
-    if rest / 0x40_0000_0000 == j as u64 {
-        return rest % 0x40_0000_0000 + 0x40_0000_0000 * i as u64;
-    }
-    rest
 }
 
 // Writes the words of a slot.
@@ -309,23 +273,71 @@ fn take_in(scratch: &mut [u64], i: usize, j: usize, level: usize)
     store(scratch, i, both);
 }
 
-// Every slot with the head j gets the head i.
-fn rehead(scratch: &mut [u64], i: usize, j: usize)
-    requires { ⌜ (i < 512) × (length (now scratch) ≡ 2048) ⌝ }
-    ensures { λ _. ⌜ Reheaded (now (scratch .entry)) (now (scratch .exit)) i j ⌝ }
+// The last word of a slot, with the head that another slot's last word names.
+fn headed_as(rest: u64, other: u64) -> u64
+    ensures { λ w. ⌜ w ≡ rest % 2 ^ 38 + 2 ^ 38 * headIn other ⌝ }
 {
-    for k in 0..512 {
-        scratch[4 * k + 3] = reheaded(scratch[4 * k + 3], i, j);
-    }
+    rest % 0x40_0000_0000 + 0x40_0000_0000 * (other / 0x40_0000_0000)
 }
 
-// Joins the group of slot j to that of slot i.
+// Slot k gets the head that slot p names.
+fn take_head(scratch: &mut [u64], k: usize, p: usize)
+    requires { ⌜ (k < 512) × (p < 512) × (length (now scratch) ≡ 2048) ⌝ }
+    ensures { λ _. ⌜ now (scratch .exit) ≡ headTaken (now (scratch .entry)) k p ⌝ }
+{
+    scratch[4 * k + 3] = headed_as(scratch[4 * k + 3], scratch[4 * p + 3]);
+}
+
+// Joins the group of slot j to that of slot i. The other slots of j's group go on naming j: the last pass finds their head.
 fn join(scratch: &mut [u64], i: usize, j: usize, level: usize)
     requires { ⌜ (i < j) × (j < 512) × (level < 4) × (length (now scratch) ≡ 2048) ⌝ }
     ensures { λ _. ⌜ Joined (now (scratch .entry)) (now (scratch .exit)) i j level ⌝ }
 {
     take_in(scratch, i, j, level);
-    rehead(scratch, i, j);
+    take_head(scratch, j, i);
+}
+
+// Gives every slot the head of the slot that it names. A slot names itself or an earlier one, whose head is right already.
+fn resolve(scratch: &mut [u64])
+    requires { ⌜ length (now scratch) ≡ 2048 ⌝ }
+    ensures { λ _. ⌜ Resolved (now (scratch .entry)) (now (scratch .exit)) ⌝ }
+{
+    for k in 0..512 {
+        let named = lower(head_at(scratch, k), 511);
+        take_head(scratch, k, named);
+    }
+}
+
+// The heads among the 64 slots of a word of marks.
+fn heads_in(scratch: &[u64], word: usize) -> u64
+    requires { ⌜ (word < 8) × (length (now scratch) ≡ 2048) ⌝ }
+    ensures { λ m. ⌜ m ≡ maskOf 64 (λ k. isHeadAt (now (scratch .entry)) (64 * word + k)) ⌝ }
+{
+    let mut m: u64 = 0;
+    for k in 0..64 {
+        if is_head(scratch, 64 * word + k) {
+            m = sets::with(m, k);
+        }
+    }
+    m
+}
+
+// Marks every head, whatever the table held: bit k % 64 of word k / 64. A slice, since only a slice tells its length to a proof.
+fn mark(scratch: &[u64], heads: &mut [u64])
+    requires { ⌜ (length (now heads) ≡ 8) × (length (now scratch) ≡ 2048) ⌝ }
+    ensures { λ _. ⌜ Marked (now (heads .exit)) (now (scratch .entry)) ⌝ }
+{
+    for word in 0..8 {
+        heads[word] = heads_in(scratch, word);
+    }
+}
+
+// Slot j is no head any more.
+fn unmark(heads: &mut [u64; 8], j: usize)
+    requires { ⌜ j < 512 ⌝ }
+    ensures { λ _. ⌜ now (heads .exit) ≡ unmarked (now (heads .entry)) j ⌝ }
+{
+    heads[j / 64] = sets::without(heads[j / 64], sets::with(0, j % 64));
 }
 
 // Whether a part stands in the slot: the part of role k / 16 with the lowest operation k % 16.
@@ -456,6 +468,7 @@ fn fill<'a>(
 // slots is left before, so that at first only the slots behind `start` are tried; after a join both sides are, since the group is a new one.
 fn settle<'a>(
     scratch: &mut [u64],
+    heads: &mut [u64; 8],
     links: &'a [u64; 2304],
     matches: &'a [u64; 896],
     known: &'a [u64; 14],
@@ -465,13 +478,14 @@ fn settle<'a>(
     operations: usize,
     start: usize,
 ) -> usize
-    requires { ⌜ (users ≤ 64) × (resources ≤ 64) × (operations ≤ 64) × (getD (now attributes) 0 0 ≤ 6) × (getD (now attributes) 1 0 ≤ 6) × (start < 512) × (length (now scratch) ≡ 2048) ⌝ }
-    ensures { λ n. ⌜ (length (now (scratch .exit)) ≡ 2048) × (n + heads (now (scratch .exit)) ≤ heads (now (scratch .entry))) × ((F : Policy) → Sized F → Paired F (now (links .entry)) (now (matches .entry)) (now (known .entry)) (now (attributes .entry)) users resources operations → (made : ℕ) → Settled F (now (scratch .entry)) made start → Settled F (now (scratch .exit)) (made + n) (start + 1)) ⌝ }
+    requires { ⌜ (users ≤ 64) × (resources ≤ 64) × (operations ≤ 64) × (getD (now attributes) 0 0 ≤ 6) × (getD (now attributes) 1 0 ≤ 6) × (start < 512) × (length (now scratch) ≡ 2048) × Marked (now heads) (now scratch) ⌝ }
+    ensures { λ n. ⌜ (length (now (scratch .exit)) ≡ 2048) × (n + headCount (now (scratch .exit)) ≤ headCount (now (scratch .entry))) × Marked (now (heads .exit)) (now (scratch .exit)) × ((F : Policy) → Sized F → Paired F (now (links .entry)) (now (matches .entry)) (now (known .entry)) (now (attributes .entry)) users resources operations → (made : ℕ) → Settled F (now (scratch .entry)) made start → Settled F (now (scratch .exit)) (made + n) (start + 1)) ⌝ }
 {
     let mut merges: usize = 0;
     let mut c = start;
-    let mut other = first_behind(
+    let mut other = first_partner(
         scratch,
+        heads,
         links,
         matches,
         known,
@@ -480,27 +494,18 @@ fn settle<'a>(
         resources,
         operations,
         c,
+        c + 1,
     );
-    while other < 512 {
-        let i = lower(c, other);
-        let j = higher(c, other);
-        let level = level_if_joined(
-            scratch,
-            links,
-            matches,
-            known,
-            attributes,
-            users,
-            resources,
-            operations,
-            i,
-            j,
-        );
-        join(scratch, i, j, level);
+    while other.slot < 512 {
+        let i = lower(c, other.slot);
+        let j = higher(c, other.slot);
+        join(scratch, i, j, other.level);
+        unmark(heads, j);
         merges += 1;
         c = i;
         other = first_partner(
             scratch,
+            heads,
             links,
             matches,
             known,
@@ -509,6 +514,7 @@ fn settle<'a>(
             resources,
             operations,
             c,
+            0,
         );
     }
     merges
@@ -544,10 +550,13 @@ pub fn merge<'a>(
         operations,
         roles,
     );
+    let mut heads = [0u64; 8];
+    mark(scratch, &mut heads);
     let mut merges: usize = 0;
     for front in 0..512 {
         merges += settle(
             scratch,
+            &mut heads,
             links,
             matches,
             known,
@@ -558,5 +567,6 @@ pub fn merge<'a>(
             front,
         );
     }
+    resolve(scratch);
     merges
 }

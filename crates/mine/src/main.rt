@@ -1,43 +1,9 @@
 // Mines the role file on standard input. Writes the rules to rules.out in the working directory and prints the counts and the cost; on a
 // refusal prints its number, and rules.out stays as it is. Where the system does not read or write, a line on standard error says so and
 // rules.out stays as it is too: the rules go to a new file beside it, which takes its name when all is written.
-ghost use Prim.Native.Nat.{_≤_};
 ghost use lib.ListN.{length};
 ghost use Rattle.mine.specs.Room.{Fits};
 use mining::Mined;
-
-struct Input {
-    failed: bool,
-    length: usize,
-}
-
-// Reads standard input until it ends or fills what is lent.
-fn read_input(input: &mut [u8]) -> Input
-    ensures { λ r. ⌜ r .length ≤ length (now (input .exit)) ⌝ }
-{
-    let mut at: usize = 0;
-    while at < input.len() {
-        let got = libc::read(libc::STDIN_FILENO, &mut input[at..]);
-        if got < 0 {
-            return Input {
-                failed: true,
-                length: 0,
-            };
-        }
-        let more = io::count(got, &input[at..]);
-        if more == 0 {
-            return Input {
-                failed: false,
-                length: at,
-            };
-        }
-        at = at + more;
-    }
-    Input {
-        failed: false,
-        length: at,
-    }
-}
 
 // Writes the rules to a file that is open, for everybody to read, and sees them to the device.
 fn fill(fd: i32, rules: &[u8]) -> bool {
@@ -81,36 +47,12 @@ fn save(rules: &[u8]) -> bool {
     true
 }
 
-// Prints a name and a number.
-fn print_count(name: &[u8], n: usize) -> bool {
-    if !io::write_all(libc::STDOUT_FILENO, name) {
-        return false;
-    }
-    io::print_decimal(libc::STDOUT_FILENO, n as u64)
-}
-
 // Prints the counts and the cost.
 fn print_counts(parts: usize, rules: usize, merges: usize, cost: usize) -> bool {
-    if !print_count(b"parts ", parts) {
-        return false;
-    }
-    if !print_count(b" rules ", rules) {
-        return false;
-    }
-    if !print_count(b" merges ", merges) {
-        return false;
-    }
-    print_count(b" cost ", cost)
-}
-
-// Ends the line that was printed, or says that it could not be.
-fn end_line(printed: bool) {
-    if printed {
-        if io::write_all(libc::STDOUT_FILENO, b"\n") {
-            return;
-        }
-    }
-    os::fail(b"mine: cannot print the result");
+    let one = programs::say_count(true, b"parts ", parts);
+    let two = programs::say_count(one, b" rules ", rules);
+    let three = programs::say_count(two, b" merges ", merges);
+    programs::say_count(three, b" cost ", cost)
 }
 
 // Saves and prints what came of mining.
@@ -119,7 +61,7 @@ fn finish(mined: Mined, out: &[u8])
 {
     match mined {
         Mined::Refused(n) => {
-            end_line(print_count(b"refused ", n));
+            programs::end_line(programs::say_count(true, b"refused ", n));
         }
         Mined::Written {
             length,
@@ -129,7 +71,7 @@ fn finish(mined: Mined, out: &[u8])
             cost,
         } => {
             if save(&out[0..length]) {
-                end_line(print_counts(parts, rules, merges, cost));
+                programs::end_line(print_counts(parts, rules, merges, cost));
             }
         }
     }
@@ -146,7 +88,7 @@ fn mine_file(file: &[u8]) {
 fn main() {
     // one byte more than a role file may have, so that a longer one is seen
     let mut input = io::large_buffer();
-    let read = read_input(&mut input);
+    let read = programs::read_open(libc::STDIN_FILENO, &mut input);
     if read.failed {
         os::fail(b"mine: cannot read standard input");
         return;

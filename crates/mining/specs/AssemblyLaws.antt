@@ -4,7 +4,9 @@ use Prim.Native.Nat.{ℕ, suc, _-_, _≤_, _<_}
 use lib.ListN.{length, getD}
 use mathlib.Core.List.{List, List·Memᴰ·head, List·Memᴰ·tail}
 use mathlib.Core.Path.{_≡_, refl, sym, ap, _∙_, subst}
+use native.Mathlib.Omega.{arith}
 use Rattle.admit.specs.AdmitLaws.{Sized}
+use Rattle.distinct.specs.Distinct.{distinctTable, havingTable, insideTable}
 use Rattle.files.specs.Answer.{Answer, refused, accepted}
 use Rattle.files.specs.BytesLaws.{Bytes, Carries, number-positive}
 use Rattle.files.specs.Calls.{Counts, minedBytes, minedCounts}
@@ -13,8 +15,8 @@ use Rattle.grants.specs.Links.{linkTable}
 use Rattle.loaded.specs.Record.{attributeTable, recordWith, recordOf}
 use Rattle.matches.specs.Matches.{matchTable, knownPlaces}
 use Rattle.matches.specs.MatchLaws.{knownIn, matchesIn}
-use Rattle.filewriter.specs.FileLaws.{file-means, measure-means}
-use Rattle.filewriter.specs.FileTable.{fileBytes, measuredOf}
+use Rattle.filewriter.specs.FileLaws.{keptIn, file-means, measure-means}
+use Rattle.filewriter.specs.FileTable.{keptTable, fileBytes, measuredOf}
 use Rattle.mining.specs.MineLaws.{Outcome, written}
 use Rattle.merging.specs.Steps.{Tables}
 use Rattle.linewriter.specs.Writing.{wrote, length-wrote}
@@ -23,6 +25,7 @@ use Rattle.policy.specs.Policy.{Policy}
 use Rattle.policy.specs.Rules.{user, resource}
 use Rattle.rolefile.specs.Reading.{refusal, loadedOf}
 use Rattle.rolefile.specs.SizedLaws.{accepted-sized}
+use Rattle.rulewriter.specs.WriterLaws.{distinctIn, havingIn, insideIn}
 use Rattle.sets.specs.Tests.{_∈_}
 use Rattle.slotgroups.specs.Scratch.{Merged}
 use Rattle.slotgroups.specs.Slots.{slotMerges}
@@ -49,53 +52,87 @@ byte-low (List·Memᴰ·tail {x = x} {xs = xs} m) h = byte-low m (λ i. h (suc i
 pub bytes-all : (s : List ℕ) → ((i : ℕ) → getD s i 0 < 256) → Bytes s
 bytes-all s h g m = byte-low m h
 
+-- ---- the record
+
+-- the tables and numbers are those of the policy's record
+pub record Stored (F : Policy) (known values kinds attributes holders permissions : List ℕ) (users resources operations roles : ℕ) : Type 0 where
+  pub of-known : known ≡ recordOf F .known
+  pub of-values : values ≡ recordOf F .values
+  pub of-kinds : kinds ≡ recordOf F .kinds
+  pub of-attributes : attributes ≡ recordOf F .attributes
+  pub of-holders : holders ≡ recordOf F .holders
+  pub of-permissions : permissions ≡ recordOf F .permissions
+  pub of-users : users ≡ recordOf F .users
+  pub of-resources : resources ≡ recordOf F .resources
+  pub of-operations : operations ≡ recordOf F .operations
+  pub of-roles : roles ≡ recordOf F .roles
+
+pub stored : (F : Policy) (f : RoleFile) → f ≡ recordOf F → Stored F (f .known) (f .values) (f .kinds) (f .attributes) (f .holders) (f .permissions) (f .users) (f .resources) (f .operations) (f .roles)
+stored F f e = record {
+  of-known = ap (λ (g : RoleFile). g .known) e;
+  of-values = ap (λ (g : RoleFile). g .values) e;
+  of-kinds = ap (λ (g : RoleFile). g .kinds) e;
+  of-attributes = ap (λ (g : RoleFile). g .attributes) e;
+  of-holders = ap (λ (g : RoleFile). g .holders) e;
+  of-permissions = ap (λ (g : RoleFile). g .permissions) e;
+  of-users = ap (λ (g : RoleFile). g .users) e;
+  of-resources = ap (λ (g : RoleFile). g .resources) e;
+  of-operations = ap (λ (g : RoleFile). g .operations) e;
+  of-roles = ap (λ (g : RoleFile). g .roles) e;
+}
+
 -- ---- the tables
 
-module _ (F : Policy) (Z : Sized F) (f : RoleFile) (shown : f ≡ recordOf F) (links matched known : List ℕ)
-    (p : links ≡ linkTable (f .known) (f .values) (f .kinds) (f .resources))
-    (q : matched ≡ matchTable (f .kinds) (f .known) (f .values) (f .holders) (f .users) (f .resources) (f .roles))
-    (r : known ≡ knownPlaces (f .users) (f .resources) (f .known)) where
-  links-so : links ≡ linksOf F
-  links-so = p ∙ ap (λ (g : RoleFile). linkTable (g .known) (g .values) (g .kinds) (g .resources)) shown
+-- the tables by which parts are merged and rules written are those of the policy
+pub record Tabled (F : Policy) (links matches known attributes holders permissions kinds distinct having inside : List ℕ) (users resources operations roles : ℕ) : Type 0 where
+  pub merging-by : Tables F links matches known attributes holders permissions users resources operations roles
+  pub of-kinds : kinds ≡ recordOf F .kinds
+  pub of-distinct : distinct ≡ distinctIn F
+  pub of-having : having ≡ havingIn F
+  pub of-inside : inside ≡ insideIn F
 
-  matched-so : matched ≡ matchesIn F
-  matched-so = q ∙ ap (λ (g : RoleFile). matchTable (g .kinds) (g .known) (g .values) (g .holders) (g .users) (g .resources) (g .roles)) shown
+pub tabled : (F : Policy) (known values kinds attributes holders permissions : List ℕ) (users resources operations roles : ℕ) → Stored F known values kinds attributes holders permissions users resources operations roles
+    → (links matched places distinct having inside : List ℕ) → links ≡ linkTable known values kinds resources → matched ≡ matchTable kinds known values holders users resources roles → places ≡ knownPlaces users resources known
+    → distinct ≡ distinctTable values holders kinds roles → having ≡ havingTable values holders kinds roles → inside ≡ insideTable values holders kinds roles
+    → Tabled F links matched places attributes holders permissions kinds distinct having inside users resources operations roles
+tabled F known values kinds attributes holders permissions users resources operations roles s links matched places distinct having inside p q r d h i = record {
+  merging-by = record {
+    of-links = p ∙ rw (s .of-known, s .of-values, s .of-kinds, s .of-resources) refl;
+    of-matches = q ∙ rw (s .of-kinds, s .of-known, s .of-values, s .of-holders, s .of-users, s .of-resources, s .of-roles) refl;
+    of-known = r ∙ rw (s .of-users, s .of-resources, s .of-known) refl;
+    of-attributes = s .of-attributes;
+    of-holders = s .of-holders;
+    of-permissions = s .of-permissions;
+    of-users = s .of-users;
+    of-resources = s .of-resources;
+    of-operations = s .of-operations;
+    of-roles = s .of-roles;
+  };
+  of-kinds = s .of-kinds;
+  of-distinct = d ∙ rw (s .of-values, s .of-holders, s .of-kinds, s .of-roles) refl;
+  of-having = h ∙ rw (s .of-values, s .of-holders, s .of-kinds, s .of-roles) refl;
+  of-inside = i ∙ rw (s .of-values, s .of-holders, s .of-kinds, s .of-roles) refl;
+}
 
-  known-so : known ≡ knownIn F
-  known-so = r ∙ ap (λ (g : RoleFile). knownPlaces (g .users) (g .resources) (g .known)) shown
+module _ (F : Policy) (Z : Sized F) (links matches known attributes holders permissions kinds distinct having inside : List ℕ) (users resources operations roles : ℕ)
+    (T : Tabled F links matches known attributes holders permissions kinds distinct having inside users resources operations roles) (t : List ℕ) (M : Merged F t) (kept : List ℕ)
+    (k : kept ≡ keptTable links matches known attributes users resources operations t) where
+  kept-so : kept ≡ keptIn F Z t M
+  kept-so = let by = T .merging-by in k ∙ rw (by .of-links, by .of-matches, by .of-known, by .of-attributes, by .of-users, by .of-resources, by .of-operations) refl
 
-  pub tables : Tables F links matched known (f .attributes) (f .holders) (f .permissions) (f .users) (f .resources) (f .operations) (f .roles)
-  tables = record {
-    of-links = links-so;
-    of-matches = matched-so;
-    of-known = known-so;
-    of-attributes = ap (λ (g : RoleFile). g .attributes) shown;
-    of-holders = ap (λ (g : RoleFile). g .holders) shown;
-    of-permissions = ap (λ (g : RoleFile). g .permissions) shown;
-    of-users = ap (λ (g : RoleFile). g .users) shown;
-    of-resources = ap (λ (g : RoleFile). g .resources) shown;
-    of-operations = ap (λ (g : RoleFile). g .operations) shown;
-    of-roles = ap (λ (g : RoleFile). g .roles) shown;
-  }
+  pub file-so : fileBytes kept distinct having inside kinds permissions operations t ≡ minedBytes 2 F
+  file-so = rw (kept-so, T .of-distinct, T .of-having, T .of-inside, T .of-kinds, T .merging-by .of-permissions, T .merging-by .of-operations) (file-means F Z t M)
 
-  -- what holds for the tables of the policy holds for those of the code
-  at-record : (Q : RoleFile → List ℕ → List ℕ → List ℕ → Type 0) → Q (recordOf F) (linksOf F) (matchesIn F) (knownIn F) → Q f links matched known
-  at-record Q h =
-      subst (λ (g : RoleFile). Q g links matched known) (sym shown)
-      (subst (λ (l : List ℕ). Q (recordOf F) l matched known) (sym links-so)
-      (subst (λ (l : List ℕ). Q (recordOf F) (linksOf F) l known) (sym matched-so)
-      (subst (λ (l : List ℕ). Q (recordOf F) (linksOf F) (matchesIn F) l) (sym known-so) h)))
+  pub measured-so : (m : Measured) → m ≡ measuredOf kept distinct having inside kinds permissions operations t
+      → (m .bytes ≡ length (minedBytes 2 F)) × (minedCounts 2 F ≡ record { size = m .bytes; parts = m .parts; rules = m .rules; merges = slotMerges F; cost = m .cost })
+  measured-so m e =
+      measure-means F Z t M m (e ∙ rw (kept-so, T .of-distinct, T .of-having, T .of-inside, T .of-kinds, T .merging-by .of-permissions, T .merging-by .of-operations) refl)
 
-  module _ (t : List ℕ) (M : Merged F t) where
-    pub file-so : fileBytes links matched known (f .attributes) (f .values) (f .holders) (f .kinds) (f .permissions) (f .users) (f .resources) (f .operations) (f .roles) t ≡ minedBytes 2 F
-    file-so = at-record (λ g l m k. fileBytes l m k (g .attributes) (g .values) (g .holders) (g .kinds) (g .permissions) (g .users) (g .resources) (g .operations) (g .roles) t ≡ minedBytes 2 F) (file-means F Z t M)
-
-    pub measured-so : (m : Measured) → m ≡ measuredOf links matched known (f .attributes) (f .values) (f .holders) (f .kinds) (f .permissions) (f .users) (f .resources) (f .operations) (f .roles) t
-        → (m .bytes ≡ length (minedBytes 2 F)) × (minedCounts 2 F ≡ record { size = m .bytes; parts = m .parts; rules = m .rules; merges = slotMerges F; cost = m .cost })
-    measured-so =
-        at-record (λ g l m k. (x : Measured) → x ≡ measuredOf l m k (g .attributes) (g .values) (g .holders) (g .kinds) (g .permissions) (g .users) (g .resources) (g .operations) (g .roles) t
-        → (x .bytes ≡ length (minedBytes 2 F)) × (minedCounts 2 F ≡ record { size = x .bytes; parts = x .parts; rules = x .rules; merges = slotMerges F; cost = x .cost }))
-        (measure-means F Z t M)
+-- what was measured is as long as what is written
+pub measured-long : (kept distinct having inside kinds permissions : List ℕ) (operations : ℕ) (t : List ℕ) (m : Measured) → m ≡ measuredOf kept distinct having inside kinds permissions operations t
+    → m .bytes ≡ length (fileBytes kept distinct having inside kinds permissions operations t)
+unfolding measuredOf
+measured-long kept distinct having inside kinds permissions operations t m e = ap (λ (x : Measured). x .bytes) e
 
 -- the sizes of a loaded record
 pub record-sizes : (F : Policy) → Sized F → (f : RoleFile) → f ≡ recordOf F → (f .users ≤ 64) × (f .resources ≤ 64) × (f .operations ≤ 16) × (f .roles ≤ 32) × (getD (f .attributes) 0 0 ≤ 6) × (getD (f .attributes) 1 0 ≤ 6)
@@ -113,5 +150,8 @@ answered file scratch former h F q m merges e g l bytes out b o =
     (written file scratch former h F q l out (o ∙ ap (λ (x : List ℕ). wrote x former) b))
 
 -- writing leaves the output as long as it was
-pub wrote-long : (bytes mined former out : List ℕ) → bytes ≡ mined → out ≡ wrote bytes former → length mined ≤ length former → length out ≡ length former
-wrote-long bytes mined former out b e h = ap length (e ∙ ap (λ (x : List ℕ). wrote x former) b) ∙ length-wrote mined former h
+pub wrote-long : (kept distinct having inside kinds permissions : List ℕ) (operations : ℕ) (t : List ℕ) (m : Measured) → m ≡ measuredOf kept distinct having inside kinds permissions operations t
+    → (former out : List ℕ) → out ≡ wrote (fileBytes kept distinct having inside kinds permissions operations t) former → m .bytes ≤ length former → length out ≡ length former
+wrote-long kept distinct having inside kinds permissions operations t m e former out w q =
+    let p = measured-long kept distinct having inside kinds permissions operations t m e in
+    ap length w ∙ length-wrote (fileBytes kept distinct having inside kinds permissions operations t) former (omega (arith, p, q))

@@ -86,3 +86,7 @@ module _ (file : List ℕ) (scratch : ℕ) (former : List ℕ) where
       → (r ≡ minedOf (mineAnswer 2 file scratch (length former))) × (out ≡ mineOutput 2 file scratch former)
       × ((c : Counts) → mineAnswer 2 file scratch (length former) ≡ accepted c → (F : Policy) × (readRoles 2 file ≡ accepted F) × Demand3 2 (settingOf F) (rolesIn F) (take (c .size) out) c)
   promised b r out o = (o .0, o .1, demanded b out (o .1))
+
+-- the answer and the output, for every file that states a policy
+abbrev pub Result : Policy → List ℕ → Mined → List ℕ → Type 0
+Result F former r out = (file : List ℕ) (n : ℕ) → 4096 ≤ n → readRoles 2 file ≡ accepted F → Outcome file n former r out

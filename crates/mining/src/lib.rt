@@ -1,14 +1,17 @@
 // Mining: a role file's rules, written into lent memory.
 ghost use Prim.Native.Nat.{ℕ, _≤_};
-ghost use lib.ListN.{length, take};
+ghost use lib.Dec.{ltb};
+ghost use lib.ListN.{length, getD, take};
 ghost use mathlib.Core.Path.{_≡_};
+ghost use Rattle.admit.specs.AdmitLaws.{Sized};
 ghost use Rattle.files.specs.Answer.{accepted};
 ghost use Rattle.files.specs.Calls.{Counts, mineAnswer, mineOutput};
 ghost use Rattle.files.specs.Demand3.{Demand3};
 ghost use Rattle.files.specs.RoleFile.{readRoles};
 ghost use Rattle.policy.specs.Policy.{Policy, settingOf, rolesIn};
+ghost use Rattle.mining.specs.AssemblyLaws.{Stored, Tabled};
 ghost use Rattle.mining.specs.Mined.{minedOf};
-ghost use Rattle.mining.specs.MineLaws.{Outcome};
+ghost use Rattle.mining.specs.MineLaws.{Outcome, Result};
 
 // A refusal's number; or the bytes of the rule file, the parts of the role file, the rules and merges made, and the rules' cost.
 pub enum Mined {
@@ -22,75 +25,81 @@ pub enum Mined {
     },
 }
 
-// Mining with the words of scratch that it needs, whatever they hold.
-fn mine_in(file: &[u8], scratch: &mut [u64], out: &mut [u8]) -> Mined
-    requires { ⌜ length (now scratch) ≡ 2048 ⌝ }
-    ensures { λ r. ⌜ ((n : ℕ) → 4096 ≤ n → Outcome (now (file .entry)) n (now (out .entry)) r (now (out .exit))) ⌝ }
+// Whether so much memory has no room for so many bytes.
+fn lacks_room(room: usize, bytes: usize) -> bool
+    ensures { λ r. ⌜ r ≡ ltb room bytes ⌝ }
 {
-    let l = rolefile::read(file);
-    if l.code != 0 {
-        return Mined::Refused(l.code);
-    }
-    let f = l.file;
-    let mut links = [0u64; 2304];
-    grants::links(&f.known, &f.values, &f.kinds, f.resources, &mut links);
-    let mut matched = [0u64; 896];
-    matches::matches(
-        &f.kinds,
-        &f.known,
-        &f.values,
-        &f.holders,
-        f.users,
-        f.resources,
-        f.roles,
-        &mut matched,
-    );
-    let mut known = [0u64; 14];
-    matches::known_places(f.users, f.resources, &f.known, &mut known);
+    room < bytes
+}
+
+// Mining by the tables of a policy: its parts are merged, the rules measured, and written if there is room for them.
+fn mine_tables<'a>(
+    links: &'a [u64; 2304],
+    matched: &'a [u64; 896],
+    known: &'a [u64; 14],
+    attributes: &'a [usize; 2],
+    holders: &'a [u64; 32],
+    permissions: &'a [u64; 512],
+    kinds: &'a [u64; 2],
+    distinct: &'a [u64; 896],
+    having: &'a [u64; 896],
+    inside: &'a [u64; 896],
+    users: usize,
+    resources: usize,
+    operations: usize,
+    roles: usize,
+    scratch: &mut [u64],
+    out: &mut [u8],
+) -> Mined
+    requires { ⌜ (users ≤ 64) × (resources ≤ 64) × (operations ≤ 16) × (roles ≤ 32) × (getD (now attributes) 0 0 ≤ 6) × (getD (now attributes) 1 0 ≤ 6) × (length (now scratch) ≡ 2048) ⌝ }
+    ensures { λ r. ⌜ ((F : Policy) → Sized F → Tabled F (now (links .entry)) (now (matched .entry)) (now (known .entry)) (now (attributes .entry)) (now (holders .entry)) (now (permissions .entry)) (now (kinds .entry)) (now (distinct .entry)) (now (having .entry)) (now (inside .entry)) users resources operations roles → Result F (now (out .entry)) r (now (out .exit))) ⌝ }
+{
     let merges = merging::merge(
         scratch,
-        &links,
-        &matched,
-        &known,
-        &f.attributes,
-        &f.holders,
-        &f.permissions,
-        f.users,
-        f.resources,
-        f.operations,
-        f.roles,
+        links,
+        matched,
+        known,
+        attributes,
+        holders,
+        permissions,
+        users,
+        resources,
+        operations,
+        roles,
+    );
+    let mut kept = [0u64; 512];
+    filewriter::kept_places(
+        links,
+        matched,
+        known,
+        attributes,
+        users,
+        resources,
+        operations,
+        scratch,
+        &mut kept,
     );
     let m = filewriter::measure(
-        &links,
-        &matched,
-        &known,
-        &f.attributes,
-        &f.values,
-        &f.holders,
-        &f.kinds,
-        &f.permissions,
-        f.users,
-        f.resources,
-        f.operations,
-        f.roles,
+        &kept,
+        distinct,
+        having,
+        inside,
+        kinds,
+        permissions,
+        operations,
         scratch,
     );
-    if out.len() < m.bytes {
+    if lacks_room(out.len(), m.bytes) {
         return Mined::Refused(9);
     }
     filewriter::write_rules(
-        &links,
-        &matched,
-        &known,
-        &f.attributes,
-        &f.values,
-        &f.holders,
-        &f.kinds,
-        &f.permissions,
-        f.users,
-        f.resources,
-        f.operations,
-        f.roles,
+        &kept,
+        distinct,
+        having,
+        inside,
+        kinds,
+        permissions,
+        operations,
         scratch,
         out,
     );
@@ -101,6 +110,88 @@ fn mine_in(file: &[u8], scratch: &mut [u64], out: &mut [u8]) -> Mined
         merges: merges,
         cost: m.cost,
     }
+}
+
+// Mining by the record of a policy.
+fn mine_record<'a>(
+    known: &'a [u64; 12],
+    values: &'a [u64; 768],
+    kinds: &'a [u64; 2],
+    attributes: &'a [usize; 2],
+    holders: &'a [u64; 32],
+    permissions: &'a [u64; 512],
+    users: usize,
+    resources: usize,
+    operations: usize,
+    roles: usize,
+    scratch: &mut [u64],
+    out: &mut [u8],
+) -> Mined
+    requires { ⌜ (users ≤ 64) × (resources ≤ 64) × (operations ≤ 16) × (roles ≤ 32) × (getD (now attributes) 0 0 ≤ 6) × (getD (now attributes) 1 0 ≤ 6) × (length (now scratch) ≡ 2048) ⌝ }
+    ensures { λ r. ⌜ ((F : Policy) → Sized F → Stored F (now (known .entry)) (now (values .entry)) (now (kinds .entry)) (now (attributes .entry)) (now (holders .entry)) (now (permissions .entry)) users resources operations roles → Result F (now (out .entry)) r (now (out .exit))) ⌝ }
+{
+    let mut found = [0u64; 896];
+    let mut having = [0u64; 896];
+    let mut inside = [0u64; 896];
+    distinct::distinct_values(
+        values,
+        holders,
+        kinds,
+        roles,
+        &mut found,
+        &mut having,
+        &mut inside,
+    );
+    let mut places = [0u64; 14];
+    matches::known_places(users, resources, known, &mut places);
+    let mut links = [0u64; 2304];
+    tables::links(known, kinds, resources, &found, &having, &mut links);
+    let mut matched = [0u64; 896];
+    tables::matches(&places, kinds, &found, &having, &mut matched);
+    mine_tables(
+        &links,
+        &matched,
+        &places,
+        attributes,
+        holders,
+        permissions,
+        kinds,
+        &found,
+        &having,
+        &inside,
+        users,
+        resources,
+        operations,
+        roles,
+        scratch,
+        out,
+    )
+}
+
+// Mining with the words of scratch that it needs, whatever they hold.
+fn mine_in(file: &[u8], scratch: &mut [u64], out: &mut [u8]) -> Mined
+    requires { ⌜ length (now scratch) ≡ 2048 ⌝ }
+    ensures { λ r. ⌜ ((n : ℕ) → 4096 ≤ n → Outcome (now (file .entry)) n (now (out .entry)) r (now (out .exit))) ⌝ }
+{
+    let l = rolefile::read(file);
+    if l.code != 0 {
+        return Mined::Refused(l.code);
+    }
+    let f = l.file;
+    mine_record(
+        &f.known,
+        &f.values,
+        &f.kinds,
+        &f.attributes,
+        &f.holders,
+        &f.permissions,
+        f.users,
+        f.resources,
+        f.operations,
+        f.roles,
+        scratch,
+        out,
+    )
 }
 
 // The answer, the output memory at the end, and the third demand about the bytes there. Scratch may hold anything before, and does after.

@@ -8,7 +8,7 @@ use lib.Pow.{pow-pos}
 use mathlib.Core.Bool.{Bool, true, false, cond, _&&_, _||_, not}
 use mathlib.Core.List.{List}
 use mathlib.Core.Logic.{_⊎_, inl, inr}
-use mathlib.Core.Path.{_≡_, refl, sym, ap, ap₂, _∙_, subst}
+use mathlib.Core.Path.{_≡_, refl, sym, ap, _∙_, subst}
 use native.Mathlib.Omega.{arith}
 use Rattle.admit.specs.AdmitLaws.{Sized}
 use Rattle.conjuncts.specs.Summary.{linkedWith}
@@ -20,89 +20,94 @@ use Rattle.policy.specs.RuleLaws.{Lawful, same-out}
 use Rattle.policy.specs.Rules.{Side, Setting, Block, both, attrsOf, ownAt, Triple, Some, user, resource}
 use Rattle.policy.specs.SideLaws.{Ordered}
 use Rattle.rulegrants.specs.RuleGrid.{rowOf}
-use Rattle.sets.specs.LoopLaws.{narrowing, all-found}
-use Rattle.sets.specs.MaskLaws.{bit-maskOf, mask-lt, mask-same, mask-none, empty-law}
+use Rattle.sets.specs.LoopLaws.{narrowing}
+use Rattle.sets.specs.MaskLaws.{bit-maskOf, mask-lt, mask-same, empty-law}
 use Rattle.sets.specs.Sets.{bit, bit-none, maskOf, bit-mask, subset, subset-in}
-use Rattle.sets.specs.Tests.{Is, and-in, and-l, and-r, or-l, or-r, or-out, never, test, imp, imp-in, _∈_, all, all-in, all-out, any, any-in, any-out, keep-in, upTo, upTo-in, upTo-out, isSome, isSome-out, not-in, not-out}
-use Rattle.words.specs.WordLaws.{same-tests, spans-own, fits-words}
+use Rattle.sets.specs.Tests.{Is, and-in, and-l, and-r, or-l, or-r, or-out, never, test, imp, imp-in, all, all-in, all-out, any, any-in, any-out, keep-in, upTo, upTo-in, upTo-out, isSome, isSome-out, not-in, not-out}
+use Rattle.words.specs.WordLaws.{all-ext, same-tests, spans-own, fits-words}
 use Rattle.words.specs.Words.{Words, Roomy, metBy, passes, joined, together, wordsOf, atomsHold, coverGrants, spans, pairFits}
 use Rattle.pairing.specs.FitLaws.{linksOf, Declared, declared-joined, row-bit, roomy, atoms-linked, words-same, words-declared}
 use Rattle.pairing.specs.Pairing.{less, cornerFree, reaches, cornersFree, mayJoin}
 
 -- a set that is not empty has a member
-some-member : (m : ℕ) → m < 2 ^ 64 → (m ≡ 0 → ⊥) → (i : ℕ) × (i < 64) × Is (bit m i)
+pub some-member : (m : ℕ) → m < 2 ^ 64 → (m ≡ 0 → ⊥) → (i : ℕ) × (i < 64) × Is (bit m i)
 some-member m l h = test (any (bit m) (upTo 64))
     (λ q. let t = any-out (bit m) (upTo 64) q in (t .0, upTo-out 64 (t .1), t .2))
     (λ q. absurd (h (eqb-true m 0 (empty-law 64 m l ∙ not-in (any (bit m) (upTo 64)) q))))
 
+-- a row has resources below 64
+row-low : (links : List ℕ) (m us rs u : ℕ) → rowOf links m us rs u < 2 ^ 64
+unfolding rowOf linkedWith
+row-low links m us rs u = test (bit us u) (λ e. rw e (mask-lt 64 (narrowing rs (bit m) (λ i. getD links (64 * i + u) 0) 36))) (λ e. rw e (pow-pos 64))
+
+-- a member of the one set and not of the other
+pub less-out : (a b k : ℕ) → k < 64 → Is (bit (less a b) k) → Is (bit a k) × (bit b k ≡ false)
+less-out a b k l h =
+    let q = sym (bit-mask 64 (λ k. bit a k && not (bit b k)) k l) ∙ h in
+    (and-l (bit a k) _ q, not-out (bit b k) (and-r (bit a k) _ q))
+
 -- ---- the code's steps
 
 -- of two tests the first fails, or passes and the second decides
-first-fails : {a : Bool} (b : Bool) → a ≡ false → false ≡ (a && b)
-first-fails b e = rw e refl
+pub first-fails : {p a : Bool} (b : Bool) → p ≡ a → p ≡ false → false ≡ (a && b)
+first-fails b e h = rw (sym e ∙ h) refl
 
-first-passes : {a : Bool} (b : Bool) → a ≡ true → b ≡ (a && b)
-first-passes b e = rw e refl
+pub second-decides : {p q a b : Bool} → p ≡ a → p ≡ true → q ≡ b → q ≡ (a && b)
+second-decides e h k = rw (sym e ∙ h) k
 
 module _ (links : List ℕ) (atoms us rs : ℕ) where
-  -- a corner without users is free
-  pub free-users : us ≡ 0 → true ≡ cornerFree links atoms us rs
+  -- a corner is free if each of its users is joined with nothing of it
+  pub free-members : cornerFree links atoms us rs ≡ all (λ u. imp (bit us u) (eqb (linkedWith links atoms u rs) 0)) (upTo 64)
   unfolding cornerFree rowOf
-  free-users e = sym (all-in (λ u. eqb (rowOf links atoms us rs u) 0) (upTo 64) (λ u _. eq-eqb (rowOf links atoms us rs u) 0 (ap (λ (b : Bool). cond b (linkedWith links atoms u rs) 0) (ap (λ (m : ℕ). bit m u) e ∙ bit-none u))))
-
-  -- and one without resources
-  pub free-resources : rs ≡ 0 → true ≡ cornerFree links atoms us rs
-  unfolding cornerFree rowOf linkedWith
-  free-resources e = sym (all-in (λ u. eqb (rowOf links atoms us rs u) 0) (upTo 64) (λ u _. eq-eqb (rowOf links atoms us rs u) 0 (either (bit us u) (linkedWith links atoms u rs) (none-left u))))
+  free-members = all-ext (λ u. eqb (rowOf links atoms us rs u) 0) (λ u. imp (bit us u) (eqb (linkedWith links atoms u rs) 0)) (upTo 64) (λ u _. member (bit us u) (linkedWith links atoms u rs))
     where
-      none-left : (u : ℕ) → maskOf 64 (narrowing rs (bit atoms) (λ i. getD links (64 * i + u) 0) 36) ≡ 0
-      none-left u = mask-none 64 (narrowing rs (bit atoms) (λ i. getD links (64 * i + u) 0) 36) (λ r _. ap (λ (b : Bool). b && all (λ j. imp (bit atoms j) (bit (getD links (64 * j + u) 0) r)) (upTo 36)) (ap (λ (m : ℕ). bit m r) e ∙ bit-none r))
+      member : (b : Bool) (m : ℕ) → eqb (cond b m 0) 0 ≡ imp b (eqb m 0)
+      member true m = refl
+      member false m = eq-eqb 0 0 refl
 
-      either : (b : Bool) (m : ℕ) → m ≡ 0 → cond b m 0 ≡ 0
-      either true m q = q
-      either false m q = refl
-
-  -- one with both and without atoms is not: every user is joined with every resource
-  pub not-free : us < 2 ^ 64 → rs < 2 ^ 64 → (us ≡ 0 → ⊥) → (rs ≡ 0 → ⊥) → atoms ≡ 0 → false ≡ cornerFree links atoms us rs
+  -- nobody in it and nothing in it are joined
+  pub free-out : Is (cornerFree links atoms us rs) → (u r : ℕ) → u < 64 → r < 64 → Is (bit us u) → Is (bit rs r) → Is (all (λ i. imp (bit atoms i) (bit (getD links (64 * i + u) 0) r)) (upTo 36)) → ⊥
   unfolding cornerFree
-  not-free lu lr hu hr e =
-      let u = some-member us lu hu in
-      let r = some-member rs lr hr in
-      sym (all-found (λ u. eqb (rowOf links atoms us rs u) 0) (u .0) 64 (u .1) (ne-eqb (rowOf links atoms us rs (u .0)) 0 (λ z. never (joins (u .0) (r .0) (r .1) (u .2) (r .2)) (ap (λ (m : ℕ). bit m (r .0)) z ∙ bit-none (r .0)))))
-    where
-      joins : (u r : ℕ) → r < 64 → Is (bit us u) → Is (bit rs r) → Is (bit (rowOf links atoms us rs u) r)
-      joins u r l p q =
-          row-bit links atoms us rs u r l
-          ∙ and-in p (and-in q (all-in (λ i. imp (bit atoms i) (bit (getD links (64 * i + u) 0) r)) (upTo 36) (λ i _. imp-in (bit atoms i) (bit (getD links (64 * i + u) 0) r) (λ t. never t (ap (λ (m : ℕ). bit m i) e ∙ bit-none i)))))
+  free-out h u r lu lr p q k =
+      never (row-bit links atoms us rs u r lr ∙ and-in p (and-in q k))
+      (ap (λ (m : ℕ). bit m r) (eqb-true (rowOf links atoms us rs u) 0 (all-out (λ u. eqb (rowOf links atoms us rs u) 0) h (upTo-in lu))) ∙ bit-none r)
+
+  -- it is free if that is so
+  pub free-in : ((u r : ℕ) → u < 64 → r < 64 → Is (bit us u) → Is (bit rs r) → Is (all (λ i. imp (bit atoms i) (bit (getD links (64 * i + u) 0) r)) (upTo 36)) → ⊥) → Is (cornerFree links atoms us rs)
+  unfolding cornerFree
+  free-in h = all-in (λ u. eqb (rowOf links atoms us rs u) 0) (upTo 64) λ u m. test (eqb (rowOf links atoms us rs u) 0) (λ e. e) (λ e.
+      let t = some-member (rowOf links atoms us rs u) (row-low links atoms us rs u) (eqb-false _ 0 e) in
+      let k = sym (row-bit links atoms us rs u (t .0) (t .1)) ∙ t .2 in
+      let j = and-r (bit us u) _ k in
+      absurd (h u (t .0) (upTo-out 64 m) (t .1) (and-l (bit us u) _ k) (and-l (bit rs (t .0)) _ j) (and-r (bit rs (t .0)) _ j)))
+
+  -- one without resources is free
+  pub free-nothing : rs ≡ 0 → true ≡ cornerFree links atoms us rs
+  free-nothing e = sym (free-in (λ u r _ _ p q k. never q (ap (λ (m : ℕ). bit m r) e ∙ bit-none r)))
 
 module _ (W X : Words) where
-  -- what the code works out word by word
-  pub reaches-words : {m : ℕ} {p q : Bool} → m ≡ less (W .ops) (X .ops) → p ≡ subset (X .users) (W .users) → q ≡ subset (X .resources) (W .resources) → (eqb m 0 || (p && q)) ≡ reaches W X
+  -- the group has no operation that the other lacks
+  pub reaches-plain : {m : ℕ} → m ≡ less (W .ops) (X .ops) → m ≡ 0 → true ≡ reaches W X
   unfolding reaches
-  reaches-words e f g = rw (e, f, g) refl
+  reaches-plain e h = sym (or-l (subset (X .users) (W .users) && subset (X .resources) (W .resources)) (eq-eqb (less (W .ops) (X .ops)) 0 (sym e ∙ h)))
+
+  -- it has one
+  pub reaches-both : {m : ℕ} → m ≡ less (W .ops) (X .ops) → (m ≡ 0 → ⊥) → (subset (X .users) (W .users) && subset (X .resources) (W .resources)) ≡ reaches W X
+  unfolding reaches
+  reaches-both e h = rw (ne-eqb (less (W .ops) (X .ops)) 0 (λ q. h (e ∙ q))) refl
 
   module _ (links : List ℕ) where
     -- the first corner is not free
     pub corners-refused : {m a b : ℕ} {p : Bool} → m ≡ maskOf 64 (λ k. bit (W .atoms) k && bit (X .atoms) k) → a ≡ less (W .users) (X .users) → b ≡ less (X .resources) (W .resources)
         → p ≡ cornerFree links m a b → p ≡ false → false ≡ cornersFree links W X
     unfolding cornersFree joined
-    corners-refused e f g h q = first-fails (cornerFree links (joined W X .atoms) (less (X .users) (W .users)) (less (W .resources) (X .resources))) (sym (rw (e, f, g) at h) ∙ q)
+    corners-refused e f g h q = first-fails (cornerFree links (joined W X .atoms) (less (X .users) (W .users)) (less (W .resources) (X .resources))) (rw (e, f, g) at h) q
 
     -- it is, and the second decides
     pub corners-rest : {m a b c d : ℕ} {p q : Bool} → m ≡ maskOf 64 (λ k. bit (W .atoms) k && bit (X .atoms) k) → a ≡ less (W .users) (X .users) → b ≡ less (X .resources) (W .resources)
         → c ≡ less (X .users) (W .users) → d ≡ less (W .resources) (X .resources) → p ≡ cornerFree links m a b → p ≡ true → q ≡ cornerFree links m c d → q ≡ cornersFree links W X
     unfolding cornersFree joined
-    corners-rest e f g j k h t r = (rw (e, j, k) at r) ∙ first-passes (cornerFree links (joined W X .atoms) (less (X .users) (W .users)) (less (W .resources) (X .resources))) (sym (rw (e, f, g) at h) ∙ t)
-
-    -- one of the groups does not reach
-    pub join-refused : {p q : Bool} → p ≡ reaches W X → q ≡ reaches X W → (p && q) ≡ false → false ≡ mayJoin links W X
-    unfolding mayJoin
-    join-refused e f h = first-fails (cornersFree links W X) (sym (ap₂ _&&_ e f) ∙ h)
-
-    -- both do, and the corners decide
-    pub join-rest : {p q s : Bool} → p ≡ reaches W X → q ≡ reaches X W → (p && q) ≡ true → s ≡ cornersFree links W X → s ≡ mayJoin links W X
-    unfolding mayJoin
-    join-rest e f h r = r ∙ first-passes (cornersFree links W X) (sym (ap₂ _&&_ e f) ∙ h)
+    corners-rest e f g j k h t r = second-decides (rw (e, f, g) at h) t (rw (e, j, k) at r)
 
 -- ---- groups that fit together
 
@@ -210,35 +215,15 @@ module _ (P : Setting) (Z : Roomy P) (L : Lawful P) (W X : Words) (A : Stands P 
       go o (inl k) = never (and-l (bit (W .resources) r) _ (and-r (bit (W .users) u) _ (and-r (bit (W .ops) o) _ k))) qr
       go o (inr k) = never (and-l (bit (X .users) u) _ (and-r (bit (X .ops) o) _ k)) qu
 
-row-low : (links : List ℕ) (m us rs u : ℕ) → rowOf links m us rs u < 2 ^ 64
-unfolding rowOf linkedWith
-row-low links m us rs u = test (bit us u) (λ e. rw e (mask-lt 64 (narrowing rs (bit m) (λ i. getD links (64 * i + u) 0) 36))) (λ e. rw e (pow-pos 64))
-
--- a member of the one set and not of the other
-less-out : (a b k : ℕ) → k < 64 → Is (bit (less a b) k) → Is (bit a k) × (bit b k ≡ false)
-less-out a b k l h =
-    let q = sym (bit-mask 64 (λ k. bit a k && not (bit b k)) k l) ∙ h in
-    (and-l (bit a k) _ q, not-out (bit b k) (and-r (bit a k) _ q))
-
 module _ (F : Policy) (Z : Sized F) where
   fit-corner : (W X : Words) → Stands (settingOf F) W → Stands (settingOf F) X → Declared (settingOf F) (W .atoms) → (l : ℕ) → Is (pairFits (settingOf F) W X l)
       → Is (cornerFree (linksOf F) (joined W X .atoms) (less (W .users) (X .users)) (less (X .resources) (W .resources)))
-  unfolding cornerFree settingOf sideOf
-  fit-corner W X A B d l f = all-in (λ u. eqb (rowOf (linksOf F) (joined W X .atoms) (less (W .users) (X .users)) (less (X .resources) (W .resources)) u) 0) (upTo 64) free
-    where
-      apart : (u r : ℕ) → u < 64 → r < 64 → Is (bit (rowOf (linksOf F) (joined W X .atoms) (less (W .users) (X .users)) (less (X .resources) (W .resources)) u) r) → ⊥
-      apart u r bu br h =
-          let k = sym (row-bit (linksOf F) (joined W X .atoms) (less (W .users) (X .users)) (less (X .resources) (W .resources)) u r br) ∙ h in
-          let j = and-r (bit (less (W .users) (X .users)) u) _ k in
-          let p = less-out (W .users) (X .users) u bu (and-l (bit (less (W .users) (X .users)) u) _ k) in
-          let q = less-out (X .resources) (W .resources) r br (and-l (bit (less (X .resources) (W .resources)) r) _ j) in
-          corner-apart (settingOf F) (roomy F Z) (lawful F) W X A B l f u r bu br (p .0) (p .1) (q .0) (q .1)
-          (sym (atoms-linked F Z (joined W X .atoms) u r (declared-joined (settingOf F) W X d) (A .by-user u (p .0) .1) (B .by-resource r (q .0) .2)) ∙ and-r (bit (less (X .resources) (W .resources)) r) _ j)
-
-      free : (u : ℕ) → u ∈ upTo 64 → Is (eqb (rowOf (linksOf F) (joined W X .atoms) (less (W .users) (X .users)) (less (X .resources) (W .resources)) u) 0)
-      free u m = test (eqb (rowOf (linksOf F) (joined W X .atoms) (less (W .users) (X .users)) (less (X .resources) (W .resources)) u) 0) (λ e. e) (λ e.
-          let t = some-member (rowOf (linksOf F) (joined W X .atoms) (less (W .users) (X .users)) (less (X .resources) (W .resources)) u) (row-low (linksOf F) (joined W X .atoms) (less (W .users) (X .users)) (less (X .resources) (W .resources)) u) (eqb-false _ 0 e) in
-          absurd (apart u (t .0) (upTo-out 64 m) (t .1) (t .2)))
+  unfolding settingOf sideOf
+  fit-corner W X A B d l f = free-in (linksOf F) (joined W X .atoms) (less (W .users) (X .users)) (less (X .resources) (W .resources)) λ u r bu br h k j.
+      let p = less-out (W .users) (X .users) u bu h in
+      let q = less-out (X .resources) (W .resources) r br k in
+      corner-apart (settingOf F) (roomy F Z) (lawful F) W X A B l f u r bu br (p .0) (p .1) (q .0) (q .1)
+      (sym (atoms-linked F Z (joined W X .atoms) u r (declared-joined (settingOf F) W X d) (A .by-user u (p .0) .1) (B .by-resource r (q .0) .2)) ∙ j)
 
   -- THE LAW: groups that fit a level together pass the tests
   pub fit-joins : (W X : Words) → Stands (settingOf F) W → Stands (settingOf F) X → Declared (settingOf F) (W .atoms) → Declared (settingOf F) (X .atoms) → (l : ℕ) → Is (pairFits (settingOf F) W X l) → Is (mayJoin (linksOf F) W X)

@@ -1,36 +1,35 @@
 -- The levels worked out from the tables are those of the policy.
 -- Assumes nothing.
-use Prim.Native.Nat.{ℕ, suc, _+_, _^_, _≤_, _<_, max}
+use Prim.Native.Nat.{ℕ, suc, _+_, _*_, _^_, _≤_, _<_, max}
 use borrow.Author.Tests.{ltb-true, ltb-false}
 use lib.Dec.{eqb, ltb}
 use lib.ListN.{getD}
-use mathlib.Core.Bool.{Bool, true, false, cond, _||_}
+use mathlib.Core.Bool.{Bool, true, false, cond, _&&_, _||_, and-assoc}
 use mathlib.Core.List.{List, _++_}
 use mathlib.Core.Path.{_≡_, refl, sym, ap, ap₂, _∙_, subst, fun-ext}
 use native.Mathlib.Numerals.{add-one}
 use native.Mathlib.Omega.{arith}
 use Rattle.admit.specs.AdmitLaws.{Sized}
 use Rattle.grants.specs.Grid.{differenceOf, isSame}
-use Rattle.grants.specs.declared.Difference.{Difference}
 use Rattle.loaded.specs.Record.{attributeTable, recordWith, recordOf}
 use Rattle.matches.specs.MatchLaws.{knownIn, matchesIn, passing-means}
-use Rattle.matches.specs.Matches.{passingOf}
+use Rattle.matches.specs.Matches.{metOf, passingOf}
 use Rattle.policy.specs.Covering.{standsIn, fits, levelOf}
 use Rattle.policy.specs.Merging.{union, mergeable}
 use Rattle.policy.specs.Policy.{Policy, sideOf, settingOf}
 use Rattle.policy.specs.PolicyLaws.{lawful}
 use Rattle.policy.specs.Rules.{Which, by, Block, attrsOf, ownAt, Some, user, resource}
 use Rattle.sets.specs.LoopLaws.{any-found}
-use Rattle.sets.specs.Lowest.{lowest, lowest-least, lowest-some}
-use Rattle.sets.specs.MaskLaws.{mask-lt}
-use Rattle.sets.specs.Sets.{bit, maskOf}
-use Rattle.sets.specs.Tests.{Is, fails, never, test, any, any-in, any-out, upTo, upTo-in}
+use Rattle.sets.specs.Lowest.{lowest, lowest-most, lowest-least, lowest-some}
+use Rattle.sets.specs.MaskLaws.{and-true, bit-maskOf, mask-lt, mask-same, mask-wide}
+use Rattle.sets.specs.Sets.{bit, subset, maskOf}
+use Rattle.sets.specs.Tests.{Is, fails, never, test, imp, all, any, any-in, any-out, upTo, upTo-in}
 use Rattle.words.specs.WordLaws.{words-joined, union-joined, fits-words, own-words}
 use Rattle.words.specs.Words.{Words, passes, joined, together, wordsOf, pairFits}
 use Rattle.pairing.specs.FitLaws.{linksOf, Declared, roomy, beyond-means, Bounded, joined-self, own-fits, words-bounded, words-declared}
 use Rattle.pairing.specs.JoinLaws.{blocks-join}
-use Rattle.pairing.specs.Levels.{levelWithin, tablesFit, pairLevel, groupLevel}
-use Rattle.pairing.specs.Pairing.{firstBeyond, mayJoin}
+use Rattle.pairing.specs.Levels.{levelWithin, withOwn, tablesFit, pairLevel, groupLevel}
+use Rattle.pairing.specs.Pairing.{firstBeyond, grantsJust, mayJoin}
 
 -- ---- a loop over the levels: it is left at the first that passes, or ends
 
@@ -47,7 +46,7 @@ module _ (f : ℕ → Bool) where
       (λ q. let n = ltb-false (lowest f) l q in omega arith)
 
   -- where none below 3 passes it is 3
-  pub none-lowest : any f (upTo 3) ≡ false → 3 ≡ lowest f
+  none-lowest : any f (upTo 3) ≡ false → 3 ≡ lowest f
   unfolding lowest
   none-lowest h = rw (passed-by 3 h 0 (omega arith), passed-by 3 h 1 (omega arith), passed-by 3 h 2 (omega arith)) refl
 
@@ -61,18 +60,83 @@ module _ (f : ℕ → Bool) where
   unfolding levelWithin
   level-none l limit h e = sym (ap (λ (b : Bool). cond b (lowest f) 4) (ap (λ (n : ℕ). any f (upTo n)) (sym (e ∙ add-one limit)) ∙ h))
 
+  -- the level of one group, from the levels below 3: one that passes
+  pub group-found : (l : ℕ) → l ≡ levelWithin f 2 → l < 3 → l ≡ lowest f
+  unfolding levelWithin
+  group-found l e k = test (any f (upTo 3))
+      (λ q. e ∙ ap (λ (b : Bool). cond b (lowest f) 4) q)
+      (λ q. let d = e ∙ ap (λ (b : Bool). cond b (lowest f) 4) q in absurd (omega arith))
+
+  -- or none
+  pub group-none : (l : ℕ) → l ≡ levelWithin f 2 → 3 ≤ l → 3 ≡ lowest f
+  unfolding levelWithin
+  group-none l e k = test (any f (upTo 3))
+      (λ q. let d = e ∙ ap (λ (b : Bool). cond b (lowest f) 4) q in let m = lowest-most f in omega arith)
+      none-lowest
+
 -- ---- one level
 
+module _ (matches : List ℕ) (side members passing : ℕ) where
+  -- the 255 is asked for
+  pub own-asked : {own : Bool} {m r : ℕ} → own ≡ true → m ≡ metOf matches (7 * side + 6) members → r ≡ maskOf 64 (λ k. bit passing k && bit m k) → r ≡ withOwn matches side own members passing
+  unfolding withOwn
+  own-asked e q h = rw e (h ∙ ap (λ (x : ℕ). maskOf 64 (λ k. bit passing k && bit x k)) q)
+
+  -- it is not
+  pub own-not-asked : {own : Bool} → own ≡ false → passing ≡ withOwn matches side own members passing
+  unfolding withOwn
+  own-not-asked e = rw e refl
+
+-- who passes with the 255 or without, from those who pass without
+pub own-passing : (matches known : List ℕ) (attributes side members count : ℕ) (own : Bool) → count ≤ 64
+    → withOwn matches side own members (passingOf matches known attributes side false members count) ≡ passingOf matches known attributes side own members count
+unfolding withOwn passingOf
+own-passing matches known attributes side members count false l = refl
+own-passing matches known attributes side members count true l =
+    mask-same 64 (λ k. bit (maskOf count (λ x. asked x && true)) k && met k) (λ k. ltb k count && (asked k && met k)) (λ k _.
+    ap (λ (b : Bool). b && met k) (bit-maskOf count (λ x. asked x && true) k ∙ ap (λ (b : Bool). ltb k count && b) (and-true (asked k))) ∙ and-assoc (ltb k count) (asked k) (met k))
+    ∙ sym (mask-wide count 64 (λ x. asked x && met x) l)
+  where
+    asked : ℕ → Bool
+    asked x = all (λ a. imp (subset members (getD known (7 * side + a) 0)) (bit (metOf matches (7 * side + a) members) x)) (upTo attributes)
+
+    met : ℕ → Bool
+    met x = bit (metOf matches (7 * side + 6) members) x
+
 module _ (links matches known attributes : List ℕ) (us rs os : ℕ) (W X : Words) (l : ℕ) where
-  -- the answer of a comparison says whether the level fits
-  pub fit-told : {m n who what : ℕ} {d e : Difference} → m ≡ maskOf 64 (λ k. bit (W .users) k || bit (X .users) k) → who ≡ passingOf matches known (getD attributes 0 0) 0 (eqb l 1 || eqb l 3) m us
-      → n ≡ maskOf 64 (λ k. bit (W .resources) k || bit (X .resources) k) → what ≡ passingOf matches known (getD attributes 1 0) 1 (eqb l 2 || eqb l 3) n rs
-      → d ≡ differenceOf (firstBeyond links W X who what us rs os) → d ≡ e → isSame e ≡ tablesFit links matches known attributes us rs os W X l
-  unfolding tablesFit joined
-  fit-told p q r s t k =
-      ap isSame (sym k ∙ t) ∙ ap₂ (λ (x y : ℕ). isSame (differenceOf (firstBeyond links W X x y us rs os)))
-      (q ∙ ap (λ (x : ℕ). passingOf matches known (getD attributes 0 0) 0 (eqb l 1 || eqb l 3) x us) p)
-      (s ∙ ap (λ (x : ℕ). passingOf matches known (getD attributes 1 0) 1 (eqb l 2 || eqb l 3) x rs) r)
+  -- the words that the code has at a level: the users and the resources of both, who and what pass without the 255s, and who and what pass
+  pub record PassAt (m n p q who what : ℕ) : Type 0 where
+    pub many : us ≤ 64
+    pub much : rs ≤ 64
+    pub people : m ≡ maskOf 64 (λ k. bit (W .users) k || bit (X .users) k)
+    pub things : n ≡ maskOf 64 (λ k. bit (W .resources) k || bit (X .resources) k)
+    pub people-pass : p ≡ passingOf matches known (getD attributes 0 0) 0 false m us
+    pub things-pass : q ≡ passingOf matches known (getD attributes 1 0) 1 false n rs
+    pub people-here : who ≡ withOwn matches 0 (eqb l 1 || eqb l 3) m p
+    pub things-here : what ≡ withOwn matches 1 (eqb l 2 || eqb l 3) n q
+
+  module _ {m n p q who what : ℕ} (a : PassAt m n p q who what) where
+    who-passes : who ≡ passingOf matches known (getD attributes 0 0) 0 (ownAt user l) (joined W X .users) us
+    unfolding joined
+    who-passes =
+        a .people-here ∙ ap (withOwn matches 0 (eqb l 1 || eqb l 3) m) (a .people-pass) ∙ own-passing matches known (getD attributes 0 0) 0 m us (eqb l 1 || eqb l 3) (a .many)
+        ∙ ap (λ (x : ℕ). passingOf matches known (getD attributes 0 0) 0 (eqb l 1 || eqb l 3) x us) (a .people)
+
+    what-passes : what ≡ passingOf matches known (getD attributes 1 0) 1 (ownAt resource l) (joined W X .resources) rs
+    unfolding joined
+    what-passes =
+        a .things-here ∙ ap (withOwn matches 1 (eqb l 2 || eqb l 3) n) (a .things-pass) ∙ own-passing matches known (getD attributes 1 0) 1 n rs (eqb l 2 || eqb l 3) (a .much)
+        ∙ ap (λ (x : ℕ). passingOf matches known (getD attributes 1 0) 1 (eqb l 2 || eqb l 3) x rs) (a .things)
+
+    -- none passes who is not there
+    pub pass-within : (who < 2 ^ us) × (what < 2 ^ rs)
+    unfolding passingOf
+    pass-within = (subst (λ (x : ℕ). x < 2 ^ us) (sym who-passes) (mask-lt us _), subst (λ (x : ℕ). x < 2 ^ rs) (sym what-passes) (mask-lt rs _))
+
+    -- whether the level fits
+    pub level-fits : {s : Bool} → s ≡ grantsJust links W X who what us rs os → s ≡ tablesFit links matches known attributes us rs os W X l
+    unfolding tablesFit
+    level-fits h = h ∙ ap₂ (λ (x y : ℕ). grantsJust links W X x y us rs os) who-passes what-passes
 
 -- ---- the plain tests come first
 

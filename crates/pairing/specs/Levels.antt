@@ -1,13 +1,14 @@
 -- The level of two groups together, and of one, from the tables.
 -- Assumes nothing.
-use Prim.Native.Nat.{ℕ, suc}
+use Prim.Native.Nat.{ℕ, suc, _+_, _*_}
 use lib.ListN.{getD}
-use mathlib.Core.Bool.{Bool, cond}
+use mathlib.Core.Bool.{Bool, cond, _&&_}
 use mathlib.Core.List.{List}
 use Rattle.grants.specs.Grid.{differenceOf, isSame}
-use Rattle.matches.specs.Matches.{passingOf}
+use Rattle.matches.specs.Matches.{metOf, passingOf}
 use Rattle.policy.specs.Rules.{ownAt, user, resource}
 use Rattle.sets.specs.Lowest.{lowest}
+use Rattle.sets.specs.Sets.{bit, maskOf}
 use Rattle.sets.specs.Tests.{any, upTo}
 use Rattle.words.specs.Words.{Words, joined}
 use Rattle.pairing.specs.Pairing.{firstBeyond, mayJoin}
@@ -15,6 +16,10 @@ use Rattle.pairing.specs.Pairing.{firstBeyond, mayJoin}
 -- the lowest level that passes a test, if one does up to a limit; else 4
 unfoldable pub levelWithin : (ℕ → Bool) → ℕ → ℕ
 levelWithin f limit = cond (any f (upTo (suc limit))) (lowest f) 4
+
+-- who passes with the 255 of a side, if that is asked for, of those who pass without
+unfoldable pub withOwn : List ℕ → ℕ → Bool → ℕ → ℕ → ℕ
+withOwn matches side own members passing = cond own (maskOf 64 (λ k. bit passing k && bit (metOf matches (7 * side + 6) members) k)) passing
 
 -- links, who meets whose values, who knows which attribute, how many attributes each side has; users, resources, operations
 module _ (links matches known attributes : List ℕ) (us rs os : ℕ) where

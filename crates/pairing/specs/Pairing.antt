@@ -7,7 +7,7 @@ use mathlib.Core.Bool.{Bool, _&&_, _||_, not}
 use mathlib.Core.List.{List}
 use mathlib.Core.Option.{Option}
 use Rattle.files.specs.Calls.{first}
-use Rattle.grants.specs.Grid.{tripleList, differAt}
+use Rattle.grants.specs.Grid.{tripleList, differAt, differenceOf, isSame}
 use Rattle.policy.specs.Rules.{Block}
 use Rattle.rulegrants.specs.RuleGrid.{rowOf}
 use Rattle.sets.specs.Sets.{bit, subset, maskOf}
@@ -38,6 +38,14 @@ grouped links W X = together (tableSpans links W) (tableSpans links X)
 unfoldable pub firstBeyond : List ℕ → Words → Words → ℕ → ℕ → ℕ → ℕ → ℕ → Option (ℕ × ℕ × ℕ)
 firstBeyond links W X who what us rs os = first (differAt (covered links W X who what) (grouped links W X)) (tripleList us rs os)
 
+-- they differ at none
+abbrev pub grantsJust : List ℕ → Words → Words → ℕ → ℕ → ℕ → ℕ → ℕ → Bool
+grantsJust links W X who what us rs os = isSame (differenceOf (firstBeyond links W X who what us rs os))
+
+-- the covering rule would have just the triples of the two groups if nobody but their users and nothing but their resources passed
+unfoldable pub grantsExactly : List ℕ → Words → Words → ℕ → ℕ → ℕ → Bool
+grantsExactly links W X us rs os = grantsJust links W X (joined W X .users) (joined W X .resources) us rs os
+
 -- one set without the other
 abbrev pub less : ℕ → ℕ → ℕ
 less a b = maskOf 64 (λ k. bit a k && not (bit b k))
@@ -55,6 +63,10 @@ rowsAgree mine theirs c a b =
 -- no user of one set and resource of another are joined by all of these atoms
 unfoldable pub cornerFree : List ℕ → ℕ → ℕ → ℕ → Bool
 cornerFree links atoms us rs = all (λ u. eqb (rowOf links atoms us rs u) 0) (upTo 64)
+
+-- these atoms join nobody who passes with anything that passes, but some of these users with some of these resources
+unfoldable pub rimFree : List ℕ → ℕ → ℕ → ℕ → ℕ → ℕ → Bool
+rimFree links atoms us rs who what = cornerFree links atoms us (less what rs) && cornerFree links atoms (less who us) what
 
 -- a group with operations that the other lacks has the other's users and resources
 unfoldable pub reaches : Words → Words → Bool

@@ -3,12 +3,13 @@
 use Prim.Native.Nat.{ℕ, _+_, _≤_, _<_}
 use borrow.Author.Tests.{eqb-true}
 use lib.Dec.{eqb}
-use mathlib.Core.Bool.{Bool, true, false, _&&_, _||_, not}
+use mathlib.Core.Bool.{Bool, true, false, cond, _&&_, _||_, not, and-false, false≢true}
 use mathlib.Core.List.{List, [], _∷_, map, List·Memᴰ·head, List·Memᴰ·tail}
 use mathlib.Core.Logic.{_⊎_, inl, inr}
 use mathlib.Core.Option.{none}
 use mathlib.Core.Path.{_≡_, refl, sym, ap, ap₂, _∙_}
 use native.Mathlib.Omega.{arith}
+use Rattle.conjuncts.specs.Summary.{linkedWith}
 use Rattle.files.specs.Calls.{first}
 use Rattle.grants.specs.Grid.{tripleList, differAt, differenceOf}
 use Rattle.grants.specs.GridLaws.{UsersPassed, ResourcesPassed, OperationsPassed, user-passed, found}
@@ -67,6 +68,12 @@ first-never : {T : Type 0} (f : T → Bool) (l : List T) → ((x : T) → x ∈ 
 first-never f [] h = refl
 first-never f (x ∷ xs) h = rw (h x (List·Memᴰ·head refl)) (first-never f xs (λ y m. h y (List·Memᴰ·tail m)))
 
+-- who is not a user of a group has no triple of it
+no-triples : (links : List ℕ) (W : Words) (u r o : ℕ) → bit (W .users) u ≡ false → tableSpans links W u r o ≡ false
+unfolding tableSpans rowOf
+no-triples links W u r o e =
+    ap (λ (b : Bool). bit (W .ops) o && bit (cond b (linkedWith links (W .atoms) u (W .resources)) 0) r) e ∙ ap (λ (b : Bool). bit (W .ops) o && b) (bit-none r) ∙ and-false (bit (W .ops) o)
+
 -- the words that the code has at a user: the operations and the atoms of the covering rule, its row c, and the rows a and b of the groups
 pub record RowsAt (links : List ℕ) (W X : Words) (who what u all atoms c a b : ℕ) : Type 0 where
   pub operations : all ≡ maskOf 64 (λ k. bit (W .ops) k || bit (X .ops) k)
@@ -90,20 +97,14 @@ module _ (links : List ℕ) (W X : Words) (who what : ℕ) where
       → d ≡ not (iff (bit all o && bit c r) ((bit (W .ops) o && bit a r) || (bit (X .ops) o && bit b r))) → d ≡ not (iff (covered links W X who what u r o) (grouped links W X u r o))
   differs-at u r o w e = e ∙ ap₂ (λ (x y : Bool). not (iff x y)) (cover-row u r o w) (group-rows u r o w)
 
-  -- a user whose rows agree is passed by
-  pub user-agrees : (rs os n : ℕ) {s : Bool} {all atoms c a b : ℕ} → rs ≤ 64 → os ≤ 64 → RowsAt links W X who what n all atoms c a b
-      → UsersPassed (covered links W X who what) (grouped links W X) rs os n → s ≡ rowsAgree (W .ops) (X .ops) c a b → s ≡ true
-      → UsersPassed (covered links W X who what) (grouped links W X) rs os (n + 1)
+  -- a user with the same triples on both sides is passed by
+  user-same : (rs os n : ℕ) → rs ≤ 64 → os ≤ 64 → ((r o : ℕ) → r < 64 → o < 64 → covered links W X who what n r o ≡ grouped links W X n r o)
+      → UsersPassed (covered links W X who what) (grouped links W X) rs os n → UsersPassed (covered links W X who what) (grouped links W X) rs os (n + 1)
   unfolding differAt
-  user-agrees rs os n {all = all} {c = c} {a = a} {b = b} lr lo w h q e =
+  user-same rs os n lr lo s h =
       user-passed (covered links W X who what) (grouped links W X) rs os n rs h
       (first-never (differAt (covered links W X who what) (grouped links W X)) (each (λ r. map (λ o. (n, r, o)) (upTo os)) (upTo rs)) alike) refl
     where
-      same-at : (r o : ℕ) → r < 64 → o < 64 → covered links W X who what n r o ≡ grouped links W X n r o
-      same-at r o kr ko =
-          sym (cover-row n r o w) ∙ ap (λ (m : ℕ). bit m o && bit c r) (w .operations)
-          ∙ rows-same (W .ops) (X .ops) c a b (sym q ∙ e) r o kr ko ∙ group-rows n r o w
-
       alike : (t : ℕ × ℕ × ℕ) → t ∈ each (λ r. map (λ o. (n, r, o)) (upTo os)) (upTo rs) → differAt (covered links W X who what) (grouped links W X) t ≡ false
       alike t m =
           let p = each-out (λ r. map (λ o. (n, r, o)) (upTo os)) (upTo rs) m in
@@ -111,7 +112,38 @@ module _ (links : List ℕ) (W X : Words) (who what : ℕ) where
           let br = upTo-out rs (p .1) in
           let bo = upTo-out os (k .1) in
           ap (differAt (covered links W X who what) (grouped links W X)) (k .2)
-          ∙ ap not (iff-in (covered links W X who what n (p .0) (k .0)) (grouped links W X n (p .0) (k .0)) (same-at (p .0) (k .0) (omega arith) (omega arith)))
+          ∙ ap not (iff-in (covered links W X who what n (p .0) (k .0)) (grouped links W X n (p .0) (k .0)) (s (p .0) (k .0) (omega arith) (omega arith)))
+
+  -- so is one who is in none of the sets
+  pub user-apart : (rs os n v m : ℕ) → rs ≤ 64 → os ≤ 64 → n < 64 → v ≡ maskOf 64 (λ k. bit (W .users) k || bit (X .users) k) → m ≡ maskOf 64 (λ k. bit who k || bit v k) → bit m n ≡ false
+      → UsersPassed (covered links W X who what) (grouped links W X) rs os n → UsersPassed (covered links W X who what) (grouped links W X) rs os (n + 1)
+  unfolding covering
+  user-apart rs os n v m lr lo l e q h = user-same rs os n lr lo (λ r o _ _.
+      no-triples links (covering W X who what) n r o (neither (bit who n) _ out)
+      ∙ sym (ap₂ _||_ (no-triples links W n r o (neither (bit (W .users) n) _ within)) (no-triples links X n r o (neither-second (bit (W .users) n) _ within))))
+    where
+      neither : (a b : Bool) → (a || b) ≡ false → a ≡ false
+      neither true b k = k
+      neither false b k = refl
+
+      neither-second : (a b : Bool) → (a || b) ≡ false → b ≡ false
+      neither-second true b k = absurd (false≢true (sym k))
+      neither-second false b k = k
+
+      out : (bit who n || bit v n) ≡ false
+      out = sym (bit-mask 64 (λ k. bit who k || bit v k) n l) ∙ sym (ap (λ (x : ℕ). bit x n) q) ∙ h
+
+      within : (bit (W .users) n || bit (X .users) n) ≡ false
+      within = sym (bit-mask 64 (λ k. bit (W .users) k || bit (X .users) k) n l) ∙ sym (ap (λ (x : ℕ). bit x n) e) ∙ neither-second (bit who n) (bit v n) out
+
+  -- and one whose rows agree
+  pub user-agrees : (rs os n : ℕ) {s : Bool} {all atoms c a b : ℕ} → rs ≤ 64 → os ≤ 64 → RowsAt links W X who what n all atoms c a b
+      → UsersPassed (covered links W X who what) (grouped links W X) rs os n → s ≡ rowsAgree (W .ops) (X .ops) c a b → s ≡ true
+      → UsersPassed (covered links W X who what) (grouped links W X) rs os (n + 1)
+  user-agrees rs os n {c = c} {a = a} {b = b} lr lo w h q e = user-same rs os n lr lo (λ r o kr ko.
+      sym (cover-row n r o w) ∙ ap (λ (m : ℕ). bit m o && bit c r) (w .operations)
+      ∙ rows-same (W .ops) (X .ops) c a b (sym q ∙ e) r o kr ko ∙ group-rows n r o w)
+      h
 
   -- the search is left at a difference
   pub beyond-at : (us rs os u r o : ℕ) {d : Bool} → u < us → r < rs → o < os → UsersPassed (covered links W X who what) (grouped links W X) rs os u

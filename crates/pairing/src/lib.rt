@@ -1,12 +1,13 @@
 // Whether two groups of parts may become one, and at which level. A group is summed up in four words; what it grants is worked out from
 // them and the table of links (word 64 * atom + user has the resources that an atom joins with a user).
-ghost use mathlib.Core.Bool.{_&&_, _||_, not};
+ghost use mathlib.Core.Bool.{true, _&&_, _||_, not};
 ghost use mathlib.Core.Path.{_≡_};
-ghost use Prim.Native.Nat.{_≤_, _<_};
+ghost use Prim.Native.Nat.{_^_, _≤_, _<_};
 ghost use lib.ListN.{getD};
+ghost use Rattle.conjuncts.specs.Summary.{linkedWith};
 ghost use Rattle.grants.specs.Grid.{differenceOf};
-ghost use Rattle.pairing.specs.Levels.{levelWithin, tablesFit, pairLevel, groupLevel};
-ghost use Rattle.pairing.specs.Pairing.{wordsIn, rowsAgree, firstBeyond, cornerFree, reaches, cornersFree, mayJoin};
+ghost use Rattle.pairing.specs.Levels.{levelWithin, withOwn, tablesFit, pairLevel, groupLevel};
+ghost use Rattle.pairing.specs.Pairing.{wordsIn, rowsAgree, firstBeyond, grantsJust, grantsExactly, cornerFree, rimFree, reaches, cornersFree, mayJoin};
 ghost use Rattle.rulegrants.specs.RuleGrid.{rowOf};
 ghost use Rattle.sets.specs.Sets.{bit};
 ghost use Rattle.sets.specs.Tests.{iff};
@@ -20,13 +21,28 @@ pub struct Group {
     pub atoms: u64,
 }
 
+// Which of some resources every atom joins with a user. Most groups have few atoms, so only those are looked at.
+pub fn linked(links: &[u64; 2304], atoms: u64, user: usize, among: u64) -> u64
+    requires { ⌜ user < 64 ⌝ }
+    ensures { λ r. ⌜ r ≡ linkedWith (now (links .entry)) atoms user among ⌝ }
+{
+    let mut m = among;
+    let mut rest = sets::meet(atoms, sets::below(36));
+    while 0 < rest {
+        let i = sets::least(rest);
+        m = sets::meet(m, links[64 * i + user]);
+        rest = matches::without_least(rest);
+    }
+    m
+}
+
 // The resources that stand in a pair with a user: none if the user is not one of these.
 fn row(links: &[u64; 2304], atoms: u64, users: u64, resources: u64, user: usize) -> u64
     requires { ⌜ user < 64 ⌝ }
     ensures { λ r. ⌜ r ≡ rowOf (now (links .entry)) atoms users resources user ⌝ }
 {
     if sets::has(users, user) {
-        return conjuncts::linked_with(links, atoms, user, resources);
+        return linked(links, atoms, user, resources);
     }
     0
 }
@@ -77,8 +93,13 @@ pub fn first_beyond(
 {
     let all = sets::union(g.operations, h.operations);
     let atoms = sets::meet(g.atoms, h.atoms);
+    let anybody = sets::union(who, sets::union(g.users, h.users));
     'triples: loop {
         for u in 0..users {
+            // A user of none of them has no triple.
+            if !sets::has(anybody, u) {
+                continue;
+            }
             let c = row(links, atoms, who, what, u);
             let a = row(links, g.atoms, g.users, g.resources, u);
             let b = row(links, h.atoms, h.users, h.resources, u);
@@ -102,20 +123,17 @@ pub fn first_beyond(
 fn corner_free(links: &[u64; 2304], atoms: u64, users: u64, resources: u64) -> bool
     ensures { λ s. ⌜ s ≡ cornerFree (now (links .entry)) atoms users resources ⌝ }
 {
-    if users == 0 {
-        return true;
-    }
+    // Most corners have nothing on one side.
     if resources == 0 {
         return true;
     }
-    // Without atoms every user is joined with every resource.
-    if atoms == 0 {
-        return false;
-    }
-    for u in 0..64 {
-        if row(links, atoms, users, resources, u) != 0 {
+    let mut rest = users;
+    while 0 < rest {
+        let u = sets::least(rest);
+        if linked(links, atoms, u, resources) != 0 {
             return false;
         }
+        rest = matches::without_least(rest);
     }
     true
 }
@@ -145,54 +163,49 @@ fn corners_free(links: &[u64; 2304], g: Group, h: Group) -> bool
 fn reaches(g: Group, h: Group) -> bool
     ensures { λ s. ⌜ s ≡ reaches (wordsIn g) (wordsIn h) ⌝ }
 {
-    (sets::without(g.operations, h.operations) == 0)
-        | (sets::within(h.users, g.users) & sets::within(h.resources, g.resources))
+    if sets::without(g.operations, h.operations) == 0 {
+        return true;
+    }
+    if sets::within(h.users, g.users) {
+        return sets::within(h.resources, g.resources);
+    }
+    false
+}
+
+// Whether each of two groups reaches the other. Nearly all pairs that cannot become one fail here, before a table is read.
+pub fn near(g: Group, h: Group) -> bool
+    ensures { λ s. ⌜ s ≡ (reaches (wordsIn g) (wordsIn h) && reaches (wordsIn h) (wordsIn g)) ⌝ }
+{
+    if reaches(g, h) {
+        return reaches(h, g);
+    }
+    false
 }
 
 // Whether nothing plain speaks against two groups becoming one. Two groups that this refuses need no comparison.
 pub fn may_join(links: &[u64; 2304], g: Group, h: Group) -> bool
     ensures { λ s. ⌜ s ≡ mayJoin (now (links .entry)) (wordsIn g) (wordsIn h) ⌝ }
 {
-    if reaches(g, h) & reaches(h, g) {
+    if near(g, h) {
         return corners_free(links, g, h);
     }
     false
 }
 
-// Whether two groups together fit a level.
-fn fits_at<'a>(
-    links: &'a [u64; 2304],
-    matches: &'a [u64; 896],
-    known: &'a [u64; 14],
-    attributes: &'a [usize; 2],
+// Whether a rule with the operations and the atoms of two groups grants just what they have. Who and what pass its conjuncts is handed in.
+fn grants_just(
+    links: &[u64; 2304],
+    g: Group,
+    h: Group,
+    who: u64,
+    what: u64,
     users: usize,
     resources: usize,
     operations: usize,
-    g: Group,
-    h: Group,
-    level: usize,
 ) -> bool
-    requires { ⌜ (users ≤ 64) × (resources ≤ 64) × (operations ≤ 64) × (getD (now attributes) 0 0 ≤ 6) × (getD (now attributes) 1 0 ≤ 6) ⌝ }
-    ensures { λ s. ⌜ s ≡ tablesFit (now (links .entry)) (now (matches .entry)) (now (known .entry)) (now (attributes .entry)) users resources operations (wordsIn g) (wordsIn h) level ⌝ }
+    requires { ⌜ (users ≤ 64) × (resources ≤ 64) × (operations ≤ 64) ⌝ }
+    ensures { λ s. ⌜ s ≡ grantsJust (now (links .entry)) (wordsIn g) (wordsIn h) who what users resources operations ⌝ }
 {
-    let who = matches::passing(
-        matches,
-        known,
-        attributes[0],
-        0,
-        (level == 1) | (level == 3),
-        sets::union(g.users, h.users),
-        users,
-    );
-    let what = matches::passing(
-        matches,
-        known,
-        attributes[1],
-        1,
-        (level == 2) | (level == 3),
-        sets::union(g.resources, h.resources),
-        resources,
-    );
     let difference = first_beyond(links, g, h, who, what, users, resources, operations);
     match difference {
         Difference::Same => true,
@@ -200,7 +213,103 @@ fn fits_at<'a>(
     }
 }
 
-// The lowest level up to a limit that two groups together fit; 4 if there is none.
+// Whether two groups that may become one would be granted just what they have if nobody but their users and nothing but their resources
+// passed. No level has a part in that.
+fn grants_exactly(
+    links: &[u64; 2304],
+    g: Group,
+    h: Group,
+    users: usize,
+    resources: usize,
+    operations: usize,
+) -> bool
+    requires { ⌜ (users ≤ 64) × (resources ≤ 64) × (operations ≤ 64) × (mayJoin (now links) (wordsIn g) (wordsIn h) ≡ true) ⌝ }
+    ensures { λ s. ⌜ s ≡ grantsExactly (now (links .entry)) (wordsIn g) (wordsIn h) users resources operations ⌝ }
+{
+    // Most pairs have the same atoms and need no comparison.
+    if g.atoms == h.atoms {
+        return true;
+    }
+    grants_just(
+        links,
+        g,
+        h,
+        sets::union(g.users, h.users),
+        sets::union(g.resources, h.resources),
+        users,
+        resources,
+        operations,
+    )
+}
+
+// Whether these atoms join nobody who passes with anything that passes, but some of these users with some of these resources.
+fn rim_free(
+    links: &[u64; 2304],
+    atoms: u64,
+    users: u64,
+    resources: u64,
+    who: u64,
+    what: u64,
+) -> bool
+    ensures { λ s. ⌜ s ≡ rimFree (now (links .entry)) atoms users resources who what ⌝ }
+{
+    if corner_free(links, atoms, users, sets::without(what, resources)) {
+        return corner_free(links, atoms, sets::without(who, users), what);
+    }
+    false
+}
+
+// The answer of grants_just, where it is known whether the two groups would be granted exactly. By the tables of a role file members pass
+// their own conjuncts, and every group has an operation that is declared; then only those who pass besides need a look. Any other tables
+// need the comparison.
+fn fits_with(
+    links: &[u64; 2304],
+    g: Group,
+    h: Group,
+    exactly: bool,
+    who: u64,
+    what: u64,
+    users: usize,
+    resources: usize,
+    operations: usize,
+) -> bool
+    requires { ⌜ (users ≤ 64) × (resources ≤ 64) × (operations ≤ 64) × (who < 2 ^ users) × (what < 2 ^ resources) × (exactly ≡ grantsExactly (now links) (wordsIn g) (wordsIn h) users resources operations) ⌝ }
+    ensures { λ s. ⌜ s ≡ grantsJust (now (links .entry)) (wordsIn g) (wordsIn h) who what users resources operations ⌝ }
+{
+    let people = sets::union(g.users, h.users);
+    let things = sets::union(g.resources, h.resources);
+    let acts = sets::meet(
+        sets::union(g.operations, h.operations),
+        sets::below(operations),
+    );
+    if sets::within(people, who) & sets::within(things, what) & (acts != 0) {
+        if exactly {
+            return rim_free(
+                links,
+                sets::meet(g.atoms, h.atoms),
+                people,
+                things,
+                who,
+                what,
+            );
+        }
+        return false;
+    }
+    grants_just(links, g, h, who, what, users, resources, operations)
+}
+
+// Who passes with the 255 of a side, if that is asked for, of those who pass without.
+fn with_own(matches: &[u64; 896], side: usize, own: bool, members: u64, passing: u64) -> u64
+    requires { ⌜ side < 2 ⌝ }
+    ensures { λ r. ⌜ r ≡ withOwn (now (matches .entry)) side own members passing ⌝ }
+{
+    if own {
+        return sets::meet(passing, matches::met_by(matches, 7 * side + 6, members));
+    }
+    passing
+}
+
+// The lowest level up to a limit that two groups together fit; 4 if there is none. Whether they would be granted exactly is handed in.
 fn level_within<'a>(
     links: &'a [u64; 2304],
     matches: &'a [u64; 896],
@@ -211,24 +320,21 @@ fn level_within<'a>(
     operations: usize,
     g: Group,
     h: Group,
+    exactly: bool,
     limit: usize,
 ) -> usize
-    requires { ⌜ (users ≤ 64) × (resources ≤ 64) × (operations ≤ 64) × (getD (now attributes) 0 0 ≤ 6) × (getD (now attributes) 1 0 ≤ 6) × (limit ≤ 3) ⌝ }
+    requires { ⌜ (users ≤ 64) × (resources ≤ 64) × (operations ≤ 64) × (getD (now attributes) 0 0 ≤ 6) × (getD (now attributes) 1 0 ≤ 6) × (limit ≤ 3) × (exactly ≡ grantsExactly (now links) (wordsIn g) (wordsIn h) users resources operations) ⌝ }
     ensures { λ l. ⌜ l ≡ levelWithin (tablesFit (now (links .entry)) (now (matches .entry)) (now (known .entry)) (now (attributes .entry)) users resources operations (wordsIn g) (wordsIn h)) limit ⌝ }
 {
+    let people = sets::union(g.users, h.users);
+    let things = sets::union(g.resources, h.resources);
+    // The levels differ in the 255s only.
+    let who = matches::passing(matches, known, attributes[0], 0, false, people, users);
+    let what = matches::passing(matches, known, attributes[1], 1, false, things, resources);
     for l in 0..limit + 1 {
-        if fits_at(
-            links,
-            matches,
-            known,
-            attributes,
-            users,
-            resources,
-            operations,
-            g,
-            h,
-            l,
-        ) {
+        let w = with_own(matches, 0, (l == 1) | (l == 3), people, who);
+        let v = with_own(matches, 1, (l == 2) | (l == 3), things, what);
+        if fits_with(links, g, h, exactly, w, v, users, resources, operations) {
             return l;
         }
     }
@@ -263,6 +369,7 @@ pub fn level_of_pair<'a>(
             operations,
             g,
             h,
+            grants_exactly(links, g, h, users, resources, operations),
             limit,
         );
     }
@@ -283,21 +390,22 @@ pub fn level_of_group<'a>(
     requires { ⌜ (users ≤ 64) × (resources ≤ 64) × (operations ≤ 64) × (getD (now attributes) 0 0 ≤ 6) × (getD (now attributes) 1 0 ≤ 6) ⌝ }
     ensures { λ l. ⌜ l ≡ groupLevel (now (links .entry)) (now (matches .entry)) (now (known .entry)) (now (attributes .entry)) users resources operations (wordsIn g) ⌝ }
 {
-    for l in 0..3 {
-        if fits_at(
-            links,
-            matches,
-            known,
-            attributes,
-            users,
-            resources,
-            operations,
-            g,
-            g,
-            l,
-        ) {
-            return l;
-        }
+    // A group together with itself is granted exactly. What fits no lower level has level 3.
+    let level = level_within(
+        links,
+        matches,
+        known,
+        attributes,
+        users,
+        resources,
+        operations,
+        g,
+        g,
+        true,
+        2,
+    );
+    if level < 3 {
+        return level;
     }
     3
 }

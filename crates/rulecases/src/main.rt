@@ -5,7 +5,7 @@ ghost use mathlib.Core.Path.{_≡_};
 ghost use Prim.Native.Nat.{_+_, _≤_, min};
 ghost use lib.ListN.{length};
 ghost use Rattle.commands.specs.Decode.{numberAt};
-use judge::Judgement;
+use judging::Judgement;
 use rolequestion::Reply;
 
 // Prints a space and a number.
@@ -60,7 +60,7 @@ fn print_reply(reply: Reply) {
 
 // Prints the line of a role file, a rule file and a question.
 fn print_answers(file: &[u8], rules: &[u8], user: usize, resource: usize, operation: usize) {
-    print_judgement(judge::judge(file, rules));
+    print_judgement(judging::judge(file, rules));
     io::write_all(1, b", ");
     print_reply(rulequestion::ask(file, rules, user, resource, operation));
 }

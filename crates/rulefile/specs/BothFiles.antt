@@ -1,7 +1,7 @@
 -- What reading both files comes to, as the code hands it back.
 -- Assumes nothing.
 use Prim.Native.Nat.{ℕ}
-use lib.ListN.{replicate}
+use lib.ListN.{length, replicate}
 use mathlib.Core.Bool.{false}
 use mathlib.Core.List.{List}
 use Rattle.files.specs.Answer.{numberOf, Answer, refused, accepted}
@@ -17,13 +17,14 @@ use Rattle.rulefile.specs.declared.BothFiles.{BothFiles}
 
 -- a refusal returns only its number
 unfoldable pub nothingRead : ℕ → BothFiles
-nothingRead n = record { code = n; file = emptyRecord; grid = replicate 1024 0; strays = false; stray = 0; seen = replicate 32 0; again = replicate 32 0 }
+nothingRead n = record { code = n; file = emptyRecord; rules = 0; grid = replicate 1024 0; strays = false; stray = 0; seen = replicate 32 0; again = replicate 32 0 }
 
 unfoldable pub bothOf : Answer (Policy × List Lines) → BothFiles
 bothOf (refused e) = nothingRead (numberOf e)
 bothOf (accepted p) = record {
   code = 0;
   file = recordOf (p .0);
+  rules = length (p .1);
   grid = gridOf (grantedWithin (p .0) (p .1));
   strays = isSome (firstStrayRule (settingOf (p .0)) (rolesIn (p .0)) (p .1));
   stray = numberOr (firstStrayRule (settingOf (p .0)) (rolesIn (p .0)) (p .1));

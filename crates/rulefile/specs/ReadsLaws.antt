@@ -53,9 +53,9 @@ closes-opening b e = rw e refl
 pub closes-other : (b : ℕ) → (b ≡ 0x21 → ⊥) → eqb b 0x2F ≡ (eqb b 0x21 || eqb b 0x2F)
 closes-other b e = rw (ne-eqb b 0x21 e) refl
 
-pub refused-with : (n : ℕ) (f : RoleFile) → f ≡ emptyRecord → record { code = n; file = f; grid = replicate 1024 0; strays = false; stray = 0; seen = replicate 32 0; again = replicate 32 0 } ≡ nothingRead n
+pub refused-with : (n : ℕ) (f : RoleFile) → f ≡ emptyRecord → record { code = n; file = f; rules = 0; grid = replicate 1024 0; strays = false; stray = 0; seen = replicate 32 0; again = replicate 32 0 } ≡ nothingRead n
 unfolding nothingRead
-refused-with n f e = ap (λ (g : RoleFile). record { code = n; file = g; grid = replicate 1024 0; strays = false; stray = 0; seen = replicate 32 0; again = replicate 32 0 }) e
+refused-with n f e = ap (λ (g : RoleFile). record { code = n; file = g; rules = 0; grid = replicate 1024 0; strays = false; stray = 0; seen = replicate 32 0; again = replicate 32 0 }) e
 
 -- ---- the role file
 
@@ -161,14 +161,15 @@ module _ (file rules : List ℕ) (f : RoleFile) (links : List ℕ) (k : Kept) (m
     reads-late h z d = ended-late (v .policy) (v .sized) rules k met listed grid seen again at (v .state) b x y w e h z d ∙ outcome-both file rules (v .policy) (v .read)
 
     pub reads-ended : mayClose k ≡ true → b ≡ 0x2F → at + w ≡ length rules → (n : Kept) (g : List ℕ) → n ≡ finishedWith k met listed links (f .users) (f .resources) (f .operations) → g ≡ finishedGrid k met links (f .users) (f .resources) grid
-        → record { code = 0; file = f; grid = g; strays = n .strays; stray = n .stray; seen = seen; again = again } ≡ bothOf (readBoth 2 file rules)
+        → record { code = 0; file = f; rules = n .rules; grid = g; strays = n .strays; stray = n .stray; seen = seen; again = again } ≡ bothOf (readBoth 2 file rules)
     unfolding recordOf recordWith
     reads-ended h z d n g p q =
-        ap₂ (λ (m : Kept) (l : List ℕ). record { code = 0; file = f; grid = l; strays = m .strays; stray = m .stray; seen = seen; again = again }) p q
+        ap₂ (λ (m : Kept) (l : List ℕ). record { code = 0; file = f; rules = m .rules; grid = l; strays = m .strays; stray = m .stray; seen = seen; again = again }) p q
         ∙ at-record
         (λ r l. record {
           code = 0;
           file = r;
+          rules = finishedWith k met listed l (r .users) (r .resources) (r .operations) .rules;
           grid = finishedGrid k met l (r .users) (r .resources) grid;
           strays = finishedWith k met listed l (r .users) (r .resources) (r .operations) .strays;
           stray = finishedWith k met listed l (r .users) (r .resources) (r .operations) .stray;

@@ -334,7 +334,7 @@ module _ (F : Policy) (Z : Sized F) (s : List ℕ) (k : Kept) (met listed grid s
           go (y ∷ l) q o = o
 
       -- the end: what is kept is what the rules come to
-      pub ended : b ≡ 0x2F → at + w ≡ length s → record { code = 0; file = recordOf F; grid = doneGrid; strays = doneWith .strays; stray = doneWith .stray; seen = seen; again = again } ≡ outcome F (read (ruleFormat 2 (settingOf F) (rolesIn F)) start s)
+      pub ended : b ≡ 0x2F → at + w ≡ length s → record { code = 0; file = recordOf F; rules = doneWith .rules; grid = doneGrid; strays = doneWith .strays; stray = doneWith .stray; seen = seen; again = again } ≡ outcome F (read (ruleFormat 2 (settingOf F) (rolesIn F)) start s)
       unfolding outcome bothOf
       ended z d =
           shown (closed h .rules) doneWith doneGrid (closed h .stored)
@@ -348,8 +348,8 @@ module _ (F : Policy) (Z : Sized F) (s : List ℕ) (k : Kept) (met listed grid s
           nothing-left : drop w (drop at s) ≡ []
           nothing-left = empty (drop w (drop at s)) (let a = length-drop w (drop at s) in let c = length-drop at s in omega arith)
 
-          shown : (rules : List Lines) (n : Kept) (g : List ℕ) → Stored F rules n g seen again → record { code = 0; file = recordOf F; grid = g; strays = n .strays; stray = n .stray; seen = seen; again = again } ≡ bothOf (accepted (F, rules))
-          shown rules n g v = rw (v .grid-shown, v .strays-shown, v .stray-shown, v .seen-shown, v .again-shown) refl
+          shown : (rules : List Lines) (n : Kept) (g : List ℕ) → Stored F rules n g seen again → record { code = 0; file = recordOf F; rules = n .rules; grid = g; strays = n .strays; stray = n .stray; seen = seen; again = again } ≡ bothOf (accepted (F, rules))
+          shown rules n g v = rw (v .rules-counted, v .grid-shown, v .strays-shown, v .stray-shown, v .seen-shown, v .again-shown) refl
 
     -- ---- a line of the open rule
 

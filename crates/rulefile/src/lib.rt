@@ -8,12 +8,13 @@ use loaded::RoleFile;
 use operands::Checked;
 use rulecommands::Raw;
 
-// Both files read: 0, the record of the role file, what the rules grant together (word 16 * user + operation is a set of resources),
-// whether some rule grants other than its parts and which is the first of them, and by role the lowest operations of the parts that the
+// Both files read: 0, the record of the role file, how many rules there are, what they grant together (word 16 * user + operation is a set
+// of resources), whether some rule grants other than its parts and which is the first of them, and by role the lowest operations of the parts that the
 // rules list, once or more and more than once; or the number of the refusal and nothing else.
 pub struct BothFiles {
     pub code: usize,
     pub file: RoleFile,
+    pub rules: usize,
     pub grid: [u64; 1024],
     pub strays: bool,
     pub stray: usize,
@@ -28,6 +29,7 @@ fn refuse(n: usize) -> BothFiles
     BothFiles {
         code: n,
         file: e,
+        rules: 0,
         grid: [0u64; 1024],
         strays: false,
         stray: 0,
@@ -95,6 +97,7 @@ pub fn read(file: &[u8], rules: &[u8]) -> BothFiles
                         return BothFiles {
                             code: 0,
                             file: f,
+                            rules: k.rules,
                             grid: grid,
                             strays: k.strays,
                             stray: k.stray,

@@ -5,24 +5,37 @@ use borrow.Author.Tests.{eq-eqb, ne-eqb, ltb-true, ltb-false}
 use lib.Dec.{eqb, ltb}
 use lib.ListN.{length, getD, take, drop}
 use lib.Seq.{take-at}
-use mathlib.Core.Bool.{Bool, true, false, cond}
+use mathlib.Core.Bool.{Bool, true, false, cond, _&&_, not}
 use mathlib.Core.List.{List, [], _∷_, map}
-use mathlib.Core.Path.{_≡_, refl, sym, ap, ap₂, _∙_}
+use mathlib.Core.Path.{_≡_, refl, sym, ap, ap₂, _∙_, subst}
 use native.Mathlib.Omega.{arith}
+use Rattle.distinct.specs.Distinct.{isListed, listedBy}
 use Rattle.linewriter.specs.Writing.{wrote}
+use Rattle.loaded.specs.Record.{tableOf}
+use Rattle.loaded.specs.RecordLaws.{table-get}
 use Rattle.operands.specs.Operands.{classRow}
 use Rattle.rulelines.specs.ListLaws.{sum-most, keep-most, sort-most, sort-same}
 use Rattle.rulelines.specs.RuleBytes.{atomSet}
-use Rattle.rulelists.specs.RuleLists.{setPlace, listedAt, classAt, ClassTable, inGroup, memberSet, partsAt, classesAt, placeCostIn, ruleCostIn}
-use Rattle.sets.specs.MaskLaws.{bit-maskOf, size-most}
+use Rattle.rulelists.specs.RuleLists.{setPlace, listedAt, classAt, classAmong, ClassTable, inGroup, memberSet, partsAt, classesAt, placeCostIn, ruleCostIn}
+use Rattle.sets.specs.MaskLaws.{and-true, bit-maskOf, size-most}
 use Rattle.sets.specs.Sets.{bit, bit-mask, size}
 use Rattle.sets.specs.Sorted.{numbers}
 use Rattle.sets.specs.Tests.{Is, and-l, and-r, test, _∈_, keep, keep-in, keep-out, from, from-in, from-out, upTo, upTo-in, map-in, map-out, sum}
 use Rattle.slotgroups.specs.Scratch.{wordsAt}
-use Rattle.values.specs.ListLaws.{listed-length}
-use Rattle.values.specs.Values.{valuesAt, listsLeast, valuesAmong, listedOf}
+use Rattle.values.specs.ValueLaws.{among-nobody}
+use Rattle.values.specs.Values.{valuesAmong, listedOf}
 use Rattle.words.specs.Flags.{placeSide}
 use Rattle.words.specs.Words.{membersOf}
+
+-- ---- lists
+
+from-long : (k n : ℕ) → length (from k n) ≡ n
+from-long k zero = refl
+from-long k (suc n) = ap suc (from-long (suc k) n)
+
+map-long : (f : ℕ → ℕ) (l : List ℕ) → length (map f l) ≡ length l
+map-long f [] = refl
+map-long f (x ∷ xs) = ap suc (map-long f xs)
 
 -- ---- conjuncts
 
@@ -47,33 +60,52 @@ place-members t head i h = test (ltb i 7)
     (λ e. let l = ltb-true i 7 e in let n : 4 * head + i / 7 ≡ 4 * head = omega arith in rw e (ap (λ (k : ℕ). getD t k 0) n))
     (λ e. let l = ltb-false i 7 e in let n : 4 * head + i / 7 ≡ 4 * head + 1 = omega arith in rw e (ap (λ (k : ℕ). getD t k 0) n))
 
-module _ (values holders kinds : List ℕ) (roles : ℕ) (t : List ℕ) (head i : ℕ) where
+module _ (distinct having inside t : List ℕ) (head i : ℕ) where
   -- what is listed is listed at the place
-  pub listed-place : (table : List ℕ) (least : Bool) (r : ℕ) (out list : List ℕ) → i < 14 → table ≡ valuesAt values holders roles i → least ≡ listsLeast kinds i
-      → (r ≡ length (listedOf table (getD t (4 * head + i / 7) 0) least)) × (out ≡ wrote (listedOf table (getD t (4 * head + i / 7) 0) least) list)
-      → (r ≡ length (listedAt values holders kinds roles t head i)) × (out ≡ wrote (listedAt values holders kinds roles t head i) list)
+  pub listed-place : (members r : ℕ) (out list : List ℕ) → i < 14 → members ≡ getD t (4 * head + i / 7) 0
+      → (r ≡ length (listedBy distinct having inside i members)) × (out ≡ wrote (listedBy distinct having inside i members) list)
+      → (r ≡ length (listedAt distinct having inside t head i)) × (out ≡ wrote (listedAt distinct having inside t head i) list)
   unfolding listedAt
-  listed-place table least r out list h e q w =
-      let n : listedOf table (getD t (4 * head + i / 7) 0) least ≡ listedOf (valuesAt values holders roles i) (membersOf (wordsAt t head) (placeSide i)) (listsLeast kinds i)
-      = ap₂ (λ (a : List ℕ) (m : ℕ). listedOf a m least) e (place-members t head i h) ∙ ap (listedOf (valuesAt values holders roles i) (membersOf (wordsAt t head) (placeSide i))) q in
+  listed-place members r out list h e w =
+      let n : listedBy distinct having inside i members ≡ listedBy distinct having inside i (membersOf (wordsAt t head) (placeSide i)) = ap (listedBy distinct having inside i) (e ∙ place-members t head i h) in
       (w .0 ∙ ap length n, w .1 ∙ ap (λ (l : List ℕ). wrote l list) n)
 
   -- no more than 64 values are
-  pub listed-most : length (listedAt values holders kinds roles t head i) ≤ 64
-  unfolding listedAt
-  listed-most = listed-length (valuesAt values holders roles i) (membersOf (wordsAt t head) (placeSide i)) (listsLeast kinds i)
+  pub listed-most : length (listedAt distinct having inside t head i) ≤ 64
+  unfolding listedAt listedBy
+  listed-most =
+      within
+      (map-long (λ k. getD distinct (64 * i + k) 0) (keep (isListed having inside i (membersOf (wordsAt t head) (placeSide i))) (upTo 64)))
+      (keep-most (isListed having inside i (membersOf (wordsAt t head) (placeSide i))) (upTo 64))
+      (from-long 0 64)
+    where
+      within : {a b c : ℕ} → a ≡ b → b ≤ c → c ≡ 64 → a ≤ 64
+      within p q r = omega arith
 
 -- ---- parts
 
--- a slot where no part stands
-pub slot-empty : (t : List ℕ) (head i : ℕ) → getD t (4 * i) 0 ≡ 0 → false ≡ inGroup t head i
+-- a slot of another group
+pub slot-other : (t : List ℕ) (head i : ℕ) → (getD t (4 * i + 3) 0 / 274877906944 ≡ head → ⊥) → false ≡ inGroup t head i
 unfolding inGroup
-slot-empty t head i h = rw (eq-eqb (getD t (4 * i) 0) 0 h) refl
+slot-other t head i h = rw (ne-eqb (getD t (4 * i + 3) 0 / 274877906944) head h) (never (not (eqb (getD t (4 * i) 0) 0)))
+  where
+    never : (b : Bool) → false ≡ (b && false)
+    never true = refl
+    never false = refl
 
--- and one where a part does
-pub slot-filled : (t : List ℕ) (head i : ℕ) → (getD t (4 * i) 0 ≡ 0 → ⊥) → eqb (getD t (4 * i + 3) 0 / 274877906944) head ≡ inGroup t head i
+-- and one of this, if a part stands in it
+pub slot-own : (t : List ℕ) (head i : ℕ) → getD t (4 * i + 3) 0 / 274877906944 ≡ head → not (eqb (getD t (4 * i) 0) 0) ≡ inGroup t head i
 unfolding inGroup
-slot-filled t head i h = rw (ne-eqb (getD t (4 * i) 0) 0 h) refl
+slot-own t head i h = rw (eq-eqb (getD t (4 * i + 3) 0 / 274877906944) head h) (sym (and-true (not (eqb (getD t (4 * i) 0) 0))))
+
+-- an operation that is one of these, and one that is not
+pub class-in : (permissions : List ℕ) (operations k members o r : ℕ) → Is (bit members o) → r ≡ classRow permissions k operations o → r ≡ classAmong permissions operations k members o
+unfolding classAmong
+class-in permissions operations k members o r b e = e ∙ sym (ap (λ (c : Bool). cond c (classRow permissions k operations o) 0) b)
+
+pub class-out : (permissions : List ℕ) (operations k members o : ℕ) → bit members o ≡ false → 0 ≡ classAmong permissions operations k members o
+unfolding classAmong
+class-out permissions operations k members o b = sym (ap (λ (c : Bool). cond c (classRow permissions k operations o) 0) b)
 
 module _ (permissions : List ℕ) (operations : ℕ) (t : List ℕ) (head k : ℕ) where
   -- the class of the part in a slot of the role
@@ -84,42 +116,45 @@ module _ (permissions : List ℕ) (operations : ℕ) (t : List ℕ) (head k : �
       let b : (16 * k + o) % 16 ≡ o = omega arith in
       ap₂ (λ (x y : ℕ). classRow permissions x operations y) a b
 
-  -- the classes of those who lead, from a table of all
-  classes-listed : (table : List ℕ) → ClassTable permissions operations k table → listedOf table (memberSet t head k) false ≡ classesAt permissions operations t head k
-  unfolding listedOf valuesAmong classesAt memberSet partsAt
+  -- the classes of those who lead, from a table of theirs
+  classes-listed : (table : List ℕ) → ClassTable permissions operations k (memberSet t head k) table → listedOf table (memberSet t head k) false ≡ classesAt permissions operations t head k
+  unfolding listedOf valuesAmong classesAt memberSet partsAt classAmong
   classes-listed table h =
       sort-same ltb numbers (map (λ x. getD table x 0) (keep (bit (memberSet t head k)) (upTo 64))) (map (classAt permissions operations) (keep (inGroup t head) (from (16 * k) 16)))
       (λ v m. let u = map-out (λ x. getD table x 0) (keep (bit (memberSet t head k)) (upTo 64)) m in
-      let b = sym (bit-maskOf 16 (λ o. inGroup t head (16 * k + o)) (u .0)) ∙ keep-out (bit (memberSet t head k)) (upTo 64) (u .1) .1 in
-      there v (u .0) (ltb-true (u .0) 16 (and-l (ltb (u .0) 16) (inGroup t head (16 * k + u .0)) b)) (and-r (ltb (u .0) 16) (inGroup t head (16 * k + u .0)) b) (u .2))
+      let m = keep-out (bit (memberSet t head k)) (upTo 64) (u .1) .1 in
+      let b = sym (bit-maskOf 16 (λ o. inGroup t head (16 * k + o)) (u .0)) ∙ m in
+      there v (u .0) (ltb-true (u .0) 16 (and-l (ltb (u .0) 16) (inGroup t head (16 * k + u .0)) b)) m (and-r (ltb (u .0) 16) (inGroup t head (16 * k + u .0)) b) (u .2))
       (λ v m. let u = map-out (classAt permissions operations) (keep (inGroup t head) (from (16 * k) 16)) m in
       let s = keep-out (inGroup t head) (from (16 * k) 16) (u .1) in
       let l = from-out (16 * k) 16 (s .0) in
       back v (u .0) (u .0 % 16) (omega arith) (omega arith) (s .1) (u .2))
     where
-      there : (v x : ℕ) → x < 16 → Is (inGroup t head (16 * k + x)) → v ≡ getD table x 0 → v ∈ map (classAt permissions operations) (keep (inGroup t head) (from (16 * k) 16))
-      there v x l g e = rw (e ∙ h x l ∙ sym (slot-class x l)) (map-in (classAt permissions operations) (keep-in (inGroup t head) (from-in (16 * k) 16 (16 * k + x) (omega arith) (omega arith)) g))
+      class-at : (o : ℕ) → o < 16 → Is (bit (memberSet t head k) o) → getD table o 0 ≡ classAt permissions operations (16 * k + o)
+      class-at o l b = h o l ∙ ap (λ (c : Bool). cond c (classRow permissions k operations o) 0) b ∙ sym (slot-class o l)
+
+      there : (v x : ℕ) → x < 16 → Is (bit (memberSet t head k) x) → Is (inGroup t head (16 * k + x)) → v ≡ getD table x 0 → v ∈ map (classAt permissions operations) (keep (inGroup t head) (from (16 * k) 16))
+      there v x l b g e = rw (e ∙ class-at x l b) (map-in (classAt permissions operations) (keep-in (inGroup t head) (from-in (16 * k) 16 (16 * k + x) (omega arith) (omega arith)) g))
 
       back : (v i o : ℕ) → i ≡ 16 * k + o → o < 16 → Is (inGroup t head i) → v ≡ classAt permissions operations i → v ∈ map (λ x. getD table x 0) (keep (bit (memberSet t head k)) (upTo 64))
       back v i o q l g e =
-          rw (e ∙ ap (classAt permissions operations) q ∙ slot-class o l ∙ sym (h o l))
-          (map-in (λ x. getD table x 0) (keep-in (bit (memberSet t head k)) (upTo-in {n = 64} {i = o} (omega arith)) (bit-mask 16 (λ o. inGroup t head (16 * k + o)) o l ∙ ap (inGroup t head) (sym q) ∙ g)))
+          let b = bit-mask 16 (λ o. inGroup t head (16 * k + o)) o l ∙ ap (inGroup t head) (sym q) ∙ g in
+          rw (e ∙ ap (classAt permissions operations) q ∙ sym (class-at o l b)) (map-in (λ x. getD table x 0) (keep-in (bit (memberSet t head k)) (upTo-in {n = 64} {i = o} (omega arith)) b))
+
+  -- a role without a part in the group
+  pub listed-none : (members : ℕ) (list : List ℕ) → members ≡ memberSet t head k → members ≡ 0 → (0 ≡ length (classesAt permissions operations t head k)) × (list ≡ wrote (classesAt permissions operations t head k) list)
+  unfolding listedOf
+  listed-none members list e z =
+      let n : classesAt permissions operations t head k ≡ [] = sym (classes-listed (tableOf 16 (classAmong permissions operations k (memberSet t head k))) (λ o l. table-get 16 (classAmong permissions operations k (memberSet t head k)) o l)) ∙ among-nobody (tableOf 16 (classAmong permissions operations k (memberSet t head k))) (memberSet t head k) (sym e ∙ z) in
+      (sym (ap length n), sym (ap (λ (l : List ℕ). wrote l list) n))
 
   -- what is listed are the operation sets of the role's parts
-  pub listed-role : (table : List ℕ) (members r : ℕ) (out list : List ℕ) → ClassTable permissions operations k table → members ≡ memberSet t head k
+  pub listed-role : (table : List ℕ) (members r : ℕ) (out list : List ℕ) → ClassTable permissions operations k members table → members ≡ memberSet t head k
       → (r ≡ length (listedOf table members false)) × (out ≡ wrote (listedOf table members false) list)
       → (r ≡ length (classesAt permissions operations t head k)) × (out ≡ wrote (classesAt permissions operations t head k) list)
   listed-role table members r out list h e w =
-      let n : listedOf table members false ≡ classesAt permissions operations t head k = ap (λ (m : ℕ). listedOf table m false) e ∙ classes-listed table h in
+      let n : listedOf table members false ≡ classesAt permissions operations t head k = ap (λ (m : ℕ). listedOf table m false) e ∙ classes-listed table (subst (λ (m : ℕ). ClassTable permissions operations k m table) e h) in
       (w .0 ∙ ap length n, w .1 ∙ ap (λ (l : List ℕ). wrote l list) n)
-
-from-long : (k n : ℕ) → length (from k n) ≡ n
-from-long k zero = refl
-from-long k (suc n) = ap suc (from-long (suc k) n)
-
-map-long : (f : ℕ → ℕ) (l : List ℕ) → length (map f l) ≡ length l
-map-long f [] = refl
-map-long f (x ∷ xs) = ap suc (map-long f xs)
 
 -- a role has at most 16 parts
 pub classes-most : (permissions : List ℕ) (operations : ℕ) (t : List ℕ) (head k : ℕ) → length (classesAt permissions operations t head k) ≤ 16
@@ -137,30 +172,30 @@ classes-most permissions operations t head k =
 
 -- ---- cost
 
-module _ (values holders kinds : List ℕ) (roles : ℕ) (t : List ℕ) (head kept i : ℕ) where
+module _ (distinct having inside kinds : List ℕ) (t : List ℕ) (head kept i : ℕ) where
   -- a conjunct that is not kept costs nothing
-  pub cost-none : bit kept i ≡ false → 0 ≡ placeCostIn values holders kinds roles t head kept i
+  pub cost-none : bit kept i ≡ false → 0 ≡ placeCostIn distinct having inside kinds t head kept i
   unfolding placeCostIn
   cost-none e = rw e refl
 
   -- one of sets costs their elements
-  pub cost-sets : (list rest : List ℕ) (n r : ℕ) → Is (bit kept i) → Is (setPlace kinds i) → n ≡ length (listedAt values holders kinds roles t head i) → list ≡ wrote (listedAt values holders kinds roles t head i) rest
-      → r ≡ sum size (take n list) → r ≡ placeCostIn values holders kinds roles t head kept i
+  pub cost-sets : (list rest : List ℕ) (n r : ℕ) → Is (bit kept i) → Is (setPlace kinds i) → n ≡ length (listedAt distinct having inside t head i) → list ≡ wrote (listedAt distinct having inside t head i) rest
+      → r ≡ sum size (take n list) → r ≡ placeCostIn distinct having inside kinds t head kept i
   unfolding placeCostIn
   cost-sets list rest n r b s e q h =
       h ∙ ap (λ (l : List ℕ). sum size (take n l)) q
-      ∙ ap (sum size) (take-at (listedAt values holders kinds roles t head i) (drop (length (listedAt values holders kinds roles t head i)) rest) n (sym e))
+      ∙ ap (sum size) (take-at (listedAt distinct having inside t head i) (drop (length (listedAt distinct having inside t head i)) rest) n (sym e))
       ∙ rw (b, s) refl
 
   -- one of single values costs as many as they are
-  pub cost-singles : (n : ℕ) → Is (bit kept i) → setPlace kinds i ≡ false → n ≡ length (listedAt values holders kinds roles t head i) → n ≡ placeCostIn values holders kinds roles t head kept i
+  pub cost-singles : (n : ℕ) → Is (bit kept i) → setPlace kinds i ≡ false → n ≡ length (listedAt distinct having inside t head i) → n ≡ placeCostIn distinct having inside kinds t head kept i
   unfolding placeCostIn
   cost-singles n b s e = e ∙ rw (b, s) refl
 
   -- and none costs more than 4096
-  pub cost-most : placeCostIn values holders kinds roles t head kept i ≤ 4096
+  pub cost-most : placeCostIn distinct having inside kinds t head kept i ≤ 4096
   unfolding placeCostIn
-  cost-most = go (bit kept i) (setPlace kinds i) (listedAt values holders kinds roles t head i) (listed-most values holders kinds roles t head i)
+  cost-most = go (bit kept i) (setPlace kinds i) (listedAt distinct having inside t head i) (listed-most distinct having inside t head i)
     where
       go : (b set : Bool) (l : List ℕ) → length l ≤ 64 → cond b (cond set (sum size l) (length l)) 0 ≤ 4096
       go true true l h = let k = sum-most 64 size l (λ v m. size-most v) in omega arith
@@ -168,22 +203,22 @@ module _ (values holders kinds : List ℕ) (roles : ℕ) (t : List ℕ) (head ke
       go false set l h = omega arith
 
 -- nor do those before a place cost more than that each
-pub costs-most : (values holders kinds : List ℕ) (roles : ℕ) (t : List ℕ) (head kept n : ℕ) → sum (placeCostIn values holders kinds roles t head kept) (upTo n) ≤ 4096 * n
-costs-most values holders kinds roles t head kept n =
-    let k = sum-most 4096 (placeCostIn values holders kinds roles t head kept) (upTo n) (λ i m. cost-most values holders kinds roles t head kept i) in
+pub costs-most : (distinct having inside kinds : List ℕ) (t : List ℕ) (head kept n : ℕ) → sum (placeCostIn distinct having inside kinds t head kept) (upTo n) ≤ 4096 * n
+costs-most distinct having inside kinds t head kept n =
+    let k = sum-most 4096 (placeCostIn distinct having inside kinds t head kept) (upTo n) (λ i m. cost-most distinct having inside kinds t head kept i) in
     let e = from-long 0 n in
     omega arith
 
-module _ (values holders kinds : List ℕ) (roles : ℕ) (t : List ℕ) (head kept conjuncts operations atoms set : ℕ) (c : conjuncts ≡ sum (placeCostIn values holders kinds roles t head kept) (upTo 14)) (o : operations ≡ size (getD t (4 * head + 2) 0)) (a : atoms ≡ size set) where
+module _ (distinct having inside kinds : List ℕ) (t : List ℕ) (head kept conjuncts operations atoms set : ℕ) (c : conjuncts ≡ sum (placeCostIn distinct having inside kinds t head kept) (upTo 14)) (o : operations ≡ size (getD t (4 * head + 2) 0)) (a : atoms ≡ size set) where
   -- what a rule costs is small
   pub cost-within : conjuncts + operations + atoms ≤ 57472
   cost-within =
-      within conjuncts operations atoms c (costs-most values holders kinds roles t head kept 14) o (size-most (getD t (4 * head + 2) 0)) a (size-most set)
+      within conjuncts operations atoms c (costs-most distinct having inside kinds t head kept 14) o (size-most (getD t (4 * head + 2) 0)) a (size-most set)
     where
       within : (x y z : ℕ) {k l m : ℕ} → x ≡ k → k ≤ 4096 * 14 → y ≡ l → l ≤ 64 → z ≡ m → m ≤ 64 → x + y + z ≤ 57472
       within x y z d e f g h i = omega arith
 
   -- and it is added up
-  pub cost-added : set ≡ atomSet kept → conjuncts + operations + atoms ≡ ruleCostIn values holders kinds roles t head kept
+  pub cost-added : set ≡ atomSet kept → conjuncts + operations + atoms ≡ ruleCostIn distinct having inside kinds t head kept
   unfolding ruleCostIn
   cost-added e = ap₂ _+_ (ap₂ _+_ c o) (a ∙ ap size e)

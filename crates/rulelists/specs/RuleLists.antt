@@ -1,4 +1,4 @@
--- What a mined rule lists and what it costs, read off the tables of the loaded role file, a group in scratch memory and the places that
+-- What a mined rule lists and what it costs, read off the tables of the policy, a group in scratch memory and the places that
 -- its rule keeps: the form in which code works it out.
 -- Assumes nothing.
 use Prim.Native.Nat.{ℕ, _+_, _*_, _/_, _%_, _<_}
@@ -7,13 +7,13 @@ use lib.ListN.{length, getD}
 use mathlib.Core.Bool.{Bool, true, false, cond, _&&_}
 use mathlib.Core.List.{List, map}
 use mathlib.Core.Path.{_≡_}
+use Rattle.distinct.specs.Distinct.{listedBy}
 use Rattle.operands.specs.Operands.{classRow}
 use Rattle.rulelines.specs.RuleBytes.{atomSet}
 use Rattle.sets.specs.Sets.{bit, maskOf, size}
 use Rattle.sets.specs.Sorted.{sort}
 use Rattle.sets.specs.Tests.{keep, from, upTo, sum}
 use Rattle.slotgroups.specs.Scratch.{restAt, headIn, wordsAt, isPartAt}
-use Rattle.values.specs.Values.{valuesAt, listsLeast, listedOf}
 use Rattle.words.specs.Flags.{placeSide}
 use Rattle.words.specs.Words.{membersOf}
 
@@ -24,8 +24,8 @@ unfoldable pub setPlace : List ℕ → ℕ → Bool
 setPlace kinds i = cond (eqb i 6) true (cond (eqb i 13) false (bit (getD kinds (i / 7) 0) (i % 7)))
 
 -- the values that the conjunct at a place lists
-unfoldable pub listedAt : (values holders kinds : List ℕ) → ℕ → List ℕ → ℕ → ℕ → List ℕ
-listedAt values holders kinds roles t head i = listedOf (valuesAt values holders roles i) (membersOf (wordsAt t head) (placeSide i)) (listsLeast kinds i)
+unfoldable pub listedAt : (distinct having inside : List ℕ) → List ℕ → ℕ → ℕ → List ℕ
+listedAt distinct having inside t head i = listedBy distinct having inside i (membersOf (wordsAt t head) (placeSide i))
 
 -- ---- parts
 
@@ -33,9 +33,12 @@ listedAt values holders kinds roles t head i = listedOf (valuesAt values holders
 unfoldable pub classAt : List ℕ → ℕ → ℕ → ℕ
 classAt permissions operations i = classRow permissions (i / 16) operations (i % 16)
 
--- a table with the class of each operation of a role
-abbrev pub ClassTable : List ℕ → ℕ → ℕ → List ℕ → Type 0
-ClassTable permissions operations role table = (o : ℕ) → o < 16 → getD table o 0 ≡ classRow permissions role operations o
+-- the class of an operation of a role, if it is one of these; and a table with those
+unfoldable pub classAmong : List ℕ → (operations role members : ℕ) → ℕ → ℕ
+classAmong permissions operations role members o = cond (bit members o) (classRow permissions role operations o) 0
+
+abbrev pub ClassTable : List ℕ → (operations role members : ℕ) → List ℕ → Type 0
+ClassTable permissions operations role members table = (o : ℕ) → o < 16 → getD table o 0 ≡ classAmong permissions operations role members o
 
 -- the slot is one of the group
 unfoldable pub inGroup : List ℕ → ℕ → ℕ → Bool
@@ -55,11 +58,11 @@ classesAt permissions operations t head k = sort ltb (map (classAt permissions o
 
 -- ---- cost
 
-module _ (values holders kinds : List ℕ) (roles : ℕ) (t : List ℕ) (head kept : ℕ) where
+module _ (distinct having inside kinds : List ℕ) (t : List ℕ) (head kept : ℕ) where
   -- what the conjunct at a place costs: the elements of its sets, or its values
   unfoldable pub placeCostIn : ℕ → ℕ
   placeCostIn i =
-      cond (bit kept i) (cond (setPlace kinds i) (sum size (listedAt values holders kinds roles t head i)) (length (listedAt values holders kinds roles t head i))) 0
+      cond (bit kept i) (cond (setPlace kinds i) (sum size (listedAt distinct having inside t head i)) (length (listedAt distinct having inside t head i))) 0
 
   -- what the rule costs
   unfoldable pub ruleCostIn : ℕ

@@ -1,4 +1,3 @@
 pub mod RuleTable
 pub mod SectionLaws
-pub mod AnswerLaws
 pub mod WriterLaws

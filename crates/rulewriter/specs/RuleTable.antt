@@ -20,10 +20,10 @@ use Rattle.words.specs.Flags.{placeAttribute}
 unfoldable pub keptAs : List ℕ → ℕ → Bool → ℕ → Bool
 keptAs kinds kept set i = bit kept i && iff (setPlace kinds i) set
 
-module _ (values holders kinds : List ℕ) (roles : ℕ) (t : List ℕ) (head kept : ℕ) where
+module _ (distinct having inside kinds : List ℕ) (t : List ℕ) (head kept : ℕ) where
   -- the bytes of the lines of a kind at a place
   unfoldable pub placeBytesIn : Which → Bool → ℕ → List ℕ
-  placeBytesIn w set i = cond (keptAs kinds kept set i) (each (valueBytes w set (placeAttribute i)) (listedAt values holders kinds roles t head i)) []
+  placeBytesIn w set i = cond (keptAs kinds kept set i) (each (valueBytes w set (placeAttribute i)) (listedAt distinct having inside t head i)) []
 
   -- the lines 22 to 25 of one kind, sets or singles of a side
   unfoldable pub kindBytesIn : Which → Bool → List ℕ
@@ -54,20 +54,20 @@ module _ (permissions : List ℕ) (operations : ℕ) (t : List ℕ) (head : ℕ)
   unfoldable pub partBytesIn : List ℕ
   partBytesIn = each roleBytesIn (upTo 32)
 
-module _ (values holders kinds permissions : List ℕ) (roles operations : ℕ) (t : List ℕ) (head kept : ℕ) where
+module _ (distinct having inside kinds permissions : List ℕ) (operations : ℕ) (t : List ℕ) (head kept : ℕ) where
   -- the bytes of the rule
   unfoldable pub ruleBytesIn : List ℕ
   ruleBytesIn =
       0x21
-      ∷ (kindBytesIn values holders kinds roles t head kept user false
-      ++ (kindBytesIn values holders kinds roles t head kept user true
-      ++ (kindBytesIn values holders kinds roles t head kept resource false
-      ++ (kindBytesIn values holders kinds roles t head kept resource true
+      ∷ (kindBytesIn distinct having inside kinds t head kept user false
+      ++ (kindBytesIn distinct having inside kinds t head kept user true
+      ++ (kindBytesIn distinct having inside kinds t head kept resource false
+      ++ (kindBytesIn distinct having inside kinds t head kept resource true
       ++ ((0x26 ∷ spread 2 (wordsAt t head .ops)) ++ (atomBytesIn kept ++ partBytesIn permissions operations t head))))))
 
   -- a section of them, of five
   unfoldable pub sectionBytesIn : ℕ → List ℕ
   sectionBytesIn i =
       cond (eqb i 0) (0x21 ∷ [])
-      (cond (eqb i 1) (conjunctBytesIn values holders kinds roles t head kept)
+      (cond (eqb i 1) (conjunctBytesIn distinct having inside kinds t head kept)
       (cond (eqb i 2) (0x26 ∷ spread 2 (wordsAt t head .ops)) (cond (eqb i 3) (atomBytesIn kept) (partBytesIn permissions operations t head))))

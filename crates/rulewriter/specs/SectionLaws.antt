@@ -48,33 +48,33 @@ module _ (kinds : List ℕ) (kept : ℕ) (set : Bool) (i : ℕ) where
       alike false true = refl
       alike false false = refl
 
-module _ (values holders kinds : List ℕ) (roles : ℕ) (t : List ℕ) (head kept : ℕ) where
+module _ (distinct having inside kinds : List ℕ) (t : List ℕ) (head kept : ℕ) where
   module _ (w : Which) (set : Bool) (i : ℕ) where
     -- nothing is written for a place that has no conjunct of the kind
     pub place-off : (o : List ℕ) → keptAs kinds kept set i ≡ false
-        → (0 ≡ length (placeBytesIn values holders kinds roles t head kept w set i)) × (o ≡ wrote (placeBytesIn values holders kinds roles t head kept w set i) o)
+        → (0 ≡ length (placeBytesIn distinct having inside kinds t head kept w set i)) × (o ≡ wrote (placeBytesIn distinct having inside kinds t head kept w set i) o)
     unfolding placeBytesIn
     place-off o e = rw e (refl, refl)
 
     -- else a line for each value listed
-    pub place-on : (list rest : List ℕ) (n : ℕ) → Is (keptAs kinds kept set i) → n ≡ length (listedAt values holders kinds roles t head i) → list ≡ wrote (listedAt values holders kinds roles t head i) rest
-        → each (λ k. valueBytes w set (placeAttribute i) (getD list k 0)) (upTo n) ≡ placeBytesIn values holders kinds roles t head kept w set i
+    pub place-on : (list rest : List ℕ) (n : ℕ) → Is (keptAs kinds kept set i) → n ≡ length (listedAt distinct having inside t head i) → list ≡ wrote (listedAt distinct having inside t head i) rest
+        → each (λ k. valueBytes w set (placeAttribute i) (getD list k 0)) (upTo n) ≡ placeBytesIn distinct having inside kinds t head kept w set i
     unfolding placeBytesIn
     place-on list rest n h e q =
         ap₂ (λ (m : ℕ) (l : List ℕ). each (λ k. valueBytes w set (placeAttribute i) (getD l k 0)) (upTo m)) e q
-        ∙ runs-list (valueBytes w set (placeAttribute i)) (listedAt values holders kinds roles t head i) (drop (length (listedAt values holders kinds roles t head i)) rest)
+        ∙ runs-list (valueBytes w set (placeAttribute i)) (listedAt distinct having inside t head i) (drop (length (listedAt distinct having inside t head i)) rest)
         ∙ rw h refl
 
   -- the places of a kind by their numbers
   pub kind-places : (set : Bool) (side : ℕ) → side < 2
-      → each (λ j. placeBytesIn values holders kinds roles t head kept (placeSide (7 * side + j)) set (7 * side + j)) (upTo 7) ≡ kindBytesIn values holders kinds roles t head kept (sideBy side) set
+      → each (λ j. placeBytesIn distinct having inside kinds t head kept (placeSide (7 * side + j)) set (7 * side + j)) (upTo 7) ≡ kindBytesIn distinct having inside kinds t head kept (sideBy side) set
   unfolding kindBytesIn
   kind-places set zero h = refl
   kind-places set (suc zero) h = refl
   kind-places set (suc (suc n)) h = absurd (omega arith)
 
   -- the kinds by their numbers
-  pub conjunct-kinds : each (λ k. kindBytesIn values holders kinds roles t head kept (sideBy (k / 2)) (eqb (k % 2) 1)) (upTo 4) ≡ conjunctBytesIn values holders kinds roles t head kept
+  pub conjunct-kinds : each (λ k. kindBytesIn distinct having inside kinds t head kept (sideBy (k / 2)) (eqb (k % 2) 1)) (upTo 4) ≡ conjunctBytesIn distinct having inside kinds t head kept
   unfolding conjunctBytesIn kindBytesAt
   conjunct-kinds = refl
 
@@ -118,40 +118,40 @@ four-joined a b c d r = sym
     ∙ ap (λ (l : List ℕ). b ++ l) (append-assoc c (d ++ []) r
     ∙ ap (λ (l : List ℕ). c ++ l) (append-assoc d [] r))))
 
-module _ (values holders kinds permissions : List ℕ) (roles operations : ℕ) (t : List ℕ) (head kept : ℕ) where
+module _ (distinct having inside kinds permissions : List ℕ) (operations : ℕ) (t : List ℕ) (head kept : ℕ) where
   -- section by section
-  pub rule-sections : each (sectionBytesIn values holders kinds permissions roles operations t head kept) (upTo 5) ≡ ruleBytesIn values holders kinds permissions roles operations t head kept
+  pub rule-sections : each (sectionBytesIn distinct having inside kinds permissions operations t head kept) (upTo 5) ≡ ruleBytesIn distinct having inside kinds permissions operations t head kept
   unfolding ruleBytesIn sectionBytesIn conjunctBytesIn kindBytesAt
   rule-sections =
       sym (ap (λ (l : List ℕ). 0x21 ∷ l)
-      (four-joined (kindBytesIn values holders kinds roles t head kept user false) (kindBytesIn values holders kinds roles t head kept user true) (kindBytesIn values holders kinds roles t head kept resource false) (kindBytesIn values holders kinds roles t head kept resource true)
+      (four-joined (kindBytesIn distinct having inside kinds t head kept user false) (kindBytesIn distinct having inside kinds t head kept user true) (kindBytesIn distinct having inside kinds t head kept resource false) (kindBytesIn distinct having inside kinds t head kept resource true)
       ((0x26 ∷ getD t (4 * head + 2) 0 % 256 ∷ getD t (4 * head + 2) 0 / 256 % 256 ∷ []) ++ (atomBytesIn kept ++ partBytesIn permissions operations t head))
-      ∙ ap (λ (l : List ℕ). conjunctBytesIn values holders kinds roles t head kept ++ ((0x26 ∷ getD t (4 * head + 2) 0 % 256 ∷ getD t (4 * head + 2) 0 / 256 % 256 ∷ []) ++ (atomBytesIn kept ++ l))) (sym (append-nil (partBytesIn permissions operations t head)))))
+      ∙ ap (λ (l : List ℕ). conjunctBytesIn distinct having inside kinds t head kept ++ ((0x26 ∷ getD t (4 * head + 2) 0 % 256 ∷ getD t (4 * head + 2) 0 / 256 % 256 ∷ []) ++ (atomBytesIn kept ++ l))) (sym (append-nil (partBytesIn permissions operations t head)))))
 
   module _ (i : ℕ) where
     -- what opens the rule
-    pub section-opens : i ≡ 0 → 0x21 ∷ [] ≡ sectionBytesIn values holders kinds permissions roles operations t head kept i
+    pub section-opens : i ≡ 0 → 0x21 ∷ [] ≡ sectionBytesIn distinct having inside kinds permissions operations t head kept i
     unfolding sectionBytesIn
     section-opens e = rw (eq-eqb i 0 e) refl
 
     -- its conjuncts
-    pub section-conjuncts : (i ≡ 0 → ⊥) → i ≡ 1 → conjunctBytesIn values holders kinds roles t head kept ≡ sectionBytesIn values holders kinds permissions roles operations t head kept i
+    pub section-conjuncts : (i ≡ 0 → ⊥) → i ≡ 1 → conjunctBytesIn distinct having inside kinds t head kept ≡ sectionBytesIn distinct having inside kinds permissions operations t head kept i
     unfolding sectionBytesIn
     section-conjuncts a e = rw (ne-eqb i 0 a, eq-eqb i 1 e) refl
 
     -- its operations
     pub section-operations : (i ≡ 0 → ⊥) → (i ≡ 1 → ⊥) → i ≡ 2
-        → 0x26 ∷ getD t (4 * head + 2) 0 % 256 ∷ getD t (4 * head + 2) 0 / 256 % 256 ∷ [] ≡ sectionBytesIn values holders kinds permissions roles operations t head kept i
+        → 0x26 ∷ getD t (4 * head + 2) 0 % 256 ∷ getD t (4 * head + 2) 0 / 256 % 256 ∷ [] ≡ sectionBytesIn distinct having inside kinds permissions operations t head kept i
     unfolding sectionBytesIn
     section-operations a b e = rw (ne-eqb i 0 a, ne-eqb i 1 b, eq-eqb i 2 e) refl
 
     -- its atoms
-    pub section-atoms : (i ≡ 0 → ⊥) → (i ≡ 1 → ⊥) → (i ≡ 2 → ⊥) → i ≡ 3 → atomBytesIn kept ≡ sectionBytesIn values holders kinds permissions roles operations t head kept i
+    pub section-atoms : (i ≡ 0 → ⊥) → (i ≡ 1 → ⊥) → (i ≡ 2 → ⊥) → i ≡ 3 → atomBytesIn kept ≡ sectionBytesIn distinct having inside kinds permissions operations t head kept i
     unfolding sectionBytesIn
     section-atoms a b c e = rw (ne-eqb i 0 a, ne-eqb i 1 b, ne-eqb i 2 c, eq-eqb i 3 e) refl
 
     -- its parts
-    pub section-parts : (i ≡ 0 → ⊥) → (i ≡ 1 → ⊥) → (i ≡ 2 → ⊥) → (i ≡ 3 → ⊥) → partBytesIn permissions operations t head ≡ sectionBytesIn values holders kinds permissions roles operations t head kept i
+    pub section-parts : (i ≡ 0 → ⊥) → (i ≡ 1 → ⊥) → (i ≡ 2 → ⊥) → (i ≡ 3 → ⊥) → partBytesIn permissions operations t head ≡ sectionBytesIn distinct having inside kinds permissions operations t head kept i
     unfolding sectionBytesIn
     section-parts a b c d = rw (ne-eqb i 0 a, ne-eqb i 1 b, ne-eqb i 2 c, ne-eqb i 3 d) refl
 
@@ -172,16 +172,16 @@ runs-most m f n h = within (length-each f (upTo n)) (sum-most m (λ i. length (f
     within : {x y z : ℕ} → x ≡ y → y ≤ m * z → z ≡ n → x ≤ m * n
     within e k d = rw (e, ← d) k
 
-module _ (values holders kinds : List ℕ) (roles : ℕ) (t : List ℕ) (head kept : ℕ) where
+module _ (distinct having inside kinds : List ℕ) (t : List ℕ) (head kept : ℕ) where
   -- the lines of a place, be it one of sets or of single values, have at most 640 bytes
-  place-most : (w : Which) (i : ℕ) → length (placeBytesIn values holders kinds roles t head kept w false i) + length (placeBytesIn values holders kinds roles t head kept w true i) ≤ 640
+  place-most : (w : Which) (i : ℕ) → length (placeBytesIn distinct having inside kinds t head kept w false i) + length (placeBytesIn distinct having inside kinds t head kept w true i) ≤ 640
   unfolding placeBytesIn keptAs
   place-most w i =
-      go (bit kept i) (setPlace kinds i) (each (valueBytes w false (placeAttribute i)) values-listed) (each (valueBytes w true (placeAttribute i)) values-listed) (length values-listed) (listed-most values holders kinds roles t head i)
+      go (bit kept i) (setPlace kinds i) (each (valueBytes w false (placeAttribute i)) values-listed) (each (valueBytes w true (placeAttribute i)) values-listed) (length values-listed) (listed-most distinct having inside t head i)
       (lines-length false) (lines-length true)
     where
       values-listed : List ℕ
-      values-listed = listedAt values holders kinds roles t head i
+      values-listed = listedAt distinct having inside t head i
 
       lines-length : (set : Bool) → length (each (valueBytes w set (placeAttribute i)) values-listed) ≡ cond set 10 4 * length values-listed
       lines-length set = length-each (valueBytes w set (placeAttribute i)) values-listed ∙ sum-each (cond set 10 4) (λ v. length (valueBytes w set (placeAttribute i) v)) values-listed (λ v k. value-length w set (placeAttribute i) v)
@@ -192,14 +192,14 @@ module _ (values holders kinds : List ℕ) (roles : ℕ) (t : List ℕ) (head ke
       go false set l m n h p q = omega arith
 
   -- those of a side at most 4480
-  side-most : (w : Which) → length (kindBytesIn values holders kinds roles t head kept w false) + length (kindBytesIn values holders kinds roles t head kept w true) ≤ 4480
+  side-most : (w : Which) → length (kindBytesIn distinct having inside kinds t head kept w false) + length (kindBytesIn distinct having inside kinds t head kept w true) ≤ 4480
   unfolding kindBytesIn
   side-most w =
       within (length-each (bytes false) (upTo 7)) (length-each (bytes true) (upTo 7)) (sum-both (λ j. length (bytes false j)) (λ j. length (bytes true j)) (upTo 7))
       (sum-most 640 (λ j. length (bytes false j) + length (bytes true j)) (upTo 7) (λ j k. place-most w (kindPlace w j)))
     where
       bytes : Bool → ℕ → List ℕ
-      bytes set j = placeBytesIn values holders kinds roles t head kept w set (kindPlace w j)
+      bytes set j = placeBytesIn distinct having inside kinds t head kept w set (kindPlace w j)
 
       within : {x y p q r : ℕ} → x ≡ p → y ≡ q → p + q ≡ r → r ≤ 640 * 7 → x + y ≤ 4480
       within a b c d = omega arith
@@ -224,12 +224,12 @@ parts-most permissions operations t head =
     within e d h = omega arith
 
 -- a rule has at most 12288 bytes, whatever the tables hold
-pub bytes-most : (values holders kinds permissions : List ℕ) (roles operations : ℕ) (t : List ℕ) (head kept : ℕ) → length (ruleBytesIn values holders kinds permissions roles operations t head kept) ≤ 12288
+pub bytes-most : (distinct having inside kinds permissions : List ℕ) (operations : ℕ) (t : List ℕ) (head kept : ℕ) → length (ruleBytesIn distinct having inside kinds permissions operations t head kept) ≤ 12288
 unfolding ruleBytesIn
-bytes-most values holders kinds permissions roles operations t head kept =
-    go (kindBytesIn values holders kinds roles t head kept user false) (kindBytesIn values holders kinds roles t head kept user true) (kindBytesIn values holders kinds roles t head kept resource false) (kindBytesIn values holders kinds roles t head kept resource true)
+bytes-most distinct having inside kinds permissions operations t head kept =
+    go (kindBytesIn distinct having inside kinds t head kept user false) (kindBytesIn distinct having inside kinds t head kept user true) (kindBytesIn distinct having inside kinds t head kept resource false) (kindBytesIn distinct having inside kinds t head kept resource true)
     (getD t (4 * head + 2) 0 % 256) (getD t (4 * head + 2) 0 / 256 % 256) (atomBytesIn kept) (partBytesIn permissions operations t head)
-    (side-most values holders kinds roles t head kept user) (side-most values holders kinds roles t head kept resource) (atoms-most kept) (parts-most permissions operations t head)
+    (side-most distinct having inside kinds t head kept user) (side-most distinct having inside kinds t head kept resource) (atoms-most kept) (parts-most permissions operations t head)
   where
     go : (a b c d : List ℕ) (x y : ℕ) (e f : List ℕ) → length a + length b ≤ 4480 → length c + length d ≤ 4480 → length e ≤ 108 → length f ≤ 2048
         → length (0x21 ∷ (a ++ (b ++ (c ++ (d ++ ((0x26 ∷ x ∷ y ∷ []) ++ (e ++ f))))))) ≤ 12288

@@ -9,6 +9,8 @@ use mathlib.Core.List.{List, [], _∷_, _++_, map}
 use mathlib.Core.Path.{_≡_, refl, sym, ap, ap₂, _∙_}
 use native.Mathlib.Omega.{arith}
 use Rattle.admit.specs.AdmitLaws.{Sized, side-kinds}
+use Rattle.distinct.specs.Distinct.{distinctTable, havingTable, insideTable}
+use Rattle.distinct.specs.MeansLaws.{listed-by}
 use Rattle.files.specs.Bytes.{spread}
 use Rattle.files.specs.RuleFile.{Lines, encode, opens}
 use Rattle.frontier.specs.Frontier.{Slots}
@@ -39,6 +41,17 @@ use Rattle.values.specs.MeansLaws.{valuesIn, least-means, values-place}
 use Rattle.values.specs.Values.{listsLeast, listedOf}
 use Rattle.words.specs.Flags.{placeSide, placeAttribute, hasAt, placesGrant, thinnedAt, thinnedTo, keptPlaces}
 use Rattle.words.specs.Words.{Words, membersOf, wordsOf, spans}
+
+-- ---- the tables of a policy's record
+
+abbrev pub distinctIn : Policy → List ℕ
+distinctIn F = distinctTable (recordOf F .values) (recordOf F .holders) (recordOf F .kinds) (recordOf F .roles)
+
+abbrev pub havingIn : Policy → List ℕ
+havingIn F = havingTable (recordOf F .values) (recordOf F .holders) (recordOf F .kinds) (recordOf F .roles)
+
+abbrev pub insideIn : Policy → List ℕ
+insideIn F = insideTable (recordOf F .values) (recordOf F .holders) (recordOf F .kinds) (recordOf F .roles)
 
 -- ---- what thinning keeps was there
 
@@ -110,10 +123,11 @@ module _ (F : Policy) (Z : Sized F) where
     kept-places = k ∙ ap (λ (W : Words). keptPlaces (settingOf F) W (levelOf (settingOf F) block)) words
 
     -- what is listed at a place that is kept is what the rule lists there
-    listed-written : (i : ℕ) → i < 14 → Is (bit kept i) → listedAt (recordOf F .values) (recordOf F .holders) (recordOf F .kinds) (recordOf F .roles) t head i ≡ writtenValues (settingOf F) (wordsOf (settingOf F) block) i
+    listed-written : (i : ℕ) → i < 14 → Is (bit kept i) → listedAt (distinctIn F) (havingIn F) (insideIn F) t head i ≡ writtenValues (settingOf F) (wordsOf (settingOf F) block) i
     unfolding listedAt
     listed-written i hi b =
-        ap (λ (W : Words). listedOf (valuesIn F i) (membersOf W (placeSide i)) (listsLeast (recordOf F .kinds) i)) words
+        listed-by (recordOf F .values) (recordOf F .holders) (recordOf F .kinds) (recordOf F .roles) i hi (membersOf (wordsAt t head) (placeSide i))
+        ∙ ap (λ (W : Words). listedOf (valuesIn F i) (membersOf W (placeSide i)) (listsLeast (recordOf F .kinds) i)) words
         ∙ lists-same (placeSide i) (placeAttribute i) _ _
         (values-place F Z i hi (membersOf (wordsOf (settingOf F) block) (placeSide i)) (members-within (settingOf F) block (placeSide i))
         (kept-known (settingOf F) (wordsOf (settingOf F) block) (levelOf (settingOf F) block) i hi (ap (λ (m : ℕ). bit m i) (sym kept-places) ∙ b))
@@ -121,7 +135,7 @@ module _ (F : Policy) (Z : Sized F) where
         ∙ written-conjunct (settingOf F) (wordsOf (settingOf F) block) i hi)
 
     place-written : (w : Which) (set : Bool) (j : ℕ) → j < 7
-        → placeBytesIn (recordOf F .values) (recordOf F .holders) (recordOf F .kinds) (recordOf F .roles) t head kept w set (kindPlace w j) ≡ placeBytes (settingOf F) (wordsOf (settingOf F) block) kept w set j
+        → placeBytesIn (distinctIn F) (havingIn F) (insideIn F) (recordOf F .kinds) t head kept w set (kindPlace w j) ≡ placeBytes (settingOf F) (wordsOf (settingOf F) block) kept w set j
     unfolding placeBytesIn keptAs placeBytes
     place-written w set j h =
         go (bit kept (kindPlace w j)) (setPlace (recordOf F .kinds) (kindPlace w j)) (settingOf F .side w .isSet (placeAttribute (kindPlace w j)))
@@ -133,7 +147,7 @@ module _ (F : Policy) (Z : Sized F) where
         go false x y e f = refl
 
     kind-written : (w : Which) (set : Bool)
-        → kindBytesIn (recordOf F .values) (recordOf F .holders) (recordOf F .kinds) (recordOf F .roles) t head kept w set ≡ each (placeBytes (settingOf F) (wordsOf (settingOf F) block) kept w set) (upTo 7)
+        → kindBytesIn (distinctIn F) (havingIn F) (insideIn F) (recordOf F .kinds) t head kept w set ≡ each (placeBytes (settingOf F) (wordsOf (settingOf F) block) kept w set) (upTo 7)
     unfolding kindBytesIn
     kind-written w set = each-ext _ _ (upTo 7) (λ j m. place-written w set j (upTo-out 7 m))
 
@@ -177,7 +191,7 @@ module _ (F : Policy) (Z : Sized F) where
     parts-written = each-ext _ _ (upTo 32) (λ r m. role-written r (upTo-out 32 m)) ∙ sym (parts-bytes cls (s .group head) group-low)
 
     -- THE LAW of what is written: the lines of the group's rule
-    pub written-bytes : ruleBytesIn (recordOf F .values) (recordOf F .holders) (recordOf F .kinds) (recordOf F .permissions) (recordOf F .roles) (recordOf F .operations) t head kept ≡ each (encode 2) (opens ∷ slotLines F (s .group head))
+    pub written-bytes : ruleBytesIn (distinctIn F) (havingIn F) (insideIn F) (recordOf F .kinds) (recordOf F .permissions) (recordOf F .operations) t head kept ≡ each (encode 2) (opens ∷ slotLines F (s .group head))
     unfolding ruleBytesIn atomBytesIn atomBytesAt slotLines slotRule
     written-bytes =
         ap (λ (l : List ℕ). 0x21 ∷ l)
@@ -187,7 +201,7 @@ module _ (F : Policy) (Z : Sized F) where
         ∙ ap (λ (m : ℕ). each (encode 2) (opens ∷ ruleLines (settingOf F) (wordsOf (settingOf F) block) m (partLinesOf cls (s .group head)))) kept-places
         ∙ ap (λ (ls : Lines). each (encode 2) (opens ∷ ls)) (sym (slots-sorted (settingOf F) (roomy F Z) (lawful F) block (shows .fitting head low alive) cls (s .group head)))
 
-    cost-written : (i : ℕ) → i < 14 → placeCostIn (recordOf F .values) (recordOf F .holders) (recordOf F .kinds) (recordOf F .roles) t head kept i ≡ placeCost (settingOf F) (wordsOf (settingOf F) block) kept i
+    cost-written : (i : ℕ) → i < 14 → placeCostIn (distinctIn F) (havingIn F) (insideIn F) (recordOf F .kinds) t head kept i ≡ placeCost (settingOf F) (wordsOf (settingOf F) block) kept i
     unfolding placeCostIn placeCost
     cost-written i h = go (bit kept i) _ _ (set-means i h) (listed-written i h)
       where
@@ -196,7 +210,7 @@ module _ (F : Policy) (Z : Sized F) where
         go false x y e f = refl
 
     -- THE LAW of what it costs: as much as the group's rule
-    pub written-cost : ruleCostIn (recordOf F .values) (recordOf F .holders) (recordOf F .kinds) (recordOf F .roles) t head kept ≡ ruleCost (settingOf F) (slotRule F (s .group head))
+    pub written-cost : ruleCostIn (distinctIn F) (havingIn F) (insideIn F) (recordOf F .kinds) t head kept ≡ ruleCost (settingOf F) (slotRule F (s .group head))
     unfolding ruleCostIn slotRule
     written-cost =
         ap₂ (λ (n : ℕ) (W : Words). n + size (W .ops) + size (atomSet kept)) (sum-ext _ _ (upTo 14) (λ i m. cost-written i (upTo-out 14 m))) words

@@ -1,19 +1,12 @@
-// Writes a mined rule: its bytes, how many they are, and what the rule costs. Each function writes at the front of the slice that it is
+// Writes a mined rule. Each function writes at the front of the slice that it is
 // lent, answers how many bytes it wrote, and leaves what stands behind them as it was.
-ghost use lib.ListN.{length, drop};
-ghost use mathlib.Core.List.{_++_};
+ghost use lib.ListN.{length};
 ghost use mathlib.Core.Path.{_≡_};
 ghost use Prim.Native.Nat.{_≤_, _<_};
 ghost use Rattle.files.specs.RoleFile.{sideBy};
 ghost use Rattle.linewriter.specs.Writing.{wrote};
-ghost use Rattle.rulelists.specs.RuleLists.{ruleCostIn};
 ghost use Rattle.rulewriter.specs.RuleTable.{keptAs, placeBytesIn, kindBytesIn, conjunctBytesIn, atomBytesAt, atomBytesIn, roleBytesIn, partBytesIn, ruleBytesIn, sectionBytesIn};
 ghost use Rattle.words.specs.Flags.{placeSide};
-
-pub struct Written {
-    pub bytes: usize,
-    pub cost: usize,
-}
 
 // ---- lines
 
@@ -30,10 +23,10 @@ fn kept_as(kinds: &[u64; 2], kept: u64, set: bool, place: usize) -> bool
 
 // The lines of a kind at a place.
 fn put_place<'a>(
-    values: &'a [u64; 768],
-    holders: &'a [u64; 32],
+    distinct: &'a [u64; 896],
+    having: &'a [u64; 896],
+    inside: &'a [u64; 896],
     kinds: &'a [u64; 2],
-    roles: usize,
     scratch: &'a [u64],
     head: usize,
     kept: u64,
@@ -41,17 +34,16 @@ fn put_place<'a>(
     place: usize,
     out: &mut [u8],
 ) -> usize
-    requires { ⌜ (roles ≤ 32) × (length (now scratch) ≡ 2048) × (head < 512) × (place < 14) ⌝ }
-    requires { ⌜ length (placeBytesIn (now values) (now holders) (now kinds) roles (now scratch) head kept (placeSide place) set place) ≤ length (now out) ⌝ }
-    ensures { λ r. ⌜ (r ≡ length (placeBytesIn (now (values .entry)) (now (holders .entry)) (now (kinds .entry)) roles (now (scratch .entry)) head kept (placeSide place) set place)) × (now (out .exit) ≡ wrote (placeBytesIn (now (values .entry)) (now (holders .entry)) (now (kinds .entry)) roles (now (scratch .entry)) head kept (placeSide place) set place) (now (out .entry))) ⌝ }
+    requires { ⌜ (length (now scratch) ≡ 2048) × (head < 512) × (place < 14) ⌝ }
+    requires { ⌜ length (placeBytesIn (now distinct) (now having) (now inside) (now kinds) (now scratch) head kept (placeSide place) set place) ≤ length (now out) ⌝ }
+    ensures { λ r. ⌜ (r ≡ length (placeBytesIn (now (distinct .entry)) (now (having .entry)) (now (inside .entry)) (now (kinds .entry)) (now (scratch .entry)) head kept (placeSide place) set place)) × (now (out .exit) ≡ wrote (placeBytesIn (now (distinct .entry)) (now (having .entry)) (now (inside .entry)) (now (kinds .entry)) (now (scratch .entry)) head kept (placeSide place) set place) (now (out .entry))) ⌝ }
 {
     if kept_as(kinds, kept, set, place) {
         let mut list = [0u64; 64];
         let count = rulelists::list_values(
-            values,
-            holders,
-            kinds,
-            roles,
+            distinct,
+            having,
+            inside,
             scratch,
             head,
             place,
@@ -64,10 +56,10 @@ fn put_place<'a>(
 
 // The lines of a kind: a side, and sets or singles.
 fn put_kind<'a>(
-    values: &'a [u64; 768],
-    holders: &'a [u64; 32],
+    distinct: &'a [u64; 896],
+    having: &'a [u64; 896],
+    inside: &'a [u64; 896],
     kinds: &'a [u64; 2],
-    roles: usize,
     scratch: &'a [u64],
     head: usize,
     kept: u64,
@@ -75,17 +67,17 @@ fn put_kind<'a>(
     set: bool,
     out: &mut [u8],
 ) -> usize
-    requires { ⌜ (roles ≤ 32) × (length (now scratch) ≡ 2048) × (head < 512) × (side < 2) ⌝ }
-    requires { ⌜ length (kindBytesIn (now values) (now holders) (now kinds) roles (now scratch) head kept (sideBy side) set) ≤ length (now out) ⌝ }
-    ensures { λ r. ⌜ (r ≡ length (kindBytesIn (now (values .entry)) (now (holders .entry)) (now (kinds .entry)) roles (now (scratch .entry)) head kept (sideBy side) set)) × (now (out .exit) ≡ wrote (kindBytesIn (now (values .entry)) (now (holders .entry)) (now (kinds .entry)) roles (now (scratch .entry)) head kept (sideBy side) set) (now (out .entry))) ⌝ }
+    requires { ⌜ (length (now scratch) ≡ 2048) × (head < 512) × (side < 2) ⌝ }
+    requires { ⌜ length (kindBytesIn (now distinct) (now having) (now inside) (now kinds) (now scratch) head kept (sideBy side) set) ≤ length (now out) ⌝ }
+    ensures { λ r. ⌜ (r ≡ length (kindBytesIn (now (distinct .entry)) (now (having .entry)) (now (inside .entry)) (now (kinds .entry)) (now (scratch .entry)) head kept (sideBy side) set)) × (now (out .exit) ≡ wrote (kindBytesIn (now (distinct .entry)) (now (having .entry)) (now (inside .entry)) (now (kinds .entry)) (now (scratch .entry)) head kept (sideBy side) set) (now (out .entry))) ⌝ }
 {
     let mut at: usize = 0;
     for j in 0..7 {
         at += put_place(
-            values,
-            holders,
+            distinct,
+            having,
+            inside,
             kinds,
-            roles,
             scratch,
             head,
             kept,
@@ -99,26 +91,26 @@ fn put_kind<'a>(
 
 // The lines 22 to 25.
 fn put_conjuncts<'a>(
-    values: &'a [u64; 768],
-    holders: &'a [u64; 32],
+    distinct: &'a [u64; 896],
+    having: &'a [u64; 896],
+    inside: &'a [u64; 896],
     kinds: &'a [u64; 2],
-    roles: usize,
     scratch: &'a [u64],
     head: usize,
     kept: u64,
     out: &mut [u8],
 ) -> usize
-    requires { ⌜ (roles ≤ 32) × (length (now scratch) ≡ 2048) × (head < 512) ⌝ }
-    requires { ⌜ length (conjunctBytesIn (now values) (now holders) (now kinds) roles (now scratch) head kept) ≤ length (now out) ⌝ }
-    ensures { λ r. ⌜ (r ≡ length (conjunctBytesIn (now (values .entry)) (now (holders .entry)) (now (kinds .entry)) roles (now (scratch .entry)) head kept)) × (now (out .exit) ≡ wrote (conjunctBytesIn (now (values .entry)) (now (holders .entry)) (now (kinds .entry)) roles (now (scratch .entry)) head kept) (now (out .entry))) ⌝ }
+    requires { ⌜ (length (now scratch) ≡ 2048) × (head < 512) ⌝ }
+    requires { ⌜ length (conjunctBytesIn (now distinct) (now having) (now inside) (now kinds) (now scratch) head kept) ≤ length (now out) ⌝ }
+    ensures { λ r. ⌜ (r ≡ length (conjunctBytesIn (now (distinct .entry)) (now (having .entry)) (now (inside .entry)) (now (kinds .entry)) (now (scratch .entry)) head kept)) × (now (out .exit) ≡ wrote (conjunctBytesIn (now (distinct .entry)) (now (having .entry)) (now (inside .entry)) (now (kinds .entry)) (now (scratch .entry)) head kept) (now (out .entry))) ⌝ }
 {
     let mut at: usize = 0;
     for k in 0..4 {
         at += put_kind(
-            values,
-            holders,
+            distinct,
+            having,
+            inside,
             kinds,
-            roles,
             scratch,
             head,
             kept,
@@ -165,15 +157,15 @@ fn put_role<'a>(
     scratch: &'a [u64],
     head: usize,
     role: usize,
+    list: &mut [u64; 64],
     out: &mut [u8],
 ) -> usize
     requires { ⌜ (operations ≤ 16) × (length (now scratch) ≡ 2048) × (head < 512) × (role < 32) ⌝ }
     requires { ⌜ length (roleBytesIn (now permissions) operations (now scratch) head role) ≤ length (now out) ⌝ }
     ensures { λ r. ⌜ (r ≡ length (roleBytesIn (now (permissions .entry)) operations (now (scratch .entry)) head role)) × (now (out .exit) ≡ wrote (roleBytesIn (now (permissions .entry)) operations (now (scratch .entry)) head role) (now (out .entry))) ⌝ }
 {
-    let mut list = [0u64; 64];
-    let count = rulelists::list_classes(permissions, operations, scratch, head, role, &mut list);
-    linewriter::put_classes(&list, count, role, out)
+    let count = rulelists::list_classes(permissions, operations, scratch, head, role, list);
+    linewriter::put_classes(list, count, role, out)
 }
 
 // The lines 28.
@@ -189,21 +181,31 @@ fn put_parts<'a>(
     ensures { λ r. ⌜ (r ≡ length (partBytesIn (now (permissions .entry)) operations (now (scratch .entry)) head)) × (now (out .exit) ≡ wrote (partBytesIn (now (permissions .entry)) operations (now (scratch .entry)) head) (now (out .entry))) ⌝ }
 {
     let mut at: usize = 0;
+    // One list for all roles, whatever it holds.
+    let mut list = [0u64; 64];
     for k in 0..32 {
-        at += put_role(permissions, operations, scratch, head, k, &mut out[at..]);
+        at += put_role(
+            permissions,
+            operations,
+            scratch,
+            head,
+            k,
+            &mut list,
+            &mut out[at..],
+        );
     }
     at
 }
 
-// ---- cost
+// ---- the rule
 
 // One of the five sections: what opens the rule, its conjuncts, its operations, its atoms, its parts.
 fn put_section<'a>(
-    values: &'a [u64; 768],
-    holders: &'a [u64; 32],
+    distinct: &'a [u64; 896],
+    having: &'a [u64; 896],
+    inside: &'a [u64; 896],
     kinds: &'a [u64; 2],
     permissions: &'a [u64; 512],
-    roles: usize,
     operations: usize,
     scratch: &'a [u64],
     head: usize,
@@ -211,16 +213,16 @@ fn put_section<'a>(
     section: usize,
     out: &mut [u8],
 ) -> usize
-    requires { ⌜ (roles ≤ 32) × (operations ≤ 16) × (length (now scratch) ≡ 2048) × (head < 512) ⌝ }
-    requires { ⌜ length (sectionBytesIn (now values) (now holders) (now kinds) (now permissions) roles operations (now scratch) head kept section) ≤ length (now out) ⌝ }
-    ensures { λ r. ⌜ (r ≡ length (sectionBytesIn (now (values .entry)) (now (holders .entry)) (now (kinds .entry)) (now (permissions .entry)) roles operations (now (scratch .entry)) head kept section)) × (now (out .exit) ≡ wrote (sectionBytesIn (now (values .entry)) (now (holders .entry)) (now (kinds .entry)) (now (permissions .entry)) roles operations (now (scratch .entry)) head kept section) (now (out .entry))) ⌝ }
+    requires { ⌜ (operations ≤ 16) × (length (now scratch) ≡ 2048) × (head < 512) ⌝ }
+    requires { ⌜ length (sectionBytesIn (now distinct) (now having) (now inside) (now kinds) (now permissions) operations (now scratch) head kept section) ≤ length (now out) ⌝ }
+    ensures { λ r. ⌜ (r ≡ length (sectionBytesIn (now (distinct .entry)) (now (having .entry)) (now (inside .entry)) (now (kinds .entry)) (now (permissions .entry)) operations (now (scratch .entry)) head kept section)) × (now (out .exit) ≡ wrote (sectionBytesIn (now (distinct .entry)) (now (having .entry)) (now (inside .entry)) (now (kinds .entry)) (now (permissions .entry)) operations (now (scratch .entry)) head kept section) (now (out .entry))) ⌝ }
 {
     if section == 0 {
         linewriter::put_one(out, 33);
         return 1;
     }
     if section == 1 {
-        return put_conjuncts(values, holders, kinds, roles, scratch, head, kept, out);
+        return put_conjuncts(distinct, having, inside, kinds, scratch, head, kept, out);
     }
     if section == 2 {
         let ops = scratch[4 * head + 2];
@@ -233,31 +235,31 @@ fn put_section<'a>(
     put_parts(permissions, operations, scratch, head, out)
 }
 
-// The bytes of the rule, section by section.
-fn put_rule<'a>(
-    values: &'a [u64; 768],
-    holders: &'a [u64; 32],
+// Writes the rule of the group with this head, of whose 50 places these are kept, section by section; answers how many bytes it has.
+pub fn write_rule<'a>(
+    distinct: &'a [u64; 896],
+    having: &'a [u64; 896],
+    inside: &'a [u64; 896],
     kinds: &'a [u64; 2],
     permissions: &'a [u64; 512],
-    roles: usize,
     operations: usize,
     scratch: &'a [u64],
     head: usize,
     kept: u64,
     out: &mut [u8],
 ) -> usize
-    requires { ⌜ (roles ≤ 32) × (operations ≤ 16) × (length (now scratch) ≡ 2048) × (head < 512) ⌝ }
-    requires { ⌜ length (ruleBytesIn (now values) (now holders) (now kinds) (now permissions) roles operations (now scratch) head kept) ≤ length (now out) ⌝ }
-    ensures { λ r. ⌜ (r ≡ length (ruleBytesIn (now (values .entry)) (now (holders .entry)) (now (kinds .entry)) (now (permissions .entry)) roles operations (now (scratch .entry)) head kept)) × (now (out .exit) ≡ wrote (ruleBytesIn (now (values .entry)) (now (holders .entry)) (now (kinds .entry)) (now (permissions .entry)) roles operations (now (scratch .entry)) head kept) (now (out .entry))) ⌝ }
+    requires { ⌜ (operations ≤ 16) × (length (now scratch) ≡ 2048) × (head < 512) ⌝ }
+    requires { ⌜ length (ruleBytesIn (now distinct) (now having) (now inside) (now kinds) (now permissions) operations (now scratch) head kept) ≤ length (now out) ⌝ }
+    ensures { λ r. ⌜ (r ≡ length (ruleBytesIn (now (distinct .entry)) (now (having .entry)) (now (inside .entry)) (now (kinds .entry)) (now (permissions .entry)) operations (now (scratch .entry)) head kept)) × (now (out .exit) ≡ wrote (ruleBytesIn (now (distinct .entry)) (now (having .entry)) (now (inside .entry)) (now (kinds .entry)) (now (permissions .entry)) operations (now (scratch .entry)) head kept) (now (out .entry))) ⌝ }
 {
     let mut at: usize = 0;
     for i in 0..5 {
         at += put_section(
-            values,
-            holders,
+            distinct,
+            having,
+            inside,
             kinds,
             permissions,
-            roles,
             operations,
             scratch,
             head,
@@ -267,38 +269,4 @@ fn put_rule<'a>(
         );
     }
     at
-}
-
-// Writes the rule of the group with this head, of whose 50 places these are kept; answers how many bytes it has and what it costs.
-pub fn write_rule<'a>(
-    values: &'a [u64; 768],
-    holders: &'a [u64; 32],
-    kinds: &'a [u64; 2],
-    permissions: &'a [u64; 512],
-    roles: usize,
-    operations: usize,
-    scratch: &'a [u64],
-    head: usize,
-    kept: u64,
-    out: &mut [u8],
-) -> Written
-    requires { ⌜ (roles ≤ 32) × (operations ≤ 16) × (length (now scratch) ≡ 2048) × (head < 512) ⌝ }
-    requires { ⌜ length (ruleBytesIn (now values) (now holders) (now kinds) (now permissions) roles operations (now scratch) head kept) ≤ length (now out) ⌝ }
-    ensures { λ r. ⌜ r ≡ record { bytes = length (ruleBytesIn (now (values .entry)) (now (holders .entry)) (now (kinds .entry)) (now (permissions .entry)) roles operations (now (scratch .entry)) head kept); cost = ruleCostIn (now (values .entry)) (now (holders .entry)) (now (kinds .entry)) roles (now (scratch .entry)) head kept } ⌝ }
-    ensures { λ _. ⌜ now (out .exit) ≡ ruleBytesIn (now (values .entry)) (now (holders .entry)) (now (kinds .entry)) (now (permissions .entry)) roles operations (now (scratch .entry)) head kept ++ drop (length (ruleBytesIn (now (values .entry)) (now (holders .entry)) (now (kinds .entry)) (now (permissions .entry)) roles operations (now (scratch .entry)) head kept)) (now (out .entry)) ⌝ }
-{
-    let bytes = put_rule(
-        values,
-        holders,
-        kinds,
-        permissions,
-        roles,
-        operations,
-        scratch,
-        head,
-        kept,
-        out,
-    );
-    let cost = rulelists::rule_cost(values, holders, kinds, roles, scratch, head, kept);
-    Written { bytes, cost }
 }

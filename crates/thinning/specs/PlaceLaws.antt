@@ -11,19 +11,17 @@ use mathlib.Core.Path.{_≡_, refl, sym, ap, ap₂, _∙_, subst}
 use native.Mathlib.Nat.{zero-add, suc-add, pow-suc, pow-succ', div-one, div-div-eq-div-mul, mul-assoc, mul-mod-left, mul-div-cancel}
 use native.Mathlib.Numerals.{add-one}
 use native.Mathlib.Omega.{arith}
-use Rattle.conjuncts.specs.Summary.{metByAll, linkedWith}
-use Rattle.grants.specs.Grid.{differenceOf, isSame}
-use Rattle.grants.specs.declared.Difference.{Difference}
+use Rattle.conjuncts.specs.Summary.{linkedWith}
 use Rattle.loaded.specs.Record.{tableOf}
 use Rattle.matches.specs.Matches.{metOf, lessOne}
 use Rattle.matches.specs.MemberLaws.{bit-less}
 use Rattle.sets.specs.LoopLaws.{narrowing, table-unique}
-use Rattle.sets.specs.MaskLaws.{and-true, or-false, bit-out, bit-maskOf, mask-lt, mask-unique, mask-same, mask-wide}
+use Rattle.sets.specs.MaskLaws.{and-true, or-false, bit-out, bit-maskOf, mask-lt, mask-unique, mask-same, mask-none, mask-wide}
 use Rattle.sets.specs.Sets.{bit, subset, bit-zero, bit-suc, bit-none, maskOf, bit-mask}
 use Rattle.sets.specs.Tests.{Is, and-in, and-l, and-r, never, test, same, imp, imp-in, imp-out, all, all-out, all-in, upTo, upTo-in, upTo-out, not-in}
 use Rattle.words.specs.Flags.{placeSide}
 use Rattle.words.specs.Words.{Words, membersOf}
-use Rattle.thinning.specs.Kept.{firstOther, metAt, metPlaces, allowedAt, conjunctAt, presentPlaces, grantsSame, thinBy, thinTo, keptIn}
+use Rattle.thinning.specs.Kept.{metAt, metPlaces, allowedAt, conjunctAt, presentPlaces, grantsSame, thinBy, thinTo, keptIn}
 
 -- ---- shifted sets
 
@@ -77,6 +75,10 @@ narrow-turn n m h g y a a′ l b q =
         and-in (narrowed u lu ∙ and-in (and-l (bit a u) _ p) (imp-out (bit (g y) u) (all-out (λ j. imp (bit m j) (bit (g j) u)) t (upTo-in l)) b))
         (all-in (λ j. imp (bit (lessOne m y) j) (bit (g j) u)) (upTo n) λ j i. imp-in (bit (lessOne m y) j) (bit (g j) u) λ k.
         imp-out (bit (g j) u) (all-out (λ j. imp (bit m j) (bit (g j) u)) t i) (and-l (bit m j) _ (sym (bit-less m h y j) ∙ k)))
+
+-- an empty set stays empty
+pub narrow-nothing : (n m : ℕ) (g : ℕ → ℕ) (a : ℕ) → a ≡ 0 → 0 ≡ maskOf 64 (narrowing a (bit m) g n)
+narrow-nothing n m g a e = sym (mask-none 64 (narrowing a (bit m) g n) λ u l. ap (λ (b : Bool). b && all (λ j. imp (bit m j) (bit (g j) u)) (upTo n)) (ap (λ (x : ℕ). bit x u) e ∙ bit-none u))
 
 -- with no member left it has done
 pub narrow-done : (n m : ℕ) (g : ℕ → ℕ) (a : ℕ) → a < 2 ^ 64 → m ≡ 0 → maskOf 64 (narrowing a (bit m) g n) ≡ a
@@ -176,12 +178,6 @@ less-one m i {s} e q =
     (ap (λ (x : ℕ). bit x k) e ∙ bit-mask 64 (λ k. bit 0 k || eqb k i) k l ∙ ap (λ (b : Bool). b || eqb k i) (bit-none k)))
 
 module _ (links met : List ℕ) (us rs os : ℕ) (W : Words) (m : ℕ) where
-  -- the answer of the comparison
-  pub grants-told : {who what : ℕ} {d e : Difference} → who ≡ metByAll met m 0 us → what ≡ metByAll met m 1 rs → d ≡ differenceOf (firstOther links W (m / 2 ^ 14) who what us rs os) → d ≡ e
-      → isSame e ≡ grantsSame links met us rs os W m
-  unfolding grantsSame
-  grants-told p q t k = ap isSame (sym k ∙ t) ∙ ap₂ (λ (x y : ℕ). isSame (differenceOf (firstOther links W (m / 2 ^ 14) x y us rs os))) p q
-
   -- no condition stands there
   pub thin-absent : (i : ℕ) → bit m i ≡ false → m ≡ thinBy links met us rs os W m i
   unfolding thinBy

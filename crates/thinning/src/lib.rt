@@ -6,18 +6,21 @@ ghost use mathlib.Core.Path.{_≡_};
 ghost use Prim.Native.Nat.{_≤_, _<_};
 ghost use Rattle.conjuncts.specs.Summary.{linkedWith};
 ghost use Rattle.grants.specs.Grid.{differenceOf};
+ghost use Rattle.loaded.specs.Record.{tableOf};
 ghost use Rattle.pairing.specs.Pairing.{wordsIn};
 ghost use Rattle.policy.specs.Rules.{ownAt};
 ghost use Rattle.rulegrants.specs.RuleGrid.{rowOf};
-ghost use Rattle.sets.specs.Sets.{bit};
+ghost use Rattle.sets.specs.Sets.{bit, maskOf};
 ghost use Rattle.sets.specs.Tests.{iff};
 ghost use Rattle.thinning.specs.Kept.{firstOther, metAt, metPlaces, allowedAt, conjunctAt, presentPlaces, grantsSame, thinBy, keptIn};
+ghost use Rattle.thinning.specs.Rows.{noOther, everything, narrowedRows, joinedRows, freeCorner, freeCorners, rowIn, isFull, openUsers, addsNone, asksNoMore};
 ghost use Rattle.words.specs.Flags.{placeSide};
 ghost use Rattle.words.specs.Words.{membersOf};
 use grants::Difference;
 use pairing::Group;
 
-// Which of some resources every atom joins with a user. Most rules have few atoms, so only those are looked at.
+// Which of some resources every atom joins with a user. Most rules have few atoms, so only those are looked at, and no more of them once
+// no resource is left.
 fn linked(links: &[u64; 2304], atoms: u64, user: usize, among: u64) -> u64
     requires { ⌜ user < 64 ⌝ }
     ensures { λ r. ⌜ r ≡ linkedWith (now (links .entry)) atoms user among ⌝ }
@@ -25,6 +28,9 @@ fn linked(links: &[u64; 2304], atoms: u64, user: usize, among: u64) -> u64
     let mut m = among;
     let mut rest = sets::meet(atoms, sets::below(36));
     while 0 < rest {
+        if m == 0 {
+            return 0;
+        }
         let i = sets::least(rest);
         m = sets::meet(m, links[64 * i + user]);
         rest = matches::without_least(rest);
@@ -176,56 +182,234 @@ fn present<'a>(known: &'a [u64; 14], attributes: &'a [usize; 2], g: Group, level
     sets::union(m, sets::meet(g.atoms, sets::below(36)) << 14)
 }
 
-// Whether the rule with the conditions at these places grants the group's triples and no other. Who meets the conjunct of each place is
-// handed in.
-fn grants_same<'a>(
+// All resources for every user.
+fn widen_rows(out: &mut [u64])
+    requires { ⌜ length (now out) ≡ 64 ⌝ }
+    ensures { λ _. ⌜ now (out .exit) ≡ tableOf 64 (λ u. everything) ⌝ }
+{
+    let all = sets::below(64);
+    for u in 0..64 {
+        out[u] = all;
+    }
+}
+
+// Of each user's resources those that an atom joins with the user.
+fn narrow_rows(links: &[u64; 2304], atom: usize, out: &mut [u64])
+    requires { ⌜ (atom < 36) × (length (now out) ≡ 64) ⌝ }
+    ensures { λ _. ⌜ now (out .exit) ≡ narrowedRows (now (links .entry)) atom (now (out .entry)) ⌝ }
+{
+    for u in 0..64 {
+        out[u] = sets::meet(out[u], links[64 * atom + u]);
+    }
+}
+
+// Into a slice, as above.
+fn fill_rows(links: &[u64; 2304], atoms: u64, out: &mut [u64])
+    requires { ⌜ length (now out) ≡ 64 ⌝ }
+    ensures { λ _. ⌜ now (out .exit) ≡ joinedRows (now (links .entry)) atoms ⌝ }
+{
+    widen_rows(out);
+    let mut rest = sets::meet(atoms, sets::below(36));
+    while 0 < rest {
+        narrow_rows(links, sets::least(rest), out);
+        rest = matches::without_least(rest);
+    }
+}
+
+// The resources that all atoms of a group join with each user, whatever the table held.
+fn joined_rows(links: &[u64; 2304], atoms: u64, out: &mut [u64; 64])
+    ensures { λ _. ⌜ now (out .exit) ≡ joinedRows (now (links .entry)) atoms ⌝ }
+{
+    fill_rows(links, atoms, out);
+}
+
+// Whether no user of a set has one of these resources in its row.
+fn corner_free(rows: &[u64; 64], users: u64, resources: u64) -> bool
+    ensures { λ s. ⌜ s ≡ freeCorner (now (rows .entry)) users resources ⌝ }
+{
+    if resources == 0 {
+        return true;
+    }
+    let mut rest = users;
+    while 0 < rest {
+        let u = sets::least(rest);
+        if sets::meet(rows[u], resources) != 0 {
+            return false;
+        }
+        rest = matches::without_least(rest);
+    }
+    true
+}
+
+// Whether the group's users have none of the resources that the rule adds, and the users that it adds none at all.
+fn corners_free(rows: &[u64; 64], g: Group, who: u64, what: u64) -> bool
+    ensures { λ s. ⌜ s ≡ freeCorners (now (rows .entry)) (wordsIn g) who what ⌝ }
+{
+    if corner_free(rows, g.users, sets::without(what, g.resources)) {
+        return corner_free(rows, sets::without(who, g.users), what);
+    }
+    false
+}
+
+// The group's resources for a user, from the rows.
+fn row_in(rows: &[u64; 64], g: Group, user: usize) -> u64
+    requires { ⌜ user < 64 ⌝ }
+    ensures { λ r. ⌜ r ≡ rowIn (now (rows .entry)) (wordsIn g) user ⌝ }
+{
+    if sets::has(g.users, user) {
+        return sets::meet(rows[user], g.resources);
+    }
+    0
+}
+
+// Whether the atoms join a user of the group with all its resources.
+fn is_full(rows: &[u64; 64], g: Group, user: usize) -> bool
+    requires { ⌜ user < 64 ⌝ }
+    ensures { λ s. ⌜ s ≡ isFull (now (rows .entry)) (wordsIn g) user ⌝ }
+{
+    sets::has(g.users, user) & sets::within(g.resources, rows[user])
+}
+
+// Those users.
+fn full_users(rows: &[u64; 64], g: Group) -> u64
+    ensures { λ r. ⌜ r ≡ maskOf 64 (isFull (now (rows .entry)) (wordsIn g)) ⌝ }
+{
+    let mut m: u64 = 0;
+    for u in 0..64 {
+        if is_full(rows, g, u) {
+            m = sets::with(m, u);
+        }
+    }
+    m
+}
+
+// The users to look at for what a rule adds: where it adds no resources, not those that have all.
+fn open_users(g: Group, full: u64, who: u64, what: u64) -> u64
+    ensures { λ r. ⌜ r ≡ openUsers (wordsIn g) full who what ⌝ }
+{
+    if sets::within(what, g.resources) {
+        return sets::without(who, full);
+    }
+    who
+}
+
+// Whether these atoms join those who meet the rule's conjuncts with none but the group's resources.
+fn adds_none<'a>(
     links: &'a [u64; 2304],
-    met: &'a [u64; 14],
+    rows: &'a [u64; 64],
     g: Group,
-    places: u64,
+    full: u64,
+    atoms: u64,
+    who: u64,
+    what: u64,
+) -> bool
+    requires { ⌜ full ≡ maskOf 64 (isFull (now rows) (wordsIn g)) ⌝ }
+    ensures { λ s. ⌜ s ≡ addsNone (now (links .entry)) (now (rows .entry)) (wordsIn g) atoms who what ⌝ }
+{
+    let mut rest = open_users(g, full, who, what);
+    while 0 < rest {
+        let u = sets::least(rest);
+        let others = sets::without(what, row_in(rows, g, u));
+        if linked(links, atoms, u, others) != 0 {
+            return false;
+        }
+        rest = matches::without_least(rest);
+    }
+    true
+}
+
+// Whether a rule asks no more than a group has: all members of the group meet its conjuncts, its atoms are some of the group's, and the
+// group has an operation. So it is with the rules of every group of a role file.
+fn asks_no_more(g: Group, atoms: u64, who: u64, what: u64, operations: usize) -> bool
+    ensures { λ s. ⌜ s ≡ asksNoMore (wordsIn g) atoms who what operations ⌝ }
+{
+    if sets::meet(g.operations, sets::below(operations)) == 0 {
+        return false;
+    }
+    sets::within(g.users, who) & sets::within(g.resources, what) & sets::within(atoms, g.atoms)
+}
+
+// Whether a rule with a group's operations grants the group's triples and no other, found triple by triple.
+fn no_other(
+    links: &[u64; 2304],
+    g: Group,
+    atoms: u64,
+    who: u64,
+    what: u64,
     users: usize,
     resources: usize,
     operations: usize,
 ) -> bool
-    requires { ⌜ (users ≤ 64) × (resources ≤ 64) ⌝ }
-    ensures { λ r. ⌜ r ≡ grantsSame (now (links .entry)) (now (met .entry)) users resources operations (wordsIn g) places ⌝ }
+    requires { ⌜ users ≤ 64 ⌝ }
+    ensures { λ r. ⌜ r ≡ noOther (now (links .entry)) (wordsIn g) atoms who what users resources operations ⌝ }
 {
-    let who = conjuncts::met_by_all(met, places, 0, users);
-    let what = conjuncts::met_by_all(met, places, 1, resources);
-    let difference = first_other(
-        links,
-        g,
-        places >> 14,
-        who,
-        what,
-        users,
-        resources,
-        operations,
-    );
+    let difference = first_other(links, g, atoms, who, what, users, resources, operations);
     match difference {
         Difference::Same => true,
         Difference::At(_, _, _) => false,
     }
 }
 
+// Whether the rule with the conditions at these places grants the group's triples and no other. Who meets the conjunct of each place, and
+// the rows of the group's atoms, are handed in. A rule that asks no more than the group has grants all of the group, and what it grants
+// besides is found in sets of resources: while it has all atoms of the group, in the rows alone. The users whose rows have all resources of
+// the group are handed in too.
+fn grants_same<'a>(
+    links: &'a [u64; 2304],
+    met: &'a [u64; 14],
+    rows: &'a [u64; 64],
+    g: Group,
+    full: u64,
+    places: u64,
+    users: usize,
+    resources: usize,
+    operations: usize,
+) -> bool
+    requires { ⌜ (users ≤ 64) × (resources ≤ 64) × (now rows ≡ joinedRows (now links) (g .atoms)) × (full ≡ maskOf 64 (isFull (now rows) (wordsIn g))) ⌝ }
+    ensures { λ r. ⌜ r ≡ grantsSame (now (links .entry)) (now (met .entry)) users resources operations (wordsIn g) places ⌝ }
+{
+    let who = conjuncts::met_by_all(met, places, 0, users);
+    let what = conjuncts::met_by_all(met, places, 1, resources);
+    let atoms = places >> 14;
+    if asks_no_more(g, atoms, who, what, operations) {
+        if sets::meet(g.atoms, sets::below(36)) == atoms {
+            return corners_free(rows, g, who, what);
+        }
+        return adds_none(links, rows, g, full, atoms, who, what);
+    }
+    no_other(links, g, atoms, who, what, users, resources, operations)
+}
+
 // These places without one, if it is there and the grants stay the same without it; else all of them.
 fn thinned<'a>(
     links: &'a [u64; 2304],
     met: &'a [u64; 14],
+    rows: &'a [u64; 64],
     g: Group,
+    full: u64,
     places: u64,
     place: usize,
     users: usize,
     resources: usize,
     operations: usize,
 ) -> u64
-    requires { ⌜ (users ≤ 64) × (resources ≤ 64) ⌝ }
+    requires { ⌜ (users ≤ 64) × (resources ≤ 64) × (now rows ≡ joinedRows (now links) (g .atoms)) × (full ≡ maskOf 64 (isFull (now rows) (wordsIn g))) ⌝ }
     ensures { λ r. ⌜ r ≡ thinBy (now (links .entry)) (now (met .entry)) users resources operations (wordsIn g) places place ⌝ }
 {
     // Most places have no condition.
     if sets::has(places, place) {
         let fewer = sets::without(places, sets::with(0, place));
-        if grants_same(links, met, g, fewer, users, resources, operations) {
+        if grants_same(
+            links,
+            met,
+            rows,
+            g,
+            full,
+            fewer,
+            users,
+            resources,
+            operations,
+        ) {
             return fewer;
         }
     }
@@ -250,8 +434,22 @@ pub fn kept_places<'a>(
     let mut kept = present(known, attributes, g, level);
     let mut met = [0u64; 14];
     met_places(matches, g, kept, &mut met);
+    let mut rows = [0u64; 64];
+    joined_rows(links, g.atoms, &mut rows);
+    let full = full_users(&rows, g);
     for i in 0..50 {
-        kept = thinned(links, &met, g, kept, i, users, resources, operations);
+        kept = thinned(
+            links,
+            &met,
+            &rows,
+            g,
+            full,
+            kept,
+            i,
+            users,
+            resources,
+            operations,
+        );
     }
     kept
 }

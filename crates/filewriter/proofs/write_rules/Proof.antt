@@ -11,17 +11,17 @@ use Rattle.filewriter.proofs.write_rules.Statement.{statement}
 use Rattle.filewriter.proofs.write_rules.Tie as tie
 
 abbrev Inv-loop : tie.InvT-loop
-Inv-loop links matches known attributes values holders kinds permissions users resources operations roles scratch out₀ at₀ i₀ out at i = (i ≤ 512) × Runs (ruleAt links matches known attributes values holders kinds permissions users resources operations roles scratch) 512 out₀ out at i
+Inv-loop kept distinct having inside kinds permissions operations scratch out₀ at₀ i₀ out at i = (i ≤ 512) × Runs (ruleAt kept distinct having inside kinds permissions operations scratch) 512 out₀ out at i
 
 abbrev μ-loop : tie.MeasureT-loop
-μ-loop links matches known attributes values holders kinds permissions users resources operations roles scratch out₀ at₀ i₀ out at i = 512 - i
+μ-loop kept distinct having inside kinds permissions operations scratch out₀ at₀ i₀ out at i = 512 - i
 
 loop-holds : tie.Need-loop-holds Inv-loop μ-loop
 loop-holds c =
     let s = c .before .before in
     let a = s .args in
-    let r = file-room (a .links .now) (a .matches .now) (a .known .now) (a .attributes .now) (a .values .now) (a .holders .now) (a .kinds .now) (a .permissions .now) (a .users) (a .resources) (a .operations) (a .roles) (a .scratch .now) (now (a .out)) (s .pre .5) in
-    (search needs, runs-begin (ruleAt (a .links .now) (a .matches .now) (a .known .now) (a .attributes .now) (a .values .now) (a .holders .now) (a .kinds .now) (a .permissions .now) (a .users) (a .resources) (a .operations) (a .roles) (a .scratch .now)) 512 (now (a .out)) (omega (arith, r)))
+    let r = file-room (a .kept .now) (a .distinct .now) (a .having .now) (a .inside .now) (a .kinds .now) (a .permissions .now) (a .operations) (a .scratch .now) (now (a .out)) (s .pre .2) in
+    (search needs, runs-begin (ruleAt (a .kept .now) (a .distinct .now) (a .having .now) (a .inside .now) (a .kinds .now) (a .permissions .now) (a .operations) (a .scratch .now)) 512 (now (a .out)) (omega (arith, r)))
 
 write-slot-requires : tie.Need-write-slot-requires Inv-loop μ-loop
 write-slot-requires c κs =
@@ -29,25 +29,27 @@ write-slot-requires c κs =
     let s = c .before .before .before .before .before in
     let a = s .args in
     let t = c .before .loop-test .taken in
-    (s .pre .0, s .pre .1, s .pre .2, s .pre .3, s .pre .4, t, runs-room (ruleAt (a .links .now) (a .matches .now) (a .known .now) (a .attributes .now) (a .values .now) (a .holders .now) (a .kinds .now) (a .permissions .now) (a .users) (a .resources) (a .operations) (a .roles) (a .scratch .now)) 512 (now (a .out)) (l .out) (l .at) (l .i) t (l .inv .1))
+    (s .pre .0, s .pre .1, t, runs-room (ruleAt (a .kept .now) (a .distinct .now) (a .having .now) (a .inside .now) (a .kinds .now) (a .permissions .now) (a .operations) (a .scratch .now)) 512 (now (a .out)) (l .out) (l .at) (l .i) t (l .inv .1))
 
 add-at : tie.Need-add-at Inv-loop μ-loop
 add-at c =
-    let l = c .before .before .before .before .before .before .loop in
-    let s = c .before .before .before .before .before .before .before .before .before in
+    let d = c .before .before .before .before in
+    let l = d .before .loop in
+    let s = d .before .before .before .before in
     let a = s .args in
-    let t = c .before .before .before .before .before .loop-test .taken in
-    let w = runs-within (ruleAt (a .links .now) (a .matches .now) (a .known .now) (a .attributes .now) (a .values .now) (a .holders .now) (a .kinds .now) (a .permissions .now) (a .users) (a .resources) (a .operations) (a .roles) (a .scratch .now)) 512 (now (a .out)) (l .out) (l .at) (l .i) t (l .inv .1) in
-    let e = c .before .before .before .write-slot .ensures .1 in
+    let t = d .loop-test .taken in
+    let w = runs-within (ruleAt (a .kept .now) (a .distinct .now) (a .having .now) (a .inside .now) (a .kinds .now) (a .permissions .now) (a .operations) (a .scratch .now)) 512 (now (a .out)) (l .out) (l .at) (l .i) t (l .inv .1) in
+    let e = c .before .before .write-slot .ensures .1 in
     omega (arith, w, e, s .good)
 
 loop-again : tie.Need-loop-again Inv-loop μ-loop
 loop-again c =
-    let l = c .before .before .before .before .before .before .loop in
-    let a = c .before .before .before .before .before .before .before .before .before .args in
-    let t = c .before .before .before .before .before .loop-test .taken in
-    let w = c .before .before .before .write-slot in
-    (search needs, runs-more (ruleAt (a .links .now) (a .matches .now) (a .known .now) (a .attributes .now) (a .values .now) (a .holders .now) (a .kinds .now) (a .permissions .now) (a .users) (a .resources) (a .operations) (a .roles) (a .scratch .now)) 512 (now (a .out)) (l .out) (l .at) (l .i) t (l .inv .1) _ (w .result .bytes) (w .ensures .0) (w .ensures .1))
+    let d = c .before .before .before .before in
+    let l = d .before .loop in
+    let a = d .before .before .before .before .args in
+    let t = d .loop-test .taken in
+    let w = c .before .before .write-slot in
+    (search needs, runs-more (ruleAt (a .kept .now) (a .distinct .now) (a .having .now) (a .inside .now) (a .kinds .now) (a .permissions .now) (a .operations) (a .scratch .now)) 512 (now (a .out)) (l .out) (l .at) (l .i) t (l .inv .1) _ (w .result) (w .ensures .0) (w .ensures .1))
 
 slice-write-out : tie.Need-slice-write-out Inv-loop μ-loop
 slice-write-out c =
@@ -56,7 +58,7 @@ slice-write-out c =
     let a = s .args in
     let i = l .inv .0 in
     let e = c .loop-test .left in
-    file-ended (a .links .now) (a .matches .now) (a .known .now) (a .attributes .now) (a .values .now) (a .holders .now) (a .kinds .now) (a .permissions .now) (a .users) (a .resources) (a .operations) (a .roles) (a .scratch .now) (now (a .out)) (l .out) (l .at) (l .i) (l .inv .1) (omega (arith, i, e)) (s .pre .5) .0
+    file-ended (a .kept .now) (a .distinct .now) (a .having .now) (a .inside .now) (a .kinds .now) (a .permissions .now) (a .operations) (a .scratch .now) (now (a .out)) (l .out) (l .at) (l .i) (l .inv .1) (omega (arith, i, e)) (s .pre .2) .0
 
 same-length : tie.Need-same-length Inv-loop μ-loop
 same-length c =
@@ -65,7 +67,7 @@ same-length c =
     let a = s .args in
     let i = l .inv .0 in
     let e = c .loop-test .left in
-    file-ended (a .links .now) (a .matches .now) (a .known .now) (a .attributes .now) (a .values .now) (a .holders .now) (a .kinds .now) (a .permissions .now) (a .users) (a .resources) (a .operations) (a .roles) (a .scratch .now) (now (a .out)) (l .out) (l .at) (l .i) (l .inv .1) (omega (arith, i, e)) (s .pre .5) .2
+    file-ended (a .kept .now) (a .distinct .now) (a .having .now) (a .inside .now) (a .kinds .now) (a .permissions .now) (a .operations) (a .scratch .now) (now (a .out)) (l .out) (l .at) (l .i) (l .inv .1) (omega (arith, i, e)) (s .pre .2) .2
 
 returns : tie.Need-returns Inv-loop μ-loop
 returns c =
@@ -74,7 +76,7 @@ returns c =
     let a = s .args in
     let i = l .inv .0 in
     let e = c .loop-test .left in
-    file-ended (a .links .now) (a .matches .now) (a .known .now) (a .attributes .now) (a .values .now) (a .holders .now) (a .kinds .now) (a .permissions .now) (a .users) (a .resources) (a .operations) (a .roles) (a .scratch .now) (now (a .out)) (l .out) (l .at) (l .i) (l .inv .1) (omega (arith, i, e)) (s .pre .5) .1
+    file-ended (a .kept .now) (a .distinct .now) (a .having .now) (a .inside .now) (a .kinds .now) (a .permissions .now) (a .operations) (a .scratch .now) (now (a .out)) (l .out) (l .at) (l .i) (l .inv .1) (omega (arith, i, e)) (s .pre .2) .1
 
 pub write-rules-spec : {M : Type 1} → statement M
 write-rules-spec =

@@ -1,6 +1,5 @@
 -- Assumes nothing.
 use borrow.Author.Needs.{needs}
-use native.Mathlib.Omega.{arith}
 use Rattle.merging.specs.StoreLaws.{joined-slots}
 use Rattle.merging.proofs.join.Statement.{statement}
 use Rattle.merging.proofs.join.Tie as tie
@@ -10,7 +9,7 @@ returns c =
     let second = c .before .before in
     let first = second .before .before .before .before in
     let start = first .before .before .before in
-    joined-slots (start .pre .0) (first .take-in .ensures) (second .rehead .ensures) (omega arith)
+    joined-slots (start .pre .0) (start .pre .1) (first .take-in .ensures) (second .take-head .ensures)
 
 pub join-spec : {M : Type 1} → statement M
 join-spec = tie.close (tie.spec (λ c κs. search needs) (λ c κs. search needs) (λ c. search needs) returns)

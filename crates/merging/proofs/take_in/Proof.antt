@@ -1,4 +1,5 @@
 -- Assumes nothing.
+use Prim.Native.Nat.{_*_}
 use borrow.Author.Needs.{needs}
 use Rattle.merging.specs.StoreLaws.{meet-low, atoms-low, taken-in}
 use Rattle.merging.proofs.take_in.Statement.{statement}
@@ -17,9 +18,10 @@ returns c =
     let packed = three .before .before .before in
     let second = packed .before .before in
     let first = second .before .before in
-    let start = first .before .before .before in
+    let known = first .before .before in
+    let start = known .before in
     taken-in (start .args .scratch .now) (start .args .i) (start .args .j) (start .args .level) (start .pre .3) (start .pre .0) (start .pre .2) (first .group-at .ensures) (second .group-at2 .ensures)
-    (packed .before .meet .ensures) (packed .pack .ensures) (three .before .before .union .ensures) (three .before .union2 .ensures) (three .union3 .ensures) (stored .store .ensures)
+    (packed .before .meet .ensures) (packed .pack .ensures) (three .before .before .union .ensures) (three .before .union2 .ensures) (three .union3 .ensures) (known .slice-known .given (4 * start .args .i) .fits) (stored .store .ensures)
 
 pub take-in-spec : {M : Type 1} → statement M
 take-in-spec =

@@ -1,69 +1,80 @@
--- The invariant: the users before u are joined with none of the resources. Assumes nothing.
-use Prim.Native.Nat.{ℕ, _-_, _≤_}
+-- The invariant: the corner is free if each of the users left is joined with nothing of it. The users left fall. Assumes nothing.
+use Prim.Native.Nat.{ℕ, _^_, _<_}
 use borrow.Author.Needs.{needs}
 use borrow.Author.Tests.{eq-eqb, ne-eqb}
 use lib.Dec.{eqb}
-use mathlib.Core.Bool.{Bool, true}
+use mathlib.Core.Bool.{Bool}
 use mathlib.Core.List.{List}
-use mathlib.Core.Path.{_≡_, sym, _∙_}
+use mathlib.Core.Path.{_≡_, sym, ap, _∙_}
 use native.Mathlib.Omega.{arith}
-use Rattle.rulegrants.specs.RuleGrid.{rowOf}
-use Rattle.sets.specs.LoopLaws.{turn-within, all-none, all-on, all-found, all-end}
-use Rattle.sets.specs.Tests.{all, upTo}
-use Rattle.pairing.specs.JoinLaws.{free-users, free-resources, not-free}
+use Rattle.conjuncts.specs.Summary.{linkedWith}
+use Rattle.matches.specs.Matches.{lessOne}
+use Rattle.matches.specs.MemberLaws.{least-in, less-less, all-turn, all-left, all-done}
+use Rattle.sets.specs.Sets.{bit}
+use Rattle.sets.specs.Tests.{imp, all, upTo}
+use Rattle.pairing.specs.JoinLaws.{free-members, free-nothing}
 use Rattle.pairing.specs.Pairing.{cornerFree}
 use Rattle.pairing.proofs.corner_free.Statement.{statement}
 use Rattle.pairing.proofs.corner_free.Tie as tie
 
-abbrev alone : List ℕ → ℕ → ℕ → ℕ → ℕ → Bool
-alone links atoms users resources u = eqb (rowOf links atoms users resources u) 0
+abbrev alone : List ℕ → ℕ → ℕ → ℕ → Bool
+alone links atoms resources u = eqb (linkedWith links atoms u resources) 0
 
 abbrev Inv-loop : tie.InvT-loop
-Inv-loop links atoms users resources u₀ u = (u ≤ 64) × (all (alone links atoms users resources) (upTo u) ≡ true)
+Inv-loop links atoms users resources rest₀ rest = (rest < 2 ^ 64) × (all (λ u. imp (bit rest u) (alone links atoms resources u)) (upTo 64) ≡ cornerFree links atoms users resources)
 
 abbrev μ-loop : tie.MeasureT-loop
-μ-loop links atoms users resources u₀ u = 64 - u
+μ-loop links atoms users resources rest₀ rest = rest
 
 returns : tie.Need-returns Inv-loop μ-loop
 returns c =
     let a = c .before .args in
-    free-users (a .links .now) (a .atoms) (a .users) (a .resources) (c .if1 .taken)
-
-returns-2 : tie.Need-returns-2 Inv-loop μ-loop
-returns-2 c =
-    let a = c .before .before .args in
-    free-resources (a .links .now) (a .atoms) (a .users) (a .resources) (c .if2 .taken)
-
-returns-3 : tie.Need-returns-3 Inv-loop μ-loop
-returns-3 c =
-    let start = c .before .before .before in
-    let a = start .args in
-    not-free (a .links .now) (a .atoms) (a .users) (a .resources) (start .fits .users .fits) (start .fits .resources .fits) (c .before .before .if1 .left) (c .before .if2 .left) (c .if3 .taken)
+    free-nothing (a .links .now) (a .atoms) (a .users) (a .resources) (c .if1 .taken)
 
 loop-holds : tie.Need-loop-holds Inv-loop μ-loop
 loop-holds c =
-    let a = c .before .before .before .args in
-    (search needs, all-none (alone (a .links .now) (a .atoms) (a .users) (a .resources)))
+    let a = c .before .args in
+    (search needs, sym (free-members (a .links .now) (a .atoms) (a .users) (a .resources)))
 
-returns-4 : tie.Need-returns-4 Inv-loop μ-loop
-unfolding cornerFree
-returns-4 c =
-    let turn = c .before .before .before in
-    let a = turn .before .before .before .before .args in
-    sym (all-found (alone (a .links .now) (a .atoms) (a .users) (a .resources)) (turn .loop .u) 64 (c .before .before .loop-test .taken) (ne-eqb (rowOf (a .links .now) (a .atoms) (a .users) (a .resources) (turn .loop .u)) 0 (λ e. c .if4 .taken (c .before .row .ensures ∙ e))))
+linked-requires : tie.Need-linked-requires Inv-loop μ-loop
+linked-requires c κs = least-in (c .before .before .loop .rest) (c .before .before .loop .inv .0) _ (c .least .ensures) (c .before .loop-test .taken) .0
+
+returns-2 : tie.Need-returns-2 Inv-loop μ-loop
+returns-2 c =
+    let d = c .before .before in
+    let turn = d .before .before .loop in
+    let a = d .before .before .before .before .args in
+    let t = least-in (turn .rest) (turn .inv .0) _ (d .least .ensures) (d .before .loop-test .taken) in
+    sym (all-left (turn .rest) (turn .inv .0) (alone (a .links .now) (a .atoms) (a .resources)) (d .least .result) (t .0) (t .1)
+    (ne-eqb (linkedWith (a .links .now) (a .atoms) (d .least .result) (a .resources)) 0 (λ e. c .if2 .taken (c .before .linked .ensures ∙ e))))
+    ∙ turn .inv .1
+
+loop-less : tie.Need-loop-less Inv-loop μ-loop
+loop-less c =
+    let d = c .before .before .before in
+    let turn = d .before .before .loop in
+    let t = least-in (turn .rest) (turn .inv .0) _ (d .least .ensures) (d .before .loop-test .taken) in
+    let l = less-less (turn .rest) (turn .inv .0) _ (t .1) in
+    let e = c .without-least .ensures ∙ ap (lessOne (turn .rest)) (sym (d .least .ensures)) in
+    omega arith
 
 loop-again : tie.Need-loop-again Inv-loop μ-loop
 loop-again c =
-    let turn = c .before .before .before in
-    let a = turn .before .before .before .before .args in
-    (turn-within (turn .loop .u) 64 (c .before .before .loop-test .taken), all-on (alone (a .links .now) (a .atoms) (a .users) (a .resources)) (turn .loop .u) (turn .loop .inv .1) (eq-eqb (rowOf (a .links .now) (a .atoms) (a .users) (a .resources) (turn .loop .u)) 0 (sym (c .before .row .ensures) ∙ c .if4 .left)))
+    let d = c .before .before .before in
+    let turn = d .before .before .loop in
+    let a = d .before .before .before .before .args in (
+      search needs,
+      ap (λ (m : ℕ). all (λ u. imp (bit m u) (alone (a .links .now) (a .atoms) (a .resources) u)) (upTo 64)) (c .without-least .ensures ∙ ap (lessOne (turn .rest)) (sym (d .least .ensures)))
+          ∙ all-turn (turn .rest) (turn .inv .0) (alone (a .links .now) (a .atoms) (a .resources)) (d .least .result)
+          (eq-eqb (linkedWith (a .links .now) (a .atoms) (d .least .result) (a .resources)) 0 (sym (c .before .before .linked .ensures) ∙ c .before .if2 .left))
+          ∙ turn .inv .1,
+    )
 
-returns-5 : tie.Need-returns-5 Inv-loop μ-loop
-unfolding cornerFree
-returns-5 c =
-    let turn = c .before in
-    let a = turn .before .before .before .before .args in
-    sym (all-end (alone (a .links .now) (a .atoms) (a .users) (a .resources)) (turn .loop .u) 64 (turn .loop .inv .1) (omega arith))
+returns-3 : tie.Need-returns-3 Inv-loop μ-loop
+returns-3 c =
+    let end = c .before .loop in
+    let a = c .before .before .before .args in
+    sym (all-done (alone (a .links .now) (a .atoms) (a .resources)) (end .rest) (omega arith)) ∙ end .inv .1
 
 pub corner-free-spec : {M : Type 1} → statement M
 corner-free-spec =
@@ -72,12 +83,11 @@ corner-free-spec =
     Inv-loop
     μ-loop
     returns
-    returns-2
-    returns-3
     loop-holds
     (λ c κs. search needs)
-    returns-4
-    (λ c. search needs)
-    (λ c. search needs)
+    linked-requires
+    returns-2
+    (λ c κs. search needs)
+    loop-less
     loop-again
-    returns-5)
+    returns-3)

@@ -6,42 +6,90 @@ use mathlib.Core.Path.{_≡_, sym, _∙_}
 use native.Mathlib.Omega.{arith}
 use Rattle.sets.specs.LoopLaws.{any-none, any-on}
 use Rattle.sets.specs.Tests.{any, upTo}
-use Rattle.pairing.specs.LevelLaws.{level-found, level-none}
+use Rattle.pairing.specs.LevelLaws.{level-found, level-none, pass-within, level-fits}
 use Rattle.pairing.specs.Levels.{tablesFit}
 use Rattle.pairing.specs.Pairing.{wordsIn}
 use Rattle.pairing.proofs.level_within.Statement.{statement}
 use Rattle.pairing.proofs.level_within.Tie as tie
 
 abbrev Inv-loop : tie.InvT-loop
-Inv-loop links matches known attributes users resources operations g h limit l₀ l-end l = (l ≤ limit + 1) × (any (tablesFit links matches known attributes users resources operations (wordsIn g) (wordsIn h)) (upTo l) ≡ false)
+Inv-loop links matches known attributes users resources operations g h exactly limit people things who what l₀ l-end l =
+    (l ≤ limit + 1) × (any (tablesFit links matches known attributes users resources operations (wordsIn g) (wordsIn h)) (upTo l) ≡ false)
 
 abbrev μ-loop : tie.MeasureT-loop
-μ-loop links matches known attributes users resources operations g h limit l₀ l-end l = (limit + 1) - l
+μ-loop links matches known attributes users resources operations g h exactly limit people things who what l₀ l-end l = (limit + 1) - l
 
 loop-holds : tie.Need-loop-holds Inv-loop μ-loop
 loop-holds c =
-    let a = c .args in
+    let a = c .before .before .before .before .before .before .args in
     (search needs, any-none (tablesFit (a .links .now) (a .matches .now) (a .known .now) (a .attributes .now) (a .users) (a .resources) (a .operations) (wordsIn (a .g)) (wordsIn (a .h))))
+
+fits-with-requires : tie.Need-fits-with-requires Inv-loop μ-loop
+fits-with-requires c κs =
+    let turn = c .before .before .before in
+    let second = turn .before in
+    let first = second .before .before in
+    let start = first .before .before .before .before in
+    let a = start .args in
+    let p = pass-within (a .links .now) (a .matches .now) (a .known .now) (a .attributes .now) (a .users) (a .resources) (a .operations) (wordsIn (a .g)) (wordsIn (a .h)) (turn .loop .l) (record {
+      many = start .pre .0;
+      much = start .pre .1;
+      people = first .before .before .before .union .ensures;
+      things = first .before .before .union2 .ensures;
+      people-pass = first .passing .ensures;
+      things-pass = second .passing2 .ensures;
+      people-here = c .before .with-own .ensures;
+      things-here = c .with-own2 .ensures;
+    }) in
+    (start .pre .0, start .pre .1, start .pre .2, p .0, p .1, start .pre .6)
 
 returns : tie.Need-returns Inv-loop μ-loop
 returns c =
-    let turn = c .before .before .before in
-    let a = turn .before .args in
+    let here = c .before .before in
+    let turn = here .before .before .before in
+    let second = turn .before in
+    let first = second .before .before in
+    let start = first .before .before .before .before in
+    let a = start .args in
     level-found (tablesFit (a .links .now) (a .matches .now) (a .known .now) (a .attributes .now) (a .users) (a .resources) (a .operations) (wordsIn (a .g)) (wordsIn (a .h))) (turn .loop .l) (a .limit) (omega arith) (omega arith)
-    (turn .loop .inv .1) (sym (c .before .fits-at .ensures) ∙ c .if1 .taken)
+    (turn .loop .inv .1)
+    (sym (level-fits (a .links .now) (a .matches .now) (a .known .now) (a .attributes .now) (a .users) (a .resources) (a .operations) (wordsIn (a .g)) (wordsIn (a .h)) (turn .loop .l) (record {
+      many = start .pre .0;
+      much = start .pre .1;
+      people = first .before .before .before .union .ensures;
+      things = first .before .before .union2 .ensures;
+      people-pass = first .passing .ensures;
+      things-pass = second .passing2 .ensures;
+      people-here = here .before .with-own .ensures;
+      things-here = here .with-own2 .ensures;
+    }) (c .before .fits-with .ensures)) ∙ c .if1 .taken)
 
 loop-again : tie.Need-loop-again Inv-loop μ-loop
 loop-again c =
-    let turn = c .before .before .before in
-    let a = turn .before .args in (
+    let here = c .before .before in
+    let turn = here .before .before .before in
+    let second = turn .before in
+    let first = second .before .before in
+    let start = first .before .before .before .before in
+    let a = start .args in (
       search needs,
-      any-on (tablesFit (a .links .now) (a .matches .now) (a .known .now) (a .attributes .now) (a .users) (a .resources) (a .operations) (wordsIn (a .g)) (wordsIn (a .h))) (turn .loop .l) (turn .loop .inv .1) (sym (c .before .fits-at .ensures) ∙ c .if1 .left),
+      any-on (tablesFit (a .links .now) (a .matches .now) (a .known .now) (a .attributes .now) (a .users) (a .resources) (a .operations) (wordsIn (a .g)) (wordsIn (a .h))) (turn .loop .l) (turn .loop .inv .1)
+          (sym (level-fits (a .links .now) (a .matches .now) (a .known .now) (a .attributes .now) (a .users) (a .resources) (a .operations) (wordsIn (a .g)) (wordsIn (a .h)) (turn .loop .l) (record {
+            many = start .pre .0;
+            much = start .pre .1;
+            people = first .before .before .before .union .ensures;
+            things = first .before .before .union2 .ensures;
+            people-pass = first .passing .ensures;
+            things-pass = second .passing2 .ensures;
+            people-here = here .before .with-own .ensures;
+            things-here = here .with-own2 .ensures;
+          }) (c .before .fits-with .ensures)) ∙ c .if1 .left),
     )
 
 returns-2 : tie.Need-returns-2 Inv-loop μ-loop
 returns-2 c =
     let turn = c .before in
-    let a = turn .before .args in
+    let a = turn .before .before .before .before .before .before .before .args in
     level-none (tablesFit (a .links .now) (a .matches .now) (a .known .now) (a .attributes .now) (a .users) (a .resources) (a .operations) (wordsIn (a .g)) (wordsIn (a .h))) (turn .loop .l) (a .limit) (turn .loop .inv .1) (omega arith)
 
 pub level-within-spec : {M : Type 1} → statement M
@@ -50,9 +98,17 @@ level-within-spec =
     (tie.spec
     Inv-loop
     μ-loop
+    (λ c κs. search needs)
+    (λ c κs. search needs)
+    (λ c. search needs)
+    (λ c κs. search needs)
+    (λ c. search needs)
+    (λ c κs. search needs)
     (λ c. search needs)
     loop-holds
     (λ c κs. search needs)
+    (λ c κs. search needs)
+    fits-with-requires
     returns
     (λ c. search needs)
     (λ c. search needs)

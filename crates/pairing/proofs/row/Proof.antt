@@ -8,7 +8,7 @@ use Rattle.pairing.proofs.row.Tie as tie
 returns : tie.Need-returns
 returns c =
     let a = c .before .before .before .args in
-    row-met (a .links .now) (a .atoms) (a .users) (a .resources) (a .user) (c .linked-with .result) (sym (c .before .before .has .ensures) ∙ c .before .if1 .taken) (c .linked-with .ensures)
+    row-met (a .links .now) (a .atoms) (a .users) (a .resources) (a .user) (c .linked .result) (sym (c .before .before .has .ensures) ∙ c .before .if1 .taken) (c .linked .ensures)
 
 returns-2 : tie.Need-returns-2
 returns-2 c =

@@ -14,16 +14,16 @@ use Rattle.rulewriter.proofs.put_conjuncts.Statement.{statement}
 use Rattle.rulewriter.proofs.put_conjuncts.Tie as tie
 
 abbrev Inv-loop : tie.InvT-loop
-Inv-loop values holders kinds roles scratch head kept out₀ at₀ k₀ out at k = (k ≤ 4) × Runs (λ k. kindBytesIn values holders kinds roles scratch head kept (sideBy (k / 2)) (eqb (k % 2) 1)) 4 out₀ out at k
+Inv-loop distinct having inside kinds scratch head kept out₀ at₀ k₀ out at k = (k ≤ 4) × Runs (λ k. kindBytesIn distinct having inside kinds scratch head kept (sideBy (k / 2)) (eqb (k % 2) 1)) 4 out₀ out at k
 
 abbrev μ-loop : tie.MeasureT-loop
-μ-loop values holders kinds roles scratch head kept out₀ at₀ k₀ out at k = 4 - k
+μ-loop distinct having inside kinds scratch head kept out₀ at₀ k₀ out at k = 4 - k
 
 abbrev runs : tie.Start Inv-loop μ-loop → ℕ → List ℕ
-runs s = let a = s .args in λ k. kindBytesIn (a .values .now) (a .holders .now) (a .kinds .now) (a .roles) (a .scratch .now) (a .head) (a .kept) (sideBy (k / 2)) (eqb (k % 2) 1)
+runs s = let a = s .args in λ k. kindBytesIn (a .distinct .now) (a .having .now) (a .inside .now) (a .kinds .now) (a .scratch .now) (a .head) (a .kept) (sideBy (k / 2)) (eqb (k % 2) 1)
 
 loop-holds : tie.Need-loop-holds Inv-loop μ-loop
-loop-holds c = let s = c .before .before in (search needs, runs-begin (runs s) 4 (now (s .args .out)) (room-as _ _ (length (now (s .args .out))) (conjunct-kinds (s .args .values .now) (s .args .holders .now) (s .args .kinds .now) (s .args .roles) (s .args .scratch .now) (s .args .head) (s .args .kept)) (s .pre .1)))
+loop-holds c = let s = c .before .before in (search needs, runs-begin (runs s) 4 (now (s .args .out)) (room-as _ _ (length (now (s .args .out))) (conjunct-kinds (s .args .distinct .now) (s .args .having .now) (s .args .inside .now) (s .args .kinds .now) (s .args .scratch .now) (s .args .head) (s .args .kept)) (s .pre .1)))
 
 put-kind-requires : tie.Need-put-kind-requires Inv-loop μ-loop
 put-kind-requires c κs =
@@ -31,7 +31,7 @@ put-kind-requires c κs =
     let turn = d .before .loop in
     let s = d .before .before .before .before in
     let l = d .loop-test .taken in
-    ((s .pre .0 .0, s .pre .0 .1, s .pre .0 .2, omega arith), runs-room (runs s) 4 (now (s .args .out)) (turn .out) (turn .at) (turn .k) (d .loop-test .taken) (turn .inv .1))
+    ((s .pre .0 .0, s .pre .0 .1, omega arith), runs-room (runs s) 4 (now (s .args .out)) (turn .out) (turn .at) (turn .k) (d .loop-test .taken) (turn .inv .1))
 
 add-at : tie.Need-add-at Inv-loop μ-loop
 add-at c =
@@ -57,7 +57,7 @@ returns : tie.Need-returns Inv-loop μ-loop
 returns c =
     let turn = c .before .loop in
     let s = c .before .before .before .before in
-    written-as _ _ _ (now (s .args .out)) (turn .at) (conjunct-kinds (s .args .values .now) (s .args .holders .now) (s .args .kinds .now) (s .args .roles) (s .args .scratch .now) (s .args .head) (s .args .kept)) (runs-end (runs s) 4 (now (s .args .out)) (turn .out) (turn .at) (turn .k) (omega arith) (turn .inv .1))
+    written-as _ _ _ (now (s .args .out)) (turn .at) (conjunct-kinds (s .args .distinct .now) (s .args .having .now) (s .args .inside .now) (s .args .kinds .now) (s .args .scratch .now) (s .args .head) (s .args .kept)) (runs-end (runs s) 4 (now (s .args .out)) (turn .out) (turn .at) (turn .k) (omega arith) (turn .inv .1))
 
 pub put-conjuncts-spec : {M : Type 1} → statement M
 put-conjuncts-spec =

@@ -10,10 +10,10 @@ use Rattle.rulewriter.proofs.put_parts.Statement.{statement}
 use Rattle.rulewriter.proofs.put_parts.Tie as tie
 
 abbrev Inv-loop : tie.InvT-loop
-Inv-loop permissions operations scratch head out₀ at₀ k₀ out at k = (k ≤ 32) × Runs (roleBytesIn permissions operations scratch head) 32 out₀ out at k
+Inv-loop permissions operations scratch head out₀ at₀ list₀ k₀ out at list k = (k ≤ 32) × Runs (roleBytesIn permissions operations scratch head) 32 out₀ out at k
 
 abbrev μ-loop : tie.MeasureT-loop
-μ-loop permissions operations scratch head out₀ at₀ k₀ out at k = 32 - k
+μ-loop permissions operations scratch head out₀ at₀ list₀ k₀ out at list k = 32 - k
 
 abbrev runs : tie.Start Inv-loop μ-loop → ℕ → List ℕ
 runs s = let a = s .args in roleBytesIn (a .permissions .now) (a .operations) (a .scratch .now) (a .head)
@@ -24,14 +24,14 @@ loop-holds c = let s = c .before .before in (search needs, runs-begin (runs s) 3
 
 put-role-requires : tie.Need-put-role-requires Inv-loop μ-loop
 put-role-requires c κs =
-    let d = c .before in
+    let d = c .before .before in
     let turn = d .before .loop in
     let s = d .before .before .before .before in
     ((s .pre .0 .0, s .pre .0 .1, s .pre .0 .2, d .loop-test .taken), runs-room (runs s) 32 (now (s .args .out)) (turn .out) (turn .at) (turn .k) (d .loop-test .taken) (turn .inv .1))
 
 add-at : tie.Need-add-at Inv-loop μ-loop
 add-at c =
-    let d = c .before .before .before .before in
+    let d = c .before .before .before .before .before in
     let turn = d .before .loop in
     let s = d .before .before .before .before in
     let w = runs-within (runs s) 32 (now (s .args .out)) (turn .out) (turn .at) (turn .k) (d .loop-test .taken) (turn .inv .1) in
@@ -40,7 +40,7 @@ add-at c =
 
 loop-again : tie.Need-loop-again Inv-loop μ-loop
 loop-again c =
-    let d = c .before .before .before .before in
+    let d = c .before .before .before .before .before in
     let turn = d .before .loop in
     let s = d .before .before .before .before in
     let p = c .before .before .put-role in

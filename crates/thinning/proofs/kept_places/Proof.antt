@@ -10,19 +10,19 @@ use Rattle.thinning.proofs.kept_places.Statement.{statement}
 use Rattle.thinning.proofs.kept_places.Tie as tie
 
 abbrev Inv-loop : tie.InvT-loop
-Inv-loop links matches known attributes g level users resources operations kept₀ met i₀ kept i =
+Inv-loop links matches known attributes g level users resources operations kept₀ met rows full i₀ kept i =
     (i ≤ 50) × (kept ≡ thinTo links met users resources operations (wordsIn g) (presentPlaces known attributes (wordsIn g) level) i)
 
 abbrev μ-loop : tie.MeasureT-loop
-μ-loop links matches known attributes g level users resources operations kept₀ met i₀ kept i = 50 - i
+μ-loop links matches known attributes g level users resources operations kept₀ met rows full i₀ kept i = 50 - i
 
 loop-holds : tie.Need-loop-holds Inv-loop μ-loop
-loop-holds c = (search needs, c .before .before .present .ensures)
+loop-holds c = (search needs, c .before .before .before .before .before .before .present .ensures)
 
 loop-again : tie.Need-loop-again Inv-loop μ-loop
 loop-again c =
-    let turn = c .before .before .before in
-    let a = turn .before .before .before .before .args in (
+    let turn = c .before .before .before .before in
+    let a = turn .before .before .before .before .before .before .before .before .args in (
       search needs,
       thin-more (a .links .now) _ (a .users) (a .resources) (a .operations) (wordsIn (a .g)) (presentPlaces (a .known .now) (a .attributes .now) (wordsIn (a .g)) (a .level)) (turn .loop .i) (turn .loop .inv .1) (c .thinned .ensures),
     )
@@ -30,7 +30,7 @@ loop-again c =
 returns : tie.Need-returns Inv-loop μ-loop
 returns c =
     let turn = c .before in
-    let met = turn .before in
+    let met = turn .before .before .before .before .before in
     let a = met .before .before .before .args in
     thin-end (a .links .now) (a .matches .now) (a .known .now) (a .attributes .now) _ (a .users) (a .resources) (a .operations) (wordsIn (a .g)) (a .level) (turn .loop .i)
     (met .met-places .ensures ∙ ap (metPlaces (a .matches .now) (wordsIn (a .g))) (met .before .before .present .ensures)) (turn .loop .inv .1) (omega arith)
@@ -41,6 +41,8 @@ kept-places-spec =
     (tie.spec
     Inv-loop
     μ-loop
+    (λ c κs. search needs)
+    (λ c κs. search needs)
     (λ c κs. search needs)
     (λ c κs. search needs)
     loop-holds

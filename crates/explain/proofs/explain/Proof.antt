@@ -1,0 +1,19 @@
+-- An accepted role file keeps to its limits. Assumes nothing.
+use borrow.Author.Needs.{needs}
+use denote.Ref.{now}
+use Rattle.explain.proofs.explain.Statement.{statement}
+use Rattle.explain.proofs.explain.Tie as tie
+use Rattle.rulefile.specs.LegalLaws.{both-sizes}
+
+tell-rules-requires : tie.Need-tell-rules-requires
+tell-rules-requires c κs =
+    let e = c .before .before .before .before .before .before in
+    let r = e .before .before in
+    let a = r .before .before .before .args in
+    let z = both-sizes (now (a .file)) (now (a .rules)) (r .read .result) (r .read .ensures) (e .if1 .left) in
+    (z .3, z .2)
+
+pub explain-spec : {M : Type 1} → statement M
+explain-spec =
+    tie.close
+    (tie.spec (λ c κs. search needs) (λ c κs. search needs) (λ c. search needs) tell-rules-requires (λ c. search needs))

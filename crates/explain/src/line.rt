@@ -1,0 +1,131 @@
+// The lines of a rule file, one after the other, and what a rule's heading needs to know of its lines.
+ghost use mathlib.Core.Bool.{_&&_, _||_};
+ghost use mathlib.Core.Path.{_≡_};
+ghost use Prim.Native.Nat.{_≤_};
+ghost use lib.Dec.{eqb};
+ghost use lib.ListN.{length};
+ghost use Rattle.explain.specs.Headings.{lineOf, inRule, noted, headingOf, levelOf};
+use rulecommands::Raw;
+
+// A command as numbers, and how many bytes it takes: 0 where there is none.
+pub struct Line {
+    pub byte: usize,
+    pub first: u64,
+    pub second: u64,
+    pub width: usize,
+}
+
+// What the lines of a rule say of it: its operations, and whether it lists roles or resources by their numbers.
+pub struct Heading {
+    pub operations: u64,
+    pub roles: bool,
+    pub numbers: bool,
+}
+
+// The command in front.
+pub fn front(s: &[u8]) -> Line
+    ensures { λ r. ⌜ (r ≡ lineOf (now (s .entry))) × (r .width ≤ length (now (s .entry))) ⌝ }
+{
+    match rulecommands::next(s) {
+        Raw::Whole(byte, first, second, width) => Line {
+            byte: byte,
+            first: first,
+            second: second,
+            width: width,
+        },
+        Raw::Unknown => Line {
+            byte: 0,
+            first: 0,
+            second: 0,
+            width: 0,
+        },
+        Raw::Short => Line {
+            byte: 0,
+            first: 0,
+            second: 0,
+            width: 0,
+        },
+    }
+}
+
+// Whether a command stands inside a rule.
+fn in_rule(byte: usize) -> bool
+    ensures { λ r. ⌜ r ≡ inRule byte ⌝ }
+{
+    programs::within(byte, 0x22, 0x28)
+}
+
+// Whether a line is one of this command with a 255.
+fn is_own(byte: usize, first: u64, command: usize) -> bool
+    ensures { λ r. ⌜ r ≡ (eqb byte command && eqb first 255) ⌝ }
+{
+    if byte == command {
+        return first == 255;
+    }
+    false
+}
+
+fn either(a: bool, b: bool) -> bool
+    ensures { λ r. ⌜ r ≡ (a || b) ⌝ }
+{
+    if a {
+        return true;
+    }
+    b
+}
+
+// The heading with one line more.
+fn note(h: Heading, byte: usize, first: u64) -> Heading
+    ensures { λ r. ⌜ r ≡ noted h byte first ⌝ }
+{
+    if byte == 0x26 {
+        return Heading {
+            operations: first,
+            roles: h.roles,
+            numbers: h.numbers,
+        };
+    }
+    let roles = either(h.roles, is_own(byte, first, 0x23));
+    let numbers = either(h.numbers, is_own(byte, first, 0x24));
+    Heading {
+        operations: h.operations,
+        roles: roles,
+        numbers: numbers,
+    }
+}
+
+// The heading of the rule whose lines stand in front.
+pub fn heading_of(s: &[u8]) -> Heading
+    ensures { λ r. ⌜ r ≡ headingOf (now (s .entry)) ⌝ }
+{
+    let mut h = Heading {
+        operations: 0,
+        roles: false,
+        numbers: false,
+    };
+    let mut at: usize = 0;
+    loop {
+        let l = front(&s[at..]);
+        if !in_rule(l.byte) {
+            return h;
+        }
+        h = note(h, l.byte, l.first);
+        at = at + l.width;
+    }
+}
+
+// The level of a rule that lists roles or not, and resources or not.
+pub fn level(roles: bool, numbers: bool) -> usize
+    ensures { λ r. ⌜ r ≡ levelOf roles numbers ⌝ }
+{
+    if roles {
+        if numbers {
+            return 3;
+        }
+        return 1;
+    }
+    if numbers {
+        return 2;
+    }
+    0
+}

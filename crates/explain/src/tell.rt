@@ -1,0 +1,312 @@
+// Rules in words. Each function says whether all was printed so far, as those of `programs` do.
+ghost use Prim.Native.Nat.{_≤_};
+ghost use lib.ListN.{length};
+use crate::line::front;
+use crate::line::heading_of;
+use crate::line::level;
+use operands::Checked;
+use programs::say;
+use programs::say_count;
+use programs::say_number;
+use rulecommands::Atom;
+use rulecommands::RuleCommand;
+
+// ---- sets
+
+// What stands between two elements, and not before the first.
+fn say_comma(printed: bool, some: bool) -> bool {
+    if some {
+        return say(printed, b", ");
+    }
+    printed
+}
+
+// The elements of a set, with commas between them.
+fn say_elements(printed: bool, set: u64) -> bool {
+    let mut told = printed;
+    let mut some = false;
+    for i in 0..64usize {
+        if sets::has(set, i) {
+            told = say_number(say_comma(told, some), i);
+            some = true;
+        }
+    }
+    told
+}
+
+// A text, and a set in braces behind it.
+fn say_set(printed: bool, text: &[u8], set: u64) -> bool {
+    let named = say(printed, text);
+    let opened = say(named, b"{");
+    let told = say_elements(opened, set);
+    say(told, b"}")
+}
+
+// Operations: one, or several.
+fn say_operations(printed: bool, operations: u64) -> bool {
+    if sets::count(operations) == 1 {
+        return say_elements(say(printed, b"operation "), operations);
+    }
+    say_elements(say(printed, b"operations "), operations)
+}
+
+// ---- conditions
+
+// What begins a condition: the first of a rule, or one more.
+fn say_if(printed: bool, some: bool) -> bool {
+    if some {
+        return say(printed, b"\n  and ");
+    }
+    say(printed, b"\n  if ")
+}
+
+// What a conjunct is about and what it asks of it; before a further value of the same conjunct, only that.
+fn say_conjunct(
+    printed: bool,
+    same: bool,
+    some: bool,
+    about: &[u8],
+    attribute: usize,
+    asks: &[u8],
+) -> bool {
+    if same {
+        return say(printed, b" or ");
+    }
+    let named = say_count(say_if(printed, some), about, attribute);
+    say(named, asks)
+}
+
+// The same for a 255, which has no number of its own to be told.
+fn say_own(printed: bool, same: bool, some: bool, about: &[u8]) -> bool {
+    if same {
+        return say(printed, b" or ");
+    }
+    say(say_if(printed, some), about)
+}
+
+// What the empty set asks of a user: every value contains it, and an unknown one is none.
+fn say_empty(printed: bool, set: u64) -> bool {
+    if set == 0 {
+        return say(printed, b" (any value that is known)");
+    }
+    printed
+}
+
+fn tell_user_set(printed: bool, same: bool, some: bool, attribute: usize, set: u64) -> bool {
+    if attribute == 255 {
+        let begun = say_own(printed, same, some, b"the user holds ");
+        return say_set(begun, b"all of the roles ", set);
+    }
+    let begun = say_conjunct(
+        printed,
+        same,
+        some,
+        b"the user's attribute ",
+        attribute,
+        b" contains ",
+    );
+    say_empty(say_set(begun, b"all of ", set), set)
+}
+
+fn tell_resource_single(
+    printed: bool,
+    same: bool,
+    some: bool,
+    attribute: usize,
+    value: u64,
+) -> bool {
+    if attribute == 255 {
+        let begun = say_own(printed, same, some, b"the resource is ");
+        return say_count(begun, b"number ", value as usize);
+    }
+    let begun = say_conjunct(
+        printed,
+        same,
+        some,
+        b"the resource's attribute ",
+        attribute,
+        b" is ",
+    );
+    say_number(begun, value as usize)
+}
+
+fn tell_user_single(printed: bool, same: bool, some: bool, attribute: usize, value: u64) -> bool {
+    let begun = say_conjunct(
+        printed,
+        same,
+        some,
+        b"the user's attribute ",
+        attribute,
+        b" is ",
+    );
+    say_number(begun, value as usize)
+}
+
+fn tell_resource_set(printed: bool, same: bool, some: bool, attribute: usize, set: u64) -> bool {
+    let begun = say_conjunct(
+        printed,
+        same,
+        some,
+        b"the resource's attribute ",
+        attribute,
+        b" is ",
+    );
+    say_set(begun, b"exactly ", set)
+}
+
+// An atom: what the user's attribute has to do with the resource's.
+fn say_link(printed: bool, some: bool, user: usize, asks: &[u8], resource: usize) -> bool {
+    let named = say_count(say_if(printed, some), b"the user's attribute ", user);
+    let asked = say(named, asks);
+    say_count(asked, b"the resource's attribute ", resource)
+}
+
+fn tell_link(printed: bool, some: bool, atom: Atom) -> bool {
+    match atom {
+        Atom::SetContainsSet(user, resource) => {
+            say_link(printed, some, user, b" contains all of ", resource)
+        }
+        Atom::SetContainsSingle(user, resource) => {
+            say_link(printed, some, user, b" contains ", resource)
+        }
+        Atom::SingleEqualsSingle(user, resource) => {
+            say_link(printed, some, user, b" equals ", resource)
+        }
+    }
+}
+
+// ---- a rule
+
+// A part that the rule stands for.
+fn tell_part(printed: bool, role: usize, operations: u64) -> bool {
+    let named = say_count(printed, b"\n  in place of role ", role);
+    say_operations(say(named, b" for "), operations)
+}
+
+// A line inside a rule. The operations stand in the heading.
+fn tell_line(printed: bool, same: bool, some: bool, c: RuleCommand) -> bool {
+    match c {
+        RuleCommand::UserSingle { attribute, value } => {
+            tell_user_single(printed, same, some, attribute, value)
+        }
+        RuleCommand::UserSet { attribute, set } => {
+            tell_user_set(printed, same, some, attribute, set)
+        }
+        RuleCommand::ResourceSingle { attribute, value } => {
+            tell_resource_single(printed, same, some, attribute, value)
+        }
+        RuleCommand::ResourceSet { attribute, set } => {
+            tell_resource_set(printed, same, some, attribute, set)
+        }
+        RuleCommand::Link(atom) => tell_link(printed, some, atom),
+        RuleCommand::Part { role, operations } => tell_part(printed, role, operations),
+        RuleCommand::Opens => printed,
+        RuleCommand::Operations(_) => printed,
+        RuleCommand::Ends => printed,
+    }
+}
+
+// The same of a line of numbers. In a legal rule file no line is illegal.
+fn tell_checked(printed: bool, same: bool, some: bool, checked: Checked) -> bool {
+    match checked {
+        Checked::Legal(c) => tell_line(printed, same, some, c),
+        Checked::Illegal => printed,
+    }
+}
+
+// What parts two paragraphs.
+fn say_gap(printed: bool, number: usize) -> bool {
+    if number == 0 {
+        return printed;
+    }
+    say(printed, b"\n\n")
+}
+
+// The heading of a rule, whose lines stand in front.
+fn tell_heading(printed: bool, number: usize, s: &[u8]) -> bool {
+    let h = heading_of(s);
+    let named = say_count(say_gap(printed, number), b"rule ", number);
+    let leveled = say_count(named, b", level ", level(h.roles, h.numbers));
+    let told = say_operations(say(leveled, b": any user may do "), h.operations);
+    say(told, b" on any resource")
+}
+
+// The end of the file.
+fn tell_end(printed: bool, number: usize) {
+    if number == 0 {
+        programs::end_line(say(printed, b"there is no rule: nobody may do anything"));
+        return;
+    }
+    programs::end_line(printed);
+}
+
+// Whether a rule that has a condition, or has none, has one with this line.
+fn has_condition(some: bool, byte: usize) -> bool {
+    match byte {
+        0x22 | 0x23 | 0x24 | 0x25 | 0x27 => true,
+        _ => some,
+    }
+}
+
+// Whether a line gives a further value of the conjunct that the line before it gives one of.
+fn goes_on(byte: usize, first: u64, former: usize, former_first: u64) -> bool {
+    if byte > 0x25 {
+        return false;
+    }
+    if byte != former {
+        return false;
+    }
+    first == former_first
+}
+
+// A paragraph for each rule of a legal rule file.
+pub fn tell_rules<'a>(
+    rules: &[u8],
+    resources: usize,
+    operations: usize,
+    roles: usize,
+    attributes: &'a [usize; 2],
+    kinds: &'a [u64; 2],
+    holders: &'a [u64; 32],
+    permissions: &'a [u64; 512],
+)
+    requires { ⌜ (roles ≤ 32) × (operations ≤ 16) ⌝ }
+{
+    let mut printed = true;
+    let mut number: usize = 0;
+    let mut some = false;
+    let mut former: usize = 0;
+    let mut former_first: u64 = 0;
+    let mut at: usize = 0;
+    loop {
+        let l = front(&rules[at..]);
+        if l.width == 0 {
+            tell_end(printed, number);
+            return;
+        }
+        at = at + l.width;
+        if l.byte == 0x21 {
+            printed = tell_heading(printed, number, &rules[at..]);
+            number = number + 1;
+            some = false;
+        } else {
+            let same = goes_on(l.byte, l.first, former, former_first);
+            let checked = operands::check(
+                l.byte,
+                l.first,
+                l.second,
+                resources,
+                operations,
+                roles,
+                attributes,
+                kinds,
+                holders,
+                permissions,
+            );
+            printed = tell_checked(printed, same, some, checked);
+            some = has_condition(some, l.byte);
+        }
+        former = l.byte;
+        former_first = l.first;
+    }
+}

@@ -1,0 +1,48 @@
+// The judge of rule files: whether a rule file, read beside a role file, grants what the roles do, rule by rule and part by part.
+ghost use mathlib.Core.Path.{_≡_};
+ghost use Rattle.files.specs.Calls.{judge};
+ghost use Rattle.judging.specs.Judgement.{judgementOf};
+use grants::Difference;
+use listings::StrayPart;
+
+pub enum Judgement {
+    Sound,
+    // User, resource and operation of the first triple at which roles and rules differ.
+    Differ(usize, usize, usize),
+    // The first rule that grants other than its parts.
+    StrayRule(usize),
+    // The first part that stands under no rule or several.
+    StrayPart(usize),
+    Refused(usize),
+}
+
+pub fn judge(file: &[u8], rules: &[u8]) -> Judgement
+    ensures { λ r. ⌜ r ≡ judgementOf (judge 2 (now (file .entry)) (now (rules .entry))) ⌝ }
+{
+    let b = rulefile::read(file, rules);
+    if b.code != 0 {
+        return Judgement::Refused(b.code);
+    }
+    let f = b.file;
+    let mut granted = [0u64; 1024];
+    grants::roles_grid(&f.holders, &f.permissions, f.roles, &mut granted);
+    match grants::first_difference(&granted, &b.grid, f.users, f.resources, f.operations) {
+        Difference::At(user, resource, operation) => Judgement::Differ(user, resource, operation),
+        Difference::Same => {
+            if b.strays {
+                return Judgement::StrayRule(b.stray);
+            }
+            match listings::first_stray(
+                &f.holders,
+                &f.permissions,
+                f.roles,
+                f.operations,
+                &b.seen,
+                &b.again,
+            ) {
+                StrayPart::At(part) => Judgement::StrayPart(part),
+                StrayPart::NoneStray => Judgement::Sound,
+            }
+        }
+    }
+}

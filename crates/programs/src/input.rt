@@ -1,0 +1,134 @@
+// Files, read into lent memory.
+ghost use Prim.Native.Nat.{_≤_};
+ghost use mathlib.Core.Path.{_≡_};
+ghost use lib.ListN.{length};
+use crate::print::complain;
+
+pub struct Input {
+    pub failed: bool,
+    pub length: usize,
+}
+
+fn nothing() -> Input
+    ensures { λ r. ⌜ r .length ≡ 0 ⌝ }
+{
+    Input {
+        failed: true,
+        length: 0,
+    }
+}
+
+// Reads what is open as fd until it ends or fills what is lent.
+pub fn read_open(fd: i32, into: &mut [u8]) -> Input
+    ensures { λ r. ⌜ r .length ≤ length (now (into .exit)) ⌝ }
+{
+    let mut at: usize = 0;
+    while at < into.len() {
+        let got = libc::read(fd, &mut into[at..]);
+        if got < 0 {
+            return nothing();
+        }
+        let more = io::count(got, &into[at..]);
+        if more == 0 {
+            return Input {
+                failed: false,
+                length: at,
+            };
+        }
+        at = at + more;
+    }
+    Input {
+        failed: false,
+        length: at,
+    }
+}
+
+// Reads the file of this name. Where the system does not open or read it, a line on standard error says so.
+fn read_file(name: &[u8], into: &mut [u8]) -> Input
+    ensures { λ r. ⌜ r .length ≤ length (now (into .exit)) ⌝ }
+{
+    let fd = os::open_read(name);
+    if fd < 0 {
+        os::fail(name);
+        return nothing();
+    }
+    let read = read_open(fd, into);
+    if read.failed {
+        os::fail(name);
+    }
+    libc::close(fd);
+    read
+}
+
+// Reads the file that argument i names.
+pub fn read_named(i: usize, into: &mut [u8]) -> Input
+    ensures { λ r. ⌜ r .length ≤ length (now (into .exit)) ⌝ }
+{
+    let mut name = io::buffer();
+    let n = os::arg(i, &mut name);
+    if os::errno() != 0 {
+        os::fail(b"the name of a file");
+        return nothing();
+    }
+    read_file(&name[..n], into)
+}
+
+// Memory for a rule file. 01 sets no limit to its length, so this one is the programs' own.
+pub fn rules_buffer() -> [u8; 262144]
+    ensures { λ r. ⌜ 262144 ≡ length r ⌝ }
+{
+    [0; 262144]
+}
+
+// Reads the rule file that argument i names. One that fills the memory may go on behind it, and is not answered about.
+pub fn read_rules(i: usize, into: &mut [u8]) -> Input
+    ensures { λ r. ⌜ r .length ≤ length (now (into .exit)) ⌝ }
+{
+    let read = read_named(i, into);
+    if read.failed {
+        return nothing();
+    }
+    if read.length < into.len() {
+        return read;
+    }
+    complain(b"the rule file is longer than this program can hold, 262,143 bytes\n");
+    nothing()
+}
+
+// What was read of both files.
+pub struct Both {
+    pub failed: bool,
+    pub roles: usize,
+    pub rules: usize,
+}
+
+fn neither() -> Both
+    ensures { λ r. ⌜ (r .roles ≡ 0) × (r .rules ≡ 0) ⌝ }
+{
+    Both {
+        failed: true,
+        roles: 0,
+        rules: 0,
+    }
+}
+
+// Reads the role file and the rule file that the arguments name, for a program that takes these two and nothing else; for any others
+// says how it is used.
+pub fn read_both(usage: &[u8], file: &mut [u8], rules: &mut [u8]) -> Both
+    ensures { λ r. ⌜ (r .roles ≤ length (now (file .exit))) × (r .rules ≤ length (now (rules .exit))) ⌝ }
+{
+    if os::arg_count() != 3 {
+        complain(usage);
+        return neither();
+    }
+    let one = read_named(1, file);
+    if one.failed {
+        return neither();
+    }
+    let two = read_rules(2, rules);
+    Both {
+        failed: two.failed,
+        roles: one.length,
+        rules: two.length,
+    }
+}

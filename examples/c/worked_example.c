@@ -1,0 +1,94 @@
+/*
+ * A worked example of include/fichtengarn.h: reads a role file, mines it, reads the rules back,
+ * judges them, asks a question of both, and prints the answers.
+ *
+ *     worked_example FILE
+ *
+ * All memory is set aside beforehand, as firmware would do it: 64 KB for the role file, 64 KB for
+ * the rules, 32 KB of scratch.
+ */
+#include <stdio.h>
+
+#include "fichtengarn.h"
+
+/* One byte more than a role file may have, so that a longer one is seen. */
+static uint8_t file[FICHTENGARN_MOST_ROLE_BYTES + 1];
+static uint8_t rules[65536];
+static uint64_t scratch[FICHTENGARN_SCRATCH_WORDS];
+
+/* Prints what a call came to; returns whether it was accepted. */
+static int told(const char *call, size_t refusal)
+{
+    if (refusal != FICHTENGARN_ACCEPTED) {
+        printf("%s: refused %zu\n", call, refusal);
+        return 0;
+    }
+    printf("%s: accepted\n", call);
+    return 1;
+}
+
+static void print_verdict(const size_t verdict[4])
+{
+    switch (verdict[0]) {
+    case FICHTENGARN_SOUND:
+        printf("verdict 0\n");
+        break;
+    case FICHTENGARN_DIFFER:
+        printf("verdict 1 user %zu resource %zu operation %zu\n", verdict[1], verdict[2], verdict[3]);
+        break;
+    case FICHTENGARN_STRAY_RULE:
+        printf("verdict 2 rule %zu\n", verdict[1]);
+        break;
+    case FICHTENGARN_STRAY_PART:
+        printf("verdict 3 part %zu\n", verdict[1]);
+        break;
+    }
+}
+
+/* Asks roles and rules about one triple. */
+static void ask(size_t file_length, size_t rules_length, size_t user, size_t resource, size_t operation)
+{
+    size_t by_roles, by_rules;
+
+    printf("user %zu, resource %zu, operation %zu\n", user, resource, operation);
+    if (told("roles", fichtengarn_ask_roles(file, file_length, user, resource, operation, &by_roles)))
+        printf("answer %s\n", by_roles ? "yes" : "no");
+    if (told("rules", fichtengarn_ask_rules(file, file_length, rules, rules_length, user, resource, operation, &by_rules)))
+        printf("answer %s\n", by_rules ? "yes" : "no");
+}
+
+static void work(size_t file_length)
+{
+    size_t counts[5], verdict[4], rules_length, count;
+
+    if (!told("read roles", fichtengarn_read_roles(file, file_length)))
+        return;
+    if (!told("mine", fichtengarn_mine(file, file_length, scratch, FICHTENGARN_SCRATCH_WORDS, rules, sizeof rules, counts)))
+        return;
+    rules_length = counts[FICHTENGARN_LENGTH];
+    printf("length %zu parts %zu rules %zu merges %zu cost %zu\n", rules_length, counts[FICHTENGARN_PARTS],
+           counts[FICHTENGARN_RULES], counts[FICHTENGARN_MERGES], counts[FICHTENGARN_COST]);
+    if (!told("read rules", fichtengarn_read_rules(file, file_length, rules, rules_length, &count)))
+        return;
+    printf("rules %zu\n", count);
+    if (told("judge", fichtengarn_judge(file, file_length, rules, rules_length, verdict)))
+        print_verdict(verdict);
+    ask(file_length, rules_length, 0, 0, 0);
+    ask(file_length, rules_length, 0, 1, 0);
+    ask(file_length, rules_length, 0, 0, 1);
+}
+
+int main(int count, char **words)
+{
+    FILE *in = count == 2 ? fopen(words[1], "rb") : NULL;
+    size_t length;
+
+    if (in == NULL) {
+        fprintf(stderr, "usage: worked_example FILE\n");
+        return 2;
+    }
+    length = fread(file, 1, sizeof file, in);
+    fclose(in);
+    work(length);
+    return 0;
+}

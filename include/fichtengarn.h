@@ -1,0 +1,164 @@
+/*
+ * Fichtengarn for C: reading role files, mining them into attribute rules, and judging and asking
+ * rule files. "01" below is the paper that settles what is right.
+ *
+ *     rt staticlib fichtengarn          proves the library and writes target/staticlib/libfichtengarn.a
+ *     cc -Iinclude program.c target/staticlib/libfichtengarn.a
+ *
+ * The archive is for x86-64. It needs memcpy and memset, and nothing else of a system.
+ *
+ * What every call promises. Its answer, what it writes and that it ends are proved; the sizes of
+ * the stack are measured.
+ *
+ *   - It ends, on every input: any bytes, any lengths, any numbers. No input is asked to be good.
+ *   - It returns 0, or the number of a refusal. Where two refusals could be given, 01 says which.
+ *   - A refusal returns only its number. Memory lent for values and for output is then as it was.
+ *   - It writes to the memory that it is lent without 'const', as said at each call, and to its
+ *     own stack. Files and rules are only read.
+ *   - It has no heap, no files and no state between calls: the same input has the same answer, and
+ *     calls may run at the same time as long as they are lent different memory to write to.
+ *
+ * What the caller owes:
+ *
+ *   - No pointer is NULL, even beside a length of 0. Words are aligned as their type asks.
+ *   - A length is that of the memory behind its pointer, and that memory stays as it is until the
+ *     call returns.
+ *   - What is lent to be written to overlaps nothing else that is lent to the same call.
+ *   - The stack has the room that the call names: one that is too small is not noticed.
+ *
+ * Lengths of files and of output are in bytes, that of scratch is in words of 64 bits. Users,
+ * resources, operations, roles, rules and parts are numbered from 0.
+ */
+#ifndef FICHTENGARN_H
+#define FICHTENGARN_H
+
+#include <stddef.h>
+#include <stdint.h>
+
+#ifdef __cplusplus
+extern "C" {
+#endif
+
+/* What a call returns: 0 or a refusal. */
+enum {
+    FICHTENGARN_ACCEPTED = 0,
+
+    /* of a role file */
+    FICHTENGARN_TOO_LONG = 1,        /* more than 65,535 bytes */
+    FICHTENGARN_CUT_OFF = 2,         /* it ends inside operands or before 0F */
+    FICHTENGARN_UNKNOWN_COMMAND = 3, /* a byte that is no command */
+    FICHTENGARN_OUT_OF_PLACE = 4,    /* a command where it may not stand, or a byte after the end */
+    FICHTENGARN_BEYOND = 5,          /* an operand beyond its limit or declared size, a seventh
+                                        attribute; or a question's number beyond the sizes */
+    FICHTENGARN_WRONG_KIND = 6,      /* a value of the wrong kind, or one given twice */
+    FICHTENGARN_OWN_SENIOR = 7,      /* a role is its own senior */
+
+    /* of the memory lent to mining */
+    FICHTENGARN_SMALL_SCRATCH = 8, /* less than FICHTENGARN_SCRATCH_WORDS */
+    FICHTENGARN_SHORT_OUTPUT = 9,  /* the rule file is longer than the output */
+
+    /* of a rule file */
+    FICHTENGARN_RULES_CUT_OFF = 10, /* it ends inside operands or before 2F */
+    FICHTENGARN_RULES_UNKNOWN = 11, /* a byte that is no command */
+    FICHTENGARN_RULES_ORDER = 12,   /* out of order, missing or repeated, or a byte after the end */
+    FICHTENGARN_RULES_OPERAND = 13  /* an operand beyond its size or of the wrong kind, no operation,
+                                       or no part of the role file */
+};
+
+/* Sizes of the memory that mining is lent. Output is as long as the caller likes. */
+enum {
+    FICHTENGARN_MOST_ROLE_BYTES = 65535, /* of a role file */
+    FICHTENGARN_SCRATCH_WORDS = 4096     /* of 64 bits: 32,768 bytes */
+};
+
+/*
+ * May this role file be read? Returns 0 or 1 to 7. Stack: 27 KB.
+ */
+size_t fichtengarn_read_roles(const uint8_t *file, size_t file_length);
+
+/*
+ * May this rule file be read beside this role file? A rule file does not say which role file it
+ * was made for, and may be of any length.
+ *
+ * Returns 0, and *count is how many rules it has; or 1 to 7; then 10 to 13. Writes *count and
+ * nothing else. Stack: 120 KB.
+ */
+size_t fichtengarn_read_rules(const uint8_t *file, size_t file_length,
+                              const uint8_t *rules, size_t rules_length,
+                              size_t *count);
+
+/*
+ * The role question: do the roles grant the user the operation on the resource?
+ *
+ * Returns 0, and *answer is 1 for yes or 0 for no; or 1 to 7; then 5 if a number is beyond the
+ * sizes of the role file. Writes *answer and nothing else. Stack: 36 KB.
+ */
+size_t fichtengarn_ask_roles(const uint8_t *file, size_t file_length,
+                             size_t user, size_t resource, size_t operation,
+                             size_t *answer);
+
+/*
+ * The rule question: does some rule grant it?
+ *
+ * Returns 0, and *answer is 1 for yes or 0 for no; or 1 to 7; then 10 to 13; then 5 if a number is
+ * beyond the sizes of the role file. Writes *answer and nothing else. Stack: 120 KB.
+ */
+size_t fichtengarn_ask_rules(const uint8_t *file, size_t file_length,
+                             const uint8_t *rules, size_t rules_length,
+                             size_t user, size_t resource, size_t operation,
+                             size_t *answer);
+
+/* The judge's verdicts: verdict[0], and what stands behind it. */
+enum {
+    FICHTENGARN_SOUND = 0,      /* nothing: the rules grant what the roles do, each rule grants what
+                                   its parts do, and each part stands under one rule */
+    FICHTENGARN_DIFFER = 1,     /* verdict[1], [2], [3]: the first triple at which roles and rules
+                                   differ, by user, then resource, then operation */
+    FICHTENGARN_STRAY_RULE = 2, /* verdict[1]: the first rule that grants other than its parts */
+    FICHTENGARN_STRAY_PART = 3  /* verdict[1]: the first part that stands under no rule or several */
+};
+
+/*
+ * The judge: is this rule file right for this role file?
+ *
+ * Returns 0 and the verdict, the first of 1, 2, 3 that there is cause for, else 0; or 1 to 7; then
+ * 10 to 13. Writes the numbers of the verdict; those that it has none for are as they were.
+ * Stack: 140 KB, the most of all calls.
+ */
+size_t fichtengarn_judge(const uint8_t *file, size_t file_length,
+                         const uint8_t *rules, size_t rules_length,
+                         size_t verdict[4]);
+
+/* The numbers that mining stores. */
+enum {
+    FICHTENGARN_LENGTH = 0, /* bytes of the rule file */
+    FICHTENGARN_PARTS = 1,  /* parts of the role file: parts = rules + merges */
+    FICHTENGARN_RULES = 2,  /* rules written */
+    FICHTENGARN_MERGES = 3, /* merges made */
+    FICHTENGARN_COST = 4    /* cost of the rules as written */
+};
+
+/*
+ * Mining: writes the rules of a role file.
+ *
+ * Returns 0, or 8, then 1 to 7, then 9. After 0 the first counts[FICHTENGARN_LENGTH] bytes of the
+ * output are the rule file, and the others are as they were; all five counts are stored. After a
+ * refusal neither is touched, nor is it by 9: the length is known before a byte is written.
+ *
+ * The rule file is read without refusal beside its role file. Its rules grant a triple exactly when
+ * the roles do. Every part is listed under exactly one rule, which grants what its parts do. No rule
+ * of a lower level could grant what a rule of the file does; no single rule, of a level no higher
+ * than the higher of two, could grant what both do; and nothing could be struck from a rule.
+ *
+ * Scratch may hold anything before, and holds anything after. Stack: 105 KB.
+ */
+size_t fichtengarn_mine(const uint8_t *file, size_t file_length,
+                        uint64_t *scratch, size_t scratch_words,
+                        uint8_t *output, size_t output_length,
+                        size_t counts[5]);
+
+#ifdef __cplusplus
+}
+#endif
+
+#endif

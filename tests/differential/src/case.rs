@@ -1,0 +1,63 @@
+//! The files of a case, all made from its seed.
+
+use crate::{roles, rules, tally::Tally, REV};
+use second_miner::{makers, random::Random, world::World};
+
+/// One case in so many is of a profile with files of the largest sizes, which take the second miner
+/// seconds.
+const FULL_SIZE: u64 = 2000;
+
+fn profile(seed: u64, random: &mut Random) -> &'static str {
+    let full = seed % FULL_SIZE == FULL_SIZE - 1;
+    let profiles = makers::PROFILES.into_iter().filter(|name| name.starts_with("full") == full);
+    *random.pick(&profiles.collect::<Vec<_>>())
+}
+
+pub fn seeded(seed: u64, tally: &mut Tally) -> Result<(), String> {
+    let mut random = Random::new(seed);
+    let profile = profile(seed, &mut random);
+    let file = makers::role_file(profile, random.next(), REV);
+    let damaged = makers::damage_roles(&file, random.next(), REV);
+    for file in [file, damaged] {
+        beside(&file, &mut random, tally)
+            .map_err(|what| format!("seed {seed}, profile {profile}\n{what}"))?;
+    }
+    Ok(())
+}
+
+/// Everything about a role file and, if it is accepted, about rule files beside it.
+fn beside(file: &[u8], random: &mut Random, tally: &mut Tally) -> Result<(), String> {
+    let in_file = |what| format!("role file {}\n{what}", hex(file));
+    let Some((world, mined)) = roles::compare(file, random, tally).map_err(in_file)? else {
+        return rules::refused_beside(file, tally).map_err(in_file);
+    };
+    for rules in rule_files(&world, mined, random) {
+        rules::compare(file, &world, &rules, random, tally)
+            .map_err(|what| in_file(format!("rule file {}\n{what}", hex(&rules))))?;
+    }
+    Ok(())
+}
+
+/// The mined one, two that the second miner's maker makes, and these damaged.
+fn rule_files(world: &World, mined: Vec<u8>, random: &mut Random) -> Vec<Vec<u8>> {
+    let mut files = vec![mined];
+    for _ in 0..2 {
+        let made = makers::rule_file(world, random.next(), REV);
+        files.push(makers::damage_rules(&made, random.next(), REV));
+        files.push(made);
+    }
+    files
+}
+
+/// Files at the limit of length, which no maker makes.
+pub fn limits(tally: &mut Tally) -> Result<(), String> {
+    for length in [0, 65_535, 65_536] {
+        roles::compare(&vec![5; length], &mut Random::new(0), tally)
+            .map_err(|what| format!("a role file of {length} bytes 05\n{what}"))?;
+    }
+    Ok(())
+}
+
+fn hex(bytes: &[u8]) -> String {
+    bytes.iter().map(|byte| format!("{byte:02X}")).collect()
+}

@@ -1,0 +1,45 @@
+//! What was compared, by what came of it: a run that never met a refusal has said nothing of it.
+
+use std::fmt;
+
+#[derive(Default)]
+pub struct Tally {
+    pub role_files: usize,
+    pub rule_files: usize,
+    pub minings: usize,
+    pub questions: usize,
+    /// By number: how often the library accepted (0) or refused (1 to 13).
+    answers: [usize; 14],
+    verdicts: [usize; 4],
+}
+
+impl Tally {
+    /// Notes an answer of the library, and shows a refusal by its number.
+    pub fn told<T>(&mut self, answer: Result<T, fichtengarn::Refusal>) -> Result<T, usize> {
+        let answer = answer.map_err(fichtengarn::Refusal::number);
+        self.answers[answer.as_ref().err().copied().unwrap_or(0)] += 1;
+        answer
+    }
+
+    pub fn judged(&mut self, verdict: usize) {
+        self.verdicts[verdict] += 1;
+    }
+}
+
+/// `number: how often`, for each number that was met.
+fn met(numbers: &[usize]) -> String {
+    let met = numbers.iter().enumerate().filter(|(_, &often)| often != 0);
+    met.map(|(number, often)| format!("{number}: {often}")).collect::<Vec<_>>().join(", ")
+}
+
+impl fmt::Display for Tally {
+    fn fmt(&self, f: &mut fmt::Formatter) -> fmt::Result {
+        writeln!(
+            f,
+            "no disagreement on {} role files, {} rule files, {} minings, {} questions",
+            self.role_files, self.rule_files, self.minings, self.questions
+        )?;
+        writeln!(f, "answers by number {}", met(&self.answers))?;
+        write!(f, "verdicts by number {}", met(&self.verdicts))
+    }
+}

@@ -1,0 +1,73 @@
+//! A worked example of the wrapper, and the same as `examples/c/worked_example.c`: reads a role
+//! file, mines it, reads the rules back, judges them, asks a question of both, and prints the
+//! answers.
+//!
+//!     cargo run --example worked_example FILE
+
+use fichtengarn::{Refusal, Triple, Verdict};
+
+/// Prints what a call came to; passes on what it answered.
+fn told<T>(call: &str, answer: Result<T, Refusal>) -> Option<T> {
+    match answer {
+        Ok(answer) => {
+            println!("{call}: accepted");
+            Some(answer)
+        }
+        Err(refusal) => {
+            println!("{call}: refused {}", refusal.number());
+            None
+        }
+    }
+}
+
+fn print_verdict(verdict: Verdict) {
+    match verdict {
+        Verdict::Sound => println!("verdict 0"),
+        Verdict::Differ(Triple { user, resource, operation }) => {
+            println!("verdict 1 user {user} resource {resource} operation {operation}")
+        }
+        Verdict::StrayRule(rule) => println!("verdict 2 rule {rule}"),
+        Verdict::StrayPart(part) => println!("verdict 3 part {part}"),
+    }
+}
+
+fn print_answer(granted: bool) {
+    println!("answer {}", if granted { "yes" } else { "no" });
+}
+
+/// Asks roles and rules about one triple.
+fn ask(file: &[u8], rules: &[u8], asked: Triple) {
+    println!("user {}, resource {}, operation {}", asked.user, asked.resource, asked.operation);
+    if let Some(granted) = told("roles", fichtengarn::ask_roles(file, asked)) {
+        print_answer(granted);
+    }
+    if let Some(granted) = told("rules", fichtengarn::ask_rules(file, rules, asked)) {
+        print_answer(granted);
+    }
+}
+
+/// Goes on with what each call answers; ends where one is refused.
+fn work(file: &[u8]) -> Option<()> {
+    let mut scratch = [0; fichtengarn::SCRATCH_WORDS];
+    let mut output = [0; 65536];
+    told("read roles", fichtengarn::read_roles(file))?;
+    let mined = told("mine", fichtengarn::mine(file, &mut scratch, &mut output))?;
+    println!(
+        "length {} parts {} rules {} merges {} cost {}",
+        mined.length, mined.parts, mined.rules, mined.merges, mined.cost
+    );
+    let rules = &output[..mined.length];
+    println!("rules {}", told("read rules", fichtengarn::read_rules(file, rules))?);
+    print_verdict(told("judge", fichtengarn::judge(file, rules))?);
+    ask(file, rules, Triple { user: 0, resource: 0, operation: 0 });
+    ask(file, rules, Triple { user: 0, resource: 1, operation: 0 });
+    ask(file, rules, Triple { user: 0, resource: 0, operation: 1 });
+    Some(())
+}
+
+fn main() -> std::io::Result<()> {
+    let path = std::env::args().nth(1).expect("usage: worked_example FILE");
+    let file = std::fs::read(path)?;
+    work(&file);
+    Ok(())
+}

@@ -1,0 +1,51 @@
+//! The functions of `include/fichtengarn.h`, as they stand there.
+
+unsafe extern "C" {
+    pub fn fichtengarn_read_roles(file: *const u8, file_length: usize) -> usize;
+
+    pub fn fichtengarn_read_rules(
+        file: *const u8,
+        file_length: usize,
+        rules: *const u8,
+        rules_length: usize,
+        count: *mut usize,
+    ) -> usize;
+
+    pub fn fichtengarn_ask_roles(
+        file: *const u8,
+        file_length: usize,
+        user: usize,
+        resource: usize,
+        operation: usize,
+        answer: *mut usize,
+    ) -> usize;
+
+    pub fn fichtengarn_ask_rules(
+        file: *const u8,
+        file_length: usize,
+        rules: *const u8,
+        rules_length: usize,
+        user: usize,
+        resource: usize,
+        operation: usize,
+        answer: *mut usize,
+    ) -> usize;
+
+    pub fn fichtengarn_judge(
+        file: *const u8,
+        file_length: usize,
+        rules: *const u8,
+        rules_length: usize,
+        verdict: *mut [usize; 4],
+    ) -> usize;
+
+    pub fn fichtengarn_mine(
+        file: *const u8,
+        file_length: usize,
+        scratch: *mut u64,
+        scratch_words: usize,
+        output: *mut u8,
+        output_length: usize,
+        counts: *mut [usize; 5],
+    ) -> usize;
+}

@@ -1,0 +1,202 @@
+//! Fichtengarn for Rust: safe functions over the C interface, which `include/fichtengarn.h`
+//! describes with every promise. No heap is used, so the package does without `std`.
+//!
+//! A slice is what the C interface asks for: its pointer is never null, its length is true, and
+//! what is lent to be written to overlaps nothing else. So no caller owes anything more.
+#![no_std]
+
+mod interface;
+
+/// The words of scratch that mining asks for.
+pub const SCRATCH_WORDS: usize = 4096;
+
+/// The causes for which a call may refuse, with 01's numbers.
+#[derive(Clone, Copy, PartialEq, Eq, Debug)]
+pub enum Refusal {
+    /// A role file of more than 65,535 bytes.
+    TooLong = 1,
+    /// The role file ends inside operands or before 0F.
+    CutOff = 2,
+    /// A byte of the role file that is no command.
+    UnknownCommand = 3,
+    /// A command where it may not stand, or a byte after the end.
+    OutOfPlace = 4,
+    /// An operand beyond its limit or declared size, a seventh attribute, or a question's number
+    /// beyond the sizes.
+    Beyond = 5,
+    /// A value of the wrong kind, or one given twice.
+    WrongKind = 6,
+    /// A role is its own senior.
+    OwnSenior = 7,
+    /// Scratch of less than `SCRATCH_WORDS`.
+    SmallScratch = 8,
+    /// The rule file is longer than the output.
+    ShortOutput = 9,
+    /// The rule file ends inside operands or before 2F.
+    RulesCutOff = 10,
+    /// A byte of the rule file that is no command.
+    RulesUnknown = 11,
+    /// Out of order, missing or repeated, or a byte after the end.
+    RulesOrder = 12,
+    /// An operand beyond its size or of the wrong kind, no operation, or no part of the role file.
+    RulesOperand = 13,
+}
+
+impl Refusal {
+    const ALL: [Refusal; 13] = [
+        Refusal::TooLong,
+        Refusal::CutOff,
+        Refusal::UnknownCommand,
+        Refusal::OutOfPlace,
+        Refusal::Beyond,
+        Refusal::WrongKind,
+        Refusal::OwnSenior,
+        Refusal::SmallScratch,
+        Refusal::ShortOutput,
+        Refusal::RulesCutOff,
+        Refusal::RulesUnknown,
+        Refusal::RulesOrder,
+        Refusal::RulesOperand,
+    ];
+
+    /// 01's number.
+    pub fn number(self) -> usize {
+        self as usize
+    }
+}
+
+/// A user, a resource and an operation, each by its number.
+#[derive(Clone, Copy, PartialEq, Eq, Debug)]
+pub struct Triple {
+    pub user: usize,
+    pub resource: usize,
+    pub operation: usize,
+}
+
+/// The judge's verdicts, 0 to 3.
+#[derive(Clone, Copy, PartialEq, Eq, Debug)]
+pub enum Verdict {
+    /// 0: the rules grant what the roles do, each rule grants what its parts do, and each part
+    /// stands under one rule.
+    Sound,
+    /// 1: the first triple, by user, then resource, then operation, at which roles and rules differ.
+    Differ(Triple),
+    /// 2: the first rule that grants other than its parts.
+    StrayRule(usize),
+    /// 3: the first part that stands under no rule or several.
+    StrayPart(usize),
+}
+
+/// What mining says of the rule file that it wrote.
+#[derive(Clone, Copy, PartialEq, Eq, Debug)]
+pub struct Mined {
+    /// Bytes of the rule file: it stands at the front of the output.
+    pub length: usize,
+    /// Parts of the role file: as many as rules and merges together.
+    pub parts: usize,
+    pub rules: usize,
+    pub merges: usize,
+    pub cost: usize,
+}
+
+/// What a call returned: 0, or the number of a refusal.
+fn told(returned: usize) -> Result<(), Refusal> {
+    match returned {
+        0 => Ok(()),
+        number => Err(Refusal::ALL[number - 1]),
+    }
+}
+
+/// Whether a role file may be read.
+pub fn read_roles(file: &[u8]) -> Result<(), Refusal> {
+    told(unsafe { interface::fichtengarn_read_roles(file.as_ptr(), file.len()) })
+}
+
+/// Whether a rule file may be read beside a role file, and how many rules it has.
+pub fn read_rules(file: &[u8], rules: &[u8]) -> Result<usize, Refusal> {
+    let mut count = 0;
+    told(unsafe {
+        interface::fichtengarn_read_rules(
+            file.as_ptr(),
+            file.len(),
+            rules.as_ptr(),
+            rules.len(),
+            &mut count,
+        )
+    })?;
+    Ok(count)
+}
+
+/// Whether the roles grant a triple.
+pub fn ask_roles(file: &[u8], asked: Triple) -> Result<bool, Refusal> {
+    let mut answer = 0;
+    told(unsafe {
+        interface::fichtengarn_ask_roles(
+            file.as_ptr(),
+            file.len(),
+            asked.user,
+            asked.resource,
+            asked.operation,
+            &mut answer,
+        )
+    })?;
+    Ok(answer == 1)
+}
+
+/// Whether some rule grants a triple.
+pub fn ask_rules(file: &[u8], rules: &[u8], asked: Triple) -> Result<bool, Refusal> {
+    let mut answer = 0;
+    told(unsafe {
+        interface::fichtengarn_ask_rules(
+            file.as_ptr(),
+            file.len(),
+            rules.as_ptr(),
+            rules.len(),
+            asked.user,
+            asked.resource,
+            asked.operation,
+            &mut answer,
+        )
+    })?;
+    Ok(answer == 1)
+}
+
+/// Whether a rule file is right for a role file.
+pub fn judge(file: &[u8], rules: &[u8]) -> Result<Verdict, Refusal> {
+    let mut verdict = [0; 4];
+    told(unsafe {
+        interface::fichtengarn_judge(
+            file.as_ptr(),
+            file.len(),
+            rules.as_ptr(),
+            rules.len(),
+            &mut verdict,
+        )
+    })?;
+    let [number, first, second, third] = verdict;
+    Ok(match number {
+        0 => Verdict::Sound,
+        1 => Verdict::Differ(Triple { user: first, resource: second, operation: third }),
+        2 => Verdict::StrayRule(first),
+        _ => Verdict::StrayPart(first),
+    })
+}
+
+/// Writes the rules of a role file to the front of the output. A refusal leaves the output as it
+/// was. Scratch may hold anything before and after.
+pub fn mine(file: &[u8], scratch: &mut [u64], output: &mut [u8]) -> Result<Mined, Refusal> {
+    let mut counts = [0; 5];
+    told(unsafe {
+        interface::fichtengarn_mine(
+            file.as_ptr(),
+            file.len(),
+            scratch.as_mut_ptr(),
+            scratch.len(),
+            output.as_mut_ptr(),
+            output.len(),
+            &mut counts,
+        )
+    })?;
+    let [length, parts, rules, merges, cost] = counts;
+    Ok(Mined { length, parts, rules, merges, cost })
+}
