@@ -3,7 +3,7 @@ ghost use lib.ListN.{length};
 ghost use mathlib.Core.Bool.{cond};
 ghost use mathlib.Core.Path.{_≡_};
 ghost use Prim.Native.Nat.{_≤_, _<_};
-ghost use Rattle.filewriter.specs.FileTable.{keptAt, keptHead, keptTable, ruleAt, costAt, fileBytes, measuredOf};
+ghost use Rattle.filewriter.specs.FileTable.{keptHead, keptTable, ruleAt, costAt, fileBytes, measuredOf};
 ghost use Rattle.linewriter.specs.Writing.{wrote};
 
 // The bytes of a rule file, its rules, their cost, and the parts that they list.

@@ -14,13 +14,11 @@ use Rattle.files.specs.RoleFile.{readRoles}
 use Rattle.grants.specs.Links.{linkTable}
 use Rattle.loaded.specs.Record.{attributeTable, recordWith, recordOf}
 use Rattle.matches.specs.Matches.{matchTable, knownPlaces}
-use Rattle.matches.specs.MatchLaws.{knownIn, matchesIn}
 use Rattle.filewriter.specs.FileLaws.{keptIn, file-means, measure-means}
 use Rattle.filewriter.specs.FileTable.{keptTable, fileBytes, measuredOf}
 use Rattle.mining.specs.MineLaws.{Outcome, written}
 use Rattle.merging.specs.Steps.{Tables}
 use Rattle.linewriter.specs.Writing.{wrote, length-wrote}
-use Rattle.pairing.specs.FitLaws.{linksOf}
 use Rattle.policy.specs.Policy.{Policy}
 use Rattle.policy.specs.Rules.{user, resource}
 use Rattle.rolefile.specs.Reading.{refusal, loadedOf}

@@ -12,7 +12,7 @@ use Rattle.conjuncts.specs.Summary.{linkedWith}
 use Rattle.matches.specs.Matches.{lessOne}
 use Rattle.matches.specs.MemberLaws.{bit-less}
 use Rattle.sets.specs.LoopLaws.{narrowing}
-use Rattle.sets.specs.MaskLaws.{and-true, bit-maskOf, mask-unique, mask-same, mask-wide}
+use Rattle.sets.specs.MaskLaws.{and-true, bit-maskOf, mask-unique, mask-same, mask-none, mask-wide}
 use Rattle.sets.specs.Sets.{bit, bit-none, maskOf, bit-mask}
 use Rattle.sets.specs.Tests.{Is, and-in, and-l, and-r, never, test, same, imp, imp-in, imp-out, all, all-out, all-in, upTo, upTo-in, upTo-out, not-in}
 
@@ -52,6 +52,10 @@ narrow-turn n m h g y a a′ l b q =
 pub narrow-done : (n m : ℕ) (g : ℕ → ℕ) (a : ℕ) → a < 2 ^ 64 → m ≡ 0 → maskOf 64 (narrowing a (bit m) g n) ≡ a
 narrow-done n m g a h e = sym (mask-unique 64 a (narrowing a (bit m) g n) h λ u l.
     sym (ap (λ (b : Bool). bit a u && b) (all-in (λ j. imp (bit m j) (bit (g j) u)) (upTo n) λ j i. imp-in (bit m j) (bit (g j) u) λ k. never k (ap (λ (x : ℕ). bit x j) e ∙ bit-none j)) ∙ and-true (bit a u)))
+
+-- an empty set stays empty
+pub narrow-nothing : (n m : ℕ) (g : ℕ → ℕ) (a : ℕ) → a ≡ 0 → 0 ≡ maskOf 64 (narrowing a (bit m) g n)
+narrow-nothing n m g a e = sym (mask-none 64 (narrowing a (bit m) g n) λ u l. ap (λ (b : Bool). b && all (λ j. imp (bit m j) (bit (g j) u)) (upTo n)) (ap (λ (x : ℕ). bit x u) e ∙ bit-none u))
 
 -- it begins with the atoms of a word
 pub linked-begin : (links : List ℕ) (atoms u among m : ℕ) → m ≡ maskOf 36 (bit atoms) → maskOf 64 (narrowing among (bit m) (λ i. getD links (64 * i + u) 0) 36) ≡ linkedWith links atoms u among

@@ -21,7 +21,8 @@ pub struct Group {
     pub atoms: u64,
 }
 
-// Which of some resources every atom joins with a user. Most groups have few atoms, so only those are looked at.
+// Which of some resources every atom joins with a user. Most groups have few atoms, so only those are looked at, and no more of them once no
+// resource is left.
 pub fn linked(links: &[u64; 2304], atoms: u64, user: usize, among: u64) -> u64
     requires { ⌜ user < 64 ⌝ }
     ensures { λ r. ⌜ r ≡ linkedWith (now (links .entry)) atoms user among ⌝ }
@@ -29,6 +30,9 @@ pub fn linked(links: &[u64; 2304], atoms: u64, user: usize, among: u64) -> u64
     let mut m = among;
     let mut rest = sets::meet(atoms, sets::below(36));
     while 0 < rest {
+        if m == 0 {
+            return 0;
+        }
         let i = sets::least(rest);
         m = sets::meet(m, links[64 * i + user]);
         rest = matches::without_least(rest);
@@ -37,7 +41,7 @@ pub fn linked(links: &[u64; 2304], atoms: u64, user: usize, among: u64) -> u64
 }
 
 // The resources that stand in a pair with a user: none if the user is not one of these.
-fn row(links: &[u64; 2304], atoms: u64, users: u64, resources: u64, user: usize) -> u64
+pub fn row(links: &[u64; 2304], atoms: u64, users: u64, resources: u64, user: usize) -> u64
     requires { ⌜ user < 64 ⌝ }
     ensures { λ r. ⌜ r ≡ rowOf (now (links .entry)) atoms users resources user ⌝ }
 {

@@ -29,7 +29,7 @@ use Rattle.sets.specs.Tests.{Is, and-in, and-l, and-r, never, test, fails, same
 use Rattle.words.specs.WordLaws.{all-ext}
 use Rattle.words.specs.Words.{Words}
 use Rattle.thinning.specs.Kept.{ruleOver, firstOther, grantsSame}
-use Rattle.thinning.specs.PlaceLaws.{narrow-turn, narrow-done, linked-begin}
+use Rattle.pairing.specs.LinkedLaws.{narrow-turn, narrow-done, linked-begin}
 use Rattle.thinning.specs.Rows.{noOther, everything, shared, narrowedRows, joinedRows, freeCorner, freeCorners, rowIn, isFull, openUsers, addsNone, asksNoMore}
 use Rattle.thinning.specs.SearchLaws.{ruled}
 

@@ -4,12 +4,10 @@ ghost use lib.ListN.{length};
 ghost use mathlib.Core.Bool.{_&&_, not};
 ghost use mathlib.Core.Path.{_≡_};
 ghost use Prim.Native.Nat.{_≤_, _<_};
-ghost use Rattle.conjuncts.specs.Summary.{linkedWith};
 ghost use Rattle.grants.specs.Grid.{differenceOf};
 ghost use Rattle.loaded.specs.Record.{tableOf};
 ghost use Rattle.pairing.specs.Pairing.{wordsIn};
 ghost use Rattle.policy.specs.Rules.{ownAt};
-ghost use Rattle.rulegrants.specs.RuleGrid.{rowOf};
 ghost use Rattle.sets.specs.Sets.{bit, maskOf};
 ghost use Rattle.sets.specs.Tests.{iff};
 ghost use Rattle.thinning.specs.Kept.{firstOther, metAt, metPlaces, allowedAt, conjunctAt, presentPlaces, grantsSame, thinBy, keptIn};
@@ -18,36 +16,6 @@ ghost use Rattle.words.specs.Flags.{placeSide};
 ghost use Rattle.words.specs.Words.{membersOf};
 use grants::Difference;
 use pairing::Group;
-
-// Which of some resources every atom joins with a user. Most rules have few atoms, so only those are looked at, and no more of them once
-// no resource is left.
-fn linked(links: &[u64; 2304], atoms: u64, user: usize, among: u64) -> u64
-    requires { ⌜ user < 64 ⌝ }
-    ensures { λ r. ⌜ r ≡ linkedWith (now (links .entry)) atoms user among ⌝ }
-{
-    let mut m = among;
-    let mut rest = sets::meet(atoms, sets::below(36));
-    while 0 < rest {
-        if m == 0 {
-            return 0;
-        }
-        let i = sets::least(rest);
-        m = sets::meet(m, links[64 * i + user]);
-        rest = matches::without_least(rest);
-    }
-    m
-}
-
-// The resources that stand in a pair with a user: none if the user is not one of these.
-fn row(links: &[u64; 2304], atoms: u64, users: u64, resources: u64, user: usize) -> u64
-    requires { ⌜ user < 64 ⌝ }
-    ensures { λ r. ⌜ r ≡ rowOf (now (links .entry)) atoms users resources user ⌝ }
-{
-    if sets::has(users, user) {
-        return linked(links, atoms, user, resources);
-    }
-    0
-}
 
 // Whether the rows c of the rule and a of the group differ at a resource and an operation.
 fn differ_at(operations: u64, c: u64, a: u64, resource: usize, operation: usize) -> bool
@@ -74,8 +42,8 @@ pub fn first_other(
 {
     'triples: loop {
         for u in 0..users {
-            let c = row(links, atoms, who, what, u);
-            let a = row(links, g.atoms, g.users, g.resources, u);
+            let c = pairing::row(links, atoms, who, what, u);
+            let a = pairing::row(links, g.atoms, g.users, g.resources, u);
             // Most users need no look at their resources.
             if c == a {
                 continue;
@@ -310,7 +278,7 @@ fn adds_none<'a>(
     while 0 < rest {
         let u = sets::least(rest);
         let others = sets::without(what, row_in(rows, g, u));
-        if linked(links, atoms, u, others) != 0 {
+        if pairing::linked(links, atoms, u, others) != 0 {
             return false;
         }
         rest = matches::without_least(rest);

@@ -1,7 +1,6 @@
 -- Assumes nothing.
 use borrow.Author.Needs.{needs}
 use denote.Ref.{now}
-use mathlib.Core.Path.{sym, _∙_}
 use Rattle.mining.specs.AssemblyLaws.{tabled}
 use Rattle.mining.proofs.mine_record.Statement.{statement}
 use Rattle.mining.proofs.mine_record.Tie as tie

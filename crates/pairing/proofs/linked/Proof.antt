@@ -11,7 +11,7 @@ use Rattle.matches.specs.MemberLaws.{least-in, less-less}
 use Rattle.sets.specs.LoopLaws.{narrowing}
 use Rattle.sets.specs.Sets.{bit, maskOf}
 use Rattle.sets.specs.Tests.{Is}
-use Rattle.pairing.specs.LinkedLaws.{atoms-cut, narrow-turn, narrow-done, linked-begin, cut-low, less-low}
+use Rattle.pairing.specs.LinkedLaws.{atoms-cut, narrow-turn, narrow-nothing, narrow-done, linked-begin, cut-low, less-low}
 use Rattle.pairing.proofs.linked.Statement.{statement}
 use Rattle.pairing.proofs.linked.Tie as tie
 
@@ -31,32 +31,32 @@ loop-holds c =
     (search needs, search needs, cut-low (a .atoms) (c .meet .result) e, linked-begin (a .links .now) (a .atoms) (a .user) (a .among) (c .meet .result) e)
 
 mul-meet : tie.Need-mul-meet Inv-loop μ-loop
-mul-meet c = let t = least-in (c .before .before .loop .rest) (c .before .before .loop .inv .1) _ (c .least .ensures) (c .before .loop-test .taken) in omega arith
+mul-meet c = let t = least-in (c .before .before .before .loop .rest) (c .before .before .before .loop .inv .1) _ (c .least .ensures) (c .before .before .loop-test .taken) in omega arith
 
 add-meet : tie.Need-add-meet Inv-loop μ-loop
-add-meet c = let t = least-in (c .before .before .loop .rest) (c .before .before .loop .inv .1) _ (c .least .ensures) (c .before .loop-test .taken) in omega arith
+add-meet c = let t = least-in (c .before .before .before .loop .rest) (c .before .before .before .loop .inv .1) _ (c .least .ensures) (c .before .before .loop-test .taken) in omega arith
 
 mul-meet-2 : tie.Need-mul-meet-2 Inv-loop μ-loop
-mul-meet-2 c = let t = least-in (c .before .before .loop .rest) (c .before .before .loop .inv .1) _ (c .least .ensures) (c .before .loop-test .taken) in let l = c .before .before .loop .inv .2 _ (t .1) in omega arith
+mul-meet-2 c = let t = least-in (c .before .before .before .loop .rest) (c .before .before .before .loop .inv .1) _ (c .least .ensures) (c .before .before .loop-test .taken) in let l = c .before .before .before .loop .inv .2 _ (t .1) in omega arith
 
 element-copy-out-meet : tie.Need-element-copy-out-meet Inv-loop μ-loop
-element-copy-out-meet c = let t = least-in (c .before .before .loop .rest) (c .before .before .loop .inv .1) _ (c .least .ensures) (c .before .loop-test .taken) in let l = c .before .before .loop .inv .2 _ (t .1) in omega arith
+element-copy-out-meet c = let t = least-in (c .before .before .before .loop .rest) (c .before .before .before .loop .inv .1) _ (c .least .ensures) (c .before .before .loop-test .taken) in let l = c .before .before .before .loop .inv .2 _ (t .1) in omega arith
 
 loop-less : tie.Need-loop-less Inv-loop μ-loop
 loop-less c =
     let d = c .before .before .before in
-    let rest = d .before .before .loop .rest in
-    let t = least-in rest (d .before .before .loop .inv .1) _ (d .least .ensures) (d .before .loop-test .taken) in
-    let l = less-less rest (d .before .before .loop .inv .1) _ (t .1) in
+    let rest = d .before .before .before .loop .rest in
+    let t = least-in rest (d .before .before .before .loop .inv .1) _ (d .least .ensures) (d .before .before .loop-test .taken) in
+    let l = less-less rest (d .before .before .before .loop .inv .1) _ (t .1) in
     let e = c .without-least .ensures ∙ ap (lessOne rest) (sym (d .least .ensures)) in
     omega arith
 
 loop-again : tie.Need-loop-again Inv-loop μ-loop
 loop-again c =
     let d = c .before .before .before in
-    let turn = d .before .before .loop in
-    let a = d .before .before .before .before .before .args in
-    let t = least-in (turn .rest) (turn .inv .1) _ (d .least .ensures) (d .before .loop-test .taken) in
+    let turn = d .before .before .before .loop in
+    let a = d .before .before .before .before .before .before .args in
+    let t = least-in (turn .rest) (turn .inv .1) _ (d .least .ensures) (d .before .before .loop-test .taken) in
     let e = c .without-least .ensures ∙ ap (lessOne (turn .rest)) (sym (d .least .ensures)) in (
       search needs,
       search needs,
@@ -68,6 +68,12 @@ loop-again c =
 
 returns : tie.Need-returns Inv-loop μ-loop
 returns c =
+    let turn = c .before .before in
+    let a = turn .before .before .before .args in
+    narrow-nothing 36 (turn .loop .rest) (word (a .links .now) (a .user)) (turn .loop .m) (c .if1 .taken) ∙ turn .loop .inv .3
+
+returns-2 : tie.Need-returns-2 Inv-loop μ-loop
+returns-2 c =
     let end = c .before .loop in
     let a = c .before .before .before .before .args in
     sym (narrow-done 36 (end .rest) (word (a .links .now) (a .user)) (end .m) (end .inv .0) (omega arith)) ∙ end .inv .3
@@ -81,6 +87,7 @@ linked-spec =
     (λ c κs. search needs)
     (λ c κs. search needs)
     loop-holds
+    returns
     (λ c κs. search needs)
     mul-meet
     add-meet
@@ -90,4 +97,4 @@ linked-spec =
     (λ c κs. search needs)
     loop-less
     loop-again
-    returns)
+    returns-2)

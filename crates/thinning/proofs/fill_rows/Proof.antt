@@ -8,7 +8,7 @@ use Rattle.matches.specs.Matches.{lessOne}
 use Rattle.matches.specs.MemberLaws.{least-in, less-less}
 use Rattle.sets.specs.Sets.{bit}
 use Rattle.sets.specs.Tests.{Is}
-use Rattle.thinning.specs.PlaceLaws.{atoms-cut, cut-low, less-low}
+use Rattle.pairing.specs.LinkedLaws.{atoms-cut, cut-low, less-low}
 use Rattle.thinning.specs.RowLaws.{Narrows, rows-begin, rows-turn, rows-end}
 use Rattle.thinning.proofs.fill_rows.Statement.{statement}
 use Rattle.thinning.proofs.fill_rows.Tie as tie

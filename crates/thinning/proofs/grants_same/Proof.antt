@@ -1,7 +1,7 @@
 -- Assumes nothing.
 use borrow.Author.Needs.{needs}
 use Rattle.pairing.specs.Pairing.{wordsIn}
-use Rattle.thinning.specs.PlaceLaws.{atoms-cut}
+use Rattle.pairing.specs.LinkedLaws.{atoms-cut}
 use Rattle.thinning.specs.RowLaws.{told-by-triples, told-by-corners, told-by-rows}
 use Rattle.thinning.proofs.grants_same.Statement.{statement}
 use Rattle.thinning.proofs.grants_same.Tie as tie

@@ -9,7 +9,8 @@ use Rattle.sets.specs.LoopLaws.{turn-within}
 use Rattle.sets.specs.MaskLaws.{fill-none, fill-with, fill-out, fill-end}
 use Rattle.sets.specs.Sets.{maskOf}
 use Rattle.thinning.specs.Kept.{conjunctAt}
-use Rattle.thinning.specs.PlaceLaws.{atoms-cut, present-joined}
+use Rattle.pairing.specs.LinkedLaws.{atoms-cut}
+use Rattle.thinning.specs.PlaceLaws.{present-joined}
 use Rattle.thinning.proofs.present.Statement.{statement}
 use Rattle.thinning.proofs.present.Tie as tie
 
