@@ -1,0 +1,30 @@
+//! Mines a role file in plain Rust, as often as the proved program does, and must print the same checksum.
+
+#[path = "../read/reader.rs"]
+mod reader;
+
+mod miner;
+
+use miner::mine;
+use std::hint::black_box;
+use std::io::Read;
+
+/// Mines once, and adds up the length, the counts, the cost and the turn.
+fn sample(file: &[u8], out: &mut [u8], turn: usize) -> u64 {
+    let said = match mine(black_box(file), black_box(out)) {
+        Ok(mined) => mined.length + mined.parts + mined.rules + mined.merges + mined.cost,
+        Err(number) => number as usize,
+    };
+    (said + turn) as u64
+}
+
+fn main() {
+    let mut input = Vec::new();
+    std::io::stdin()
+        .read_to_end(&mut input)
+        .expect("standard input can be read");
+    let turns = u16::from_le_bytes([input[0], input[1]]) as usize;
+    let mut out = vec![0; 524288];
+    let sum = (0..turns).fold(0u64, |sum, turn| sum.wrapping_add(sample(&input[2..], &mut out, turn)));
+    println!("{sum}");
+}
