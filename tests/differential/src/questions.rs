@@ -4,7 +4,7 @@ use fichtengarn::Triple;
 use second_miner::{random::Random, role_file::RolePolicy};
 
 /// Of a file with at most so many triples every one is asked about.
-const FEW: usize = 256;
+const FEW: usize = 8192;
 
 /// The first triple of a file that has one.
 pub const FIRST: Triple = Triple { user: 0, resource: 0, operation: 0 };
