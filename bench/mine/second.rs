@@ -2,10 +2,13 @@
 //!
 //! With the name of a profile and a seed it writes the second miner's random role file of these to standard output.
 
+#[path = "../turns.rs"]
+mod turns;
+
 use second_miner::makers::role_file;
 use second_miner::mining::{mine, Lent};
 use std::hint::black_box;
-use std::io::{Read, Write};
+use std::io::Write;
 
 /// Mines once, and adds up the length, the counts, the cost and the turn.
 fn sample(file: &[u8], lent: &Lent, turn: usize) -> u64 {
@@ -23,12 +26,6 @@ fn main() {
         std::io::stdout().write_all(&file).expect("standard output can be written");
         return;
     }
-    let mut input = Vec::new();
-    std::io::stdin()
-        .read_to_end(&mut input)
-        .expect("standard input can be read");
-    let turns = u16::from_le_bytes([input[0], input[1]]) as usize;
     let lent = Lent { output: 524288, ..Lent::usual() };
-    let sum = (0..turns).fold(0u64, |sum, turn| sum.wrapping_add(sample(&input[2..], &lent, turn)));
-    println!("{sum}");
+    turns::print_checksum(|file, turn| sample(file, &lent, turn));
 }
