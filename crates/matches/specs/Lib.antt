@@ -1,4 +1,5 @@
 pub mod Matches
 pub mod MemberLaws
 pub mod TableLaws
+pub mod MetLaws
 pub mod MatchLaws

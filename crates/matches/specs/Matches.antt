@@ -1,10 +1,11 @@
 -- Who meets whose value, at each of the 14 places of attributes: the tables, and what is read off them.
 -- Assumes nothing.
-use Prim.Native.Nat.{ℕ, _+_, _*_, _/_, _%_}
+use Prim.Native.Nat.{ℕ, _+_, _*_, _/_, _%_, _<_}
 use lib.Dec.{eqb, ltb}
 use lib.ListN.{getD}
 use mathlib.Core.Bool.{Bool, cond, _&&_, _||_, not}
 use mathlib.Core.List.{List}
+use mathlib.Core.Path.{_≡_}
 use Rattle.loaded.specs.Record.{tableOf}
 use Rattle.meeting.specs.Meeting.{meetingOf}
 use Rattle.sets.specs.Sets.{bit, subset, maskOf}
@@ -49,6 +50,18 @@ lessOne m y = maskOf 64 (λ k. bit m k && not (eqb k y))
 -- who meets a conjunct of the values of these members at a place
 unfoldable pub metOf : List ℕ → ℕ → ℕ → ℕ
 metOf matches i members = maskOf 64 (λ x. any (λ y. bit members y && bit (getD matches (64 * i + y) 0) x) (upTo 64))
+
+-- some members and others
+unfoldable pub both : ℕ → ℕ → ℕ
+both m n = maskOf 64 (λ k. bit m k || bit n k)
+
+-- the table has, for each attribute of a side, who meets a conjunct of the values of these members
+abbrev pub Met : (matches : List ℕ) → (side members : ℕ) → List ℕ → Type 0
+Met matches side members met = (a : ℕ) → a < 6 → getD met a 0 ≡ metOf matches (7 * side + a) members
+
+-- to each word of one such table is joined who meets the value of one member, and that gives the other
+abbrev pub MemberAdded : (matches : List ℕ) → (side member : ℕ) → List ℕ → List ℕ → Type 0
+MemberAdded matches side member met met′ = (a : ℕ) → a < 6 → getD met′ a 0 ≡ maskOf 64 (λ k. bit (getD met a 0) k || bit (getD matches (64 * (7 * side + a) + member) 0) k)
 
 -- who, of that many on side 0 or 1, passes all conjuncts of these members: over the attributes that all of them know, and over the
 -- 255 if it is asked for

@@ -4,16 +4,18 @@ use Prim.Native.Nat.{ℕ, _+_, _*_, _/_, _%_, _≤_, _<_}
 use borrow.Author.Tests.{eq-eqb, ne-eqb}
 use lib.Dec.{eqb, ltb}
 use lib.ListN.{length, getD}
-use mathlib.Core.Bool.{Bool, true, false, cond, _&&_, _||_, and-assoc}
+use mathlib.Core.Bool.{Bool, true, false, cond, _&&_, _||_}
 use mathlib.Core.List.{List}
 use mathlib.Core.Path.{_≡_, refl, sym, ap, ap₂, _∙_}
+use native.Mathlib.Omega.{arith}
 use Rattle.loaded.specs.Record.{tableOf}
-use Rattle.matches.specs.Matches.{countAt, knownFor, knownPlaces, valueFor, matchWord, metOf, passingOf}
+use Rattle.matches.specs.Matches.{countAt, knownFor, knownPlaces, valueFor, matchWord, metOf, Met, passingOf}
 use Rattle.meeting.specs.Meeting.{meetingOf}
 use Rattle.sets.specs.LoopLaws.{narrowing, table-unique}
 use Rattle.sets.specs.MaskLaws.{and-true, mask-same, mask-wide}
 use Rattle.sets.specs.Sets.{bit, subset, maskOf, bit-mask}
-use Rattle.sets.specs.Tests.{imp, all, upTo}
+use Rattle.sets.specs.Tests.{imp, all, upTo, upTo-out}
+use Rattle.words.specs.WordLaws.{all-ext}
 
 -- the tables have room for a side
 pub count-room : (users resources i : ℕ) → users ≤ 64 → resources ≤ 64 → countAt users resources i ≤ 64
@@ -66,33 +68,22 @@ module _ (kinds known values holders : List ℕ) (users resources roles : ℕ) w
 -- ---- who passes the conjuncts of some members
 
 -- who is left after the attributes before n
-abbrev pub passingTo : (matches known : List ℕ) → (side members count n : ℕ) → ℕ → Bool
-passingTo matches known side members count n =
-    narrowing (maskOf 64 (λ x. ltb x count)) (λ a. subset members (getD known (7 * side + a) 0)) (λ a. metOf matches (7 * side + a) members) n
+abbrev pub passingTo : (met known : List ℕ) → (side members count n : ℕ) → ℕ → Bool
+passingTo met known side members count n =
+    narrowing (maskOf 64 (λ x. ltb x count)) (λ a. subset members (getD known (7 * side + a) 0)) (λ a. getD met a 0) n
 
-module _ (matches known : List ℕ) (attributes side : ℕ) (members count : ℕ) (l : count ≤ 64) where
-  passing-wide : (b : Bool) → maskOf 64 (λ x. passingTo matches known side members count attributes x && imp b (bit (metOf matches (7 * side + 6) members) x)) ≡ passingOf matches known attributes side b members count
-  unfolding passingOf
-  passing-wide b =
-      mask-same 64 (λ x. passingTo matches known side members count attributes x && imp b (bit (metOf matches (7 * side + 6) members) x)) (λ x. ltb x count && (asked x && imp b (bit (metOf matches (7 * side + 6) members) x)))
-      (λ x h. ap (λ (d : Bool). (d && asked x) && imp b (bit (metOf matches (7 * side + 6) members) x)) (bit-mask 64 (λ x. ltb x count) x h) ∙ and-assoc (ltb x count) (asked x) (imp b (bit (metOf matches (7 * side + 6) members) x)))
-      ∙ sym (mask-wide count 64 (λ x. asked x && imp b (bit (metOf matches (7 * side + 6) members) x)) l)
-    where
-      asked : ℕ → Bool
-      asked x = all (λ a. imp (subset members (getD known (7 * side + a) 0)) (bit (metOf matches (7 * side + a) members) x)) (upTo attributes)
+-- by the table of some members that is who passes, without the 255
+pub passing-so : (matches met known : List ℕ) (attributes side members count : ℕ) → attributes ≤ 6 → count ≤ 64 → Met matches side members met
+    → maskOf 64 (passingTo met known side members count attributes) ≡ passingOf matches known attributes side false members count
+unfolding passingOf
+passing-so matches met known attributes side members count few l h =
+    mask-same 64 (passingTo met known side members count attributes) (λ x. ltb x count && (asked x && true))
+    (λ x lx. ap₂ _&&_ (bit-mask 64 (λ x. ltb x count) x lx) (all-alike x) ∙ sym (ap (λ (b : Bool). ltb x count && b) (and-true (asked x))))
+    ∙ sym (mask-wide count 64 (λ x. asked x && true) l)
+  where
+    asked : ℕ → Bool
+    asked x = all (λ a. imp (subset members (getD known (7 * side + a) 0)) (bit (metOf matches (7 * side + a) members) x)) (upTo attributes)
 
-  -- without the 255 that is all
-  pub passing-without : (b : Bool) (m r : ℕ) → b ≡ false → m ≡ maskOf 64 (passingTo matches known side members count attributes) → r ≡ m → r ≡ passingOf matches known attributes side b members count
-  passing-without b m r e h q =
-      q ∙ h
-      ∙ mask-same 64 (passingTo matches known side members count attributes) (λ x. passingTo matches known side members count attributes x && imp b (bit (metOf matches (7 * side + 6) members) x)) (λ x _. sym (ap (λ (d : Bool). passingTo matches known side members count attributes x && imp d (bit (metOf matches (7 * side + 6) members) x)) e ∙ and-true (passingTo matches known side members count attributes x)))
-      ∙ passing-wide b
-
-  -- with the 255 one narrowing more, `r = meet(m, s)`
-  pub passing-with : (b : Bool) (m s r : ℕ) → b ≡ true → m ≡ maskOf 64 (passingTo matches known side members count attributes) → s ≡ metOf matches (7 * side + 6) members → r ≡ maskOf 64 (λ k. bit m k && bit s k)
-      → r ≡ passingOf matches known attributes side b members count
-  passing-with b m s r e h d q =
-      q
-      ∙ mask-same 64 (λ k. bit m k && bit s k) (λ x. passingTo matches known side members count attributes x && imp b (bit (metOf matches (7 * side + 6) members) x))
-      (λ k lk. ap₂ _&&_ (ap (λ (x : ℕ). bit x k) h ∙ bit-mask 64 (passingTo matches known side members count attributes) k lk) (ap (λ (x : ℕ). bit x k) d ∙ sym (ap (λ (c : Bool). imp c (bit (metOf matches (7 * side + 6) members) k)) e)))
-      ∙ passing-wide b
+    all-alike : (x : ℕ) → all (λ a. imp (subset members (getD known (7 * side + a) 0)) (bit (getD met a 0) x)) (upTo attributes) ≡ asked x
+    all-alike x = all-ext (λ a. imp (subset members (getD known (7 * side + a) 0)) (bit (getD met a 0) x)) (λ a. imp (subset members (getD known (7 * side + a) 0)) (bit (metOf matches (7 * side + a) members) x)) (upTo attributes)
+        (λ a m. let k = upTo-out attributes m in ap (λ (n : ℕ). imp (subset members (getD known (7 * side + a) 0)) (bit n x)) (h a (omega arith)))

@@ -1,9 +1,11 @@
 // The 14 places of attributes, the six of the users, their 255, the six of the resources, their 255: who knows the attribute of each, what
 // value somebody has, and who passes the conjuncts of the values that some members have.
 ghost use lib.ListN.{length};
+ghost use mathlib.Core.Bool.{false};
+ghost use mathlib.Core.List.{List};
 ghost use mathlib.Core.Path.{_≡_};
-ghost use Prim.Native.Nat.{_≤_, _<_};
-ghost use Rattle.matches.specs.Matches.{countAt, knownFor, knownPlaces, heldRoles, valueFor, lessOne, metOf, passingOf};
+ghost use Prim.Native.Nat.{ℕ, _≤_, _<_};
+ghost use Rattle.matches.specs.Matches.{countAt, knownFor, knownPlaces, heldRoles, valueFor, lessOne, metOf, both, Met, MemberAdded, passingOf};
 ghost use Rattle.sets.specs.Lowest.{lowestFrom};
 ghost use Rattle.sets.specs.Sets.{bit};
 
@@ -106,28 +108,55 @@ pub fn met_by(matches: &[u64; 896], place: usize, members: u64) -> u64
     met
 }
 
-// Who passes all conjuncts of the covering rule of these members, on a side, with its 255 or without.
+// Joins to a table of a side who meets the values that one member has, attribute by attribute. The 255 is left out.
+fn add_member(matches: &[u64; 896], side: usize, member: usize, met: &mut [u64])
+    requires { ⌜ (side < 2) × (member < 64) × (length (now met) ≡ 6) ⌝ }
+    ensures { λ _. ⌜ (length (now (met .exit)) ≡ 6) × MemberAdded (now (matches .entry)) side member (now (met .entry)) (now (met .exit)) ⌝ }
+{
+    for a in 0..6 {
+        met[a] = sets::union(met[a], matches[64 * (7 * side + a) + member]);
+    }
+}
+
+// Into a slice, since only a slice tells its length to a proof. Member by member and not attribute by attribute: most groups have few
+// members, and the inner loop always takes six turns.
+fn add_members(matches: &[u64; 896], side: usize, members: u64, met: &mut [u64])
+    requires { ⌜ (side < 2) × (length (now met) ≡ 6) ⌝ }
+    ensures { λ _. ⌜ ((m : ℕ) → Met (now (matches .entry)) side m (now (met .entry)) → Met (now (matches .entry)) side (both m members) (now (met .exit))) ⌝ }
+{
+    let mut left = members;
+    while 0 < left {
+        add_member(matches, side, sets::least(left), met);
+        left = without_least(left);
+    }
+}
+
+// Makes the table of some members that of these members too.
+pub fn widen(matches: &[u64; 896], side: usize, members: u64, met: &mut [u64; 6])
+    requires { ⌜ side < 2 ⌝ }
+    ensures { λ _. ⌜ ((m : ℕ) → Met (now (matches .entry)) side m (now (met .entry)) → Met (now (matches .entry)) side (both m members) (now (met .exit))) ⌝ }
+{
+    add_members(matches, side, members, met);
+}
+
+// Who passes all conjuncts but the 255 of the covering rule of some members, on a side, by the table of who meets each.
 pub fn passing<'a>(
-    matches: &'a [u64; 896],
+    met: &'a [u64; 6],
     known: &'a [u64; 14],
     attributes: usize,
     side: usize,
-    own: bool,
     members: u64,
     count: usize,
 ) -> u64
     requires { ⌜ (attributes ≤ 6) × (side < 2) × (count ≤ 64) ⌝ }
-    ensures { λ r. ⌜ r ≡ passingOf (now (matches .entry)) (now (known .entry)) attributes side own members count ⌝ }
+    ensures { λ r. ⌜ ((matches : List ℕ) → Met matches side members (now (met .entry)) → r ≡ passingOf matches (now (known .entry)) attributes side false members count) ⌝ }
 {
     let mut m = sets::below(count);
     for a in 0..attributes {
         // An attribute that one of them does not know gives no conjunct.
         if sets::within(members, known[7 * side + a]) {
-            m = sets::meet(m, met_by(matches, 7 * side + a, members));
+            m = sets::meet(m, met[a]);
         }
-    }
-    if own {
-        m = sets::meet(m, met_by(matches, 7 * side + 6, members));
     }
     m
 }

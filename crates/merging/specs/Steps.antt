@@ -11,6 +11,7 @@ use mathlib.Core.Path.{_≡_}
 use Rattle.groupwords.specs.PartWords.{atomsOf, isPartIn}
 use Rattle.loaded.specs.Record.{recordOf}
 use Rattle.matches.specs.MatchLaws.{knownIn, matchesIn}
+use Rattle.matches.specs.Matches.{Met}
 use Rattle.operands.specs.Operands.{classRow}
 use Rattle.pairing.specs.FitLaws.{linksOf}
 use Rattle.pairing.specs.Levels.{pairLevel, groupLevel}
@@ -62,6 +63,11 @@ module _ (links matches known attributes : List ℕ) (users resources operations
   -- both are heads of groups that may be joined
   unfoldable pub partnerAt : List ℕ → ℕ → ℕ → Bool
   partnerAt t c k = isHeadAt t c && (isHeadAt t k && ltb (partnerLevel t c k) 4)
+
+-- the tables have who meets the values of the members of slot c's group
+pub record GroupMet (matches t : List ℕ) (c : ℕ) (met-users met-resources : List ℕ) : Type 0 where
+  pub of-users : Met matches 0 (usersAt t c) met-users
+  pub of-resources : Met matches 1 (resourcesAt t c) met-resources
 
 -- none from a on below b passes; r is the first that does, or 512
 abbrev pub NoneIn : (ℕ → Bool) → ℕ → ℕ → Type 0

@@ -7,11 +7,12 @@ ghost use mathlib.Core.Path.{_≡_};
 ghost use Prim.Native.Nat.{ℕ, _+_, _*_, _/_, _%_, _^_, _≤_, _<_, max, min};
 ghost use Rattle.admit.specs.AdmitLaws.{Sized};
 ghost use Rattle.merging.specs.Progress.{Settled};
-ghost use Rattle.merging.specs.Steps.{Paired, Tables, joinedLevel, partnerLevel, FirstIn, Finds, nearAt, nearHead, Marked, unmarked, stored, headTaken, TakenIn, Joined, Resolved, headCount, slotIn, slotWords, FilledWith, FilledTo};
+ghost use Rattle.merging.specs.Steps.{Paired, Tables, joinedLevel, partnerLevel, FirstIn, Finds, nearAt, nearHead, marked, GroupMet, Marked, unmarked, stored, headTaken, TakenIn, Joined, Resolved, headCount, slotIn, slotWords, FilledWith, FilledTo};
+ghost use Rattle.matches.specs.Matches.{both, Met};
 ghost use Rattle.pairing.specs.Pairing.{wordsIn};
 ghost use Rattle.policy.specs.Policy.{Policy};
 ghost use Rattle.sets.specs.Sets.{bit, maskOf};
-ghost use Rattle.slotgroups.specs.Scratch.{restAt, levelIn, headIn, restOf, wordsAt, isPartAt, isHeadAt, Merged};
+ghost use Rattle.slotgroups.specs.Scratch.{usersAt, resourcesAt, restAt, levelIn, headIn, restOf, wordsAt, isPartAt, isHeadAt, Merged};
 ghost use Rattle.slotgroups.specs.Slots.{slotMerges};
 use pairing::Group;
 
@@ -71,10 +72,8 @@ pub fn is_head(scratch: &[u64], i: usize) -> bool
     requires { ⌜ (i < 512) × (length (now scratch) ≡ 2048) ⌝ }
     ensures { λ b. ⌜ b ≡ isHeadAt (now (scratch .entry)) i ⌝ }
 {
-    if scratch[4 * i] == 0 {
-        return false;
-    }
-    head_at(scratch, i) == i
+    // Both tests always: which slots are heads is not to be foreseen.
+    (scratch[4 * i] != 0) & (head_at(scratch, i) == i)
 }
 
 fn lower(a: usize, b: usize) -> usize
@@ -89,11 +88,14 @@ fn higher(a: usize, b: usize) -> usize
     if a < b { b } else { a }
 }
 
-// The level of two slots' groups together, if they may be joined; else 4.
+// The level of two slots' groups together, if they may be joined; else 4. The tables of who meets the values of both groups' members are
+// handed in.
 fn level_if_joined<'a>(
     scratch: &[u64],
     links: &'a [u64; 2304],
     matches: &'a [u64; 896],
+    met_users: &'a [u64; 6],
+    met_resources: &'a [u64; 6],
     known: &'a [u64; 14],
     attributes: &'a [usize; 2],
     users: usize,
@@ -102,7 +104,7 @@ fn level_if_joined<'a>(
     i: usize,
     j: usize,
 ) -> usize
-    requires { ⌜ (users ≤ 64) × (resources ≤ 64) × (operations ≤ 64) × (getD (now attributes) 0 0 ≤ 6) × (getD (now attributes) 1 0 ≤ 6) × (i < 512) × (j < 512) × (length (now scratch) ≡ 2048) ⌝ }
+    requires { ⌜ (users ≤ 64) × (resources ≤ 64) × (operations ≤ 64) × (getD (now attributes) 0 0 ≤ 6) × (getD (now attributes) 1 0 ≤ 6) × (i < 512) × (j < 512) × (length (now scratch) ≡ 2048) × Met (now matches) 0 (both (usersAt (now scratch) i) (usersAt (now scratch) j)) (now «met_users») × Met (now matches) 1 (both (resourcesAt (now scratch) i) (resourcesAt (now scratch) j)) (now «met_resources») ⌝ }
     ensures { λ l. ⌜ l ≡ joinedLevel (now (links .entry)) (now (matches .entry)) (now (known .entry)) (now (attributes .entry)) users resources operations (now (scratch .entry)) i j ⌝ }
 {
     let limit = higher(level_at(scratch, i), level_at(scratch, j));
@@ -111,6 +113,8 @@ fn level_if_joined<'a>(
     pairing::level_of_pair(
         links,
         matches,
+        met_users,
+        met_resources,
         known,
         attributes,
         users,
@@ -122,11 +126,28 @@ fn level_if_joined<'a>(
     )
 }
 
+// Makes the tables of who meets the values of some users and resources those of these too.
+fn add_group(
+    matches: &[u64; 896],
+    users: u64,
+    resources: u64,
+    people: &mut [u64; 6],
+    things: &mut [u64; 6],
+)
+    ensures { λ _. ⌜ ((m n : ℕ) → Met (now (matches .entry)) 0 m (now (people .entry)) → Met (now (matches .entry)) 1 n (now (things .entry)) → Met (now (matches .entry)) 0 (both m users) (now (people .exit)) × Met (now (matches .entry)) 1 (both n resources) (now (things .exit))) ⌝ }
+{
+    matches::widen(matches, 0, users, people);
+    matches::widen(matches, 1, resources, things);
+}
+
 // The level of slot c's group together with that of slot k, the earlier slot first, if they may be joined; else 4.
+// The tables of c's group are handed in: it is put to many others, and most of these have few members.
 fn level_beside<'a>(
     scratch: &[u64],
     links: &'a [u64; 2304],
     matches: &'a [u64; 896],
+    met_users: &'a [u64; 6],
+    met_resources: &'a [u64; 6],
     known: &'a [u64; 14],
     attributes: &'a [usize; 2],
     users: usize,
@@ -135,18 +156,29 @@ fn level_beside<'a>(
     c: usize,
     k: usize,
 ) -> usize
-    requires { ⌜ (users ≤ 64) × (resources ≤ 64) × (operations ≤ 64) × (getD (now attributes) 0 0 ≤ 6) × (getD (now attributes) 1 0 ≤ 6) × (c < 512) × (k < 512) × (length (now scratch) ≡ 2048) ⌝ }
+    requires { ⌜ (users ≤ 64) × (resources ≤ 64) × (operations ≤ 64) × (getD (now attributes) 0 0 ≤ 6) × (getD (now attributes) 1 0 ≤ 6) × (c < 512) × (k < 512) × (length (now scratch) ≡ 2048) × GroupMet (now matches) (now scratch) c (now «met_users») (now «met_resources») ⌝ }
     ensures { λ l. ⌜ l ≡ partnerLevel (now (links .entry)) (now (matches .entry)) (now (known .entry)) (now (attributes .entry)) users resources operations (now (scratch .entry)) c k ⌝ }
 {
     if k == c {
         return 4;
     }
+    let mut people = *met_users;
+    let mut things = *met_resources;
+    add_group(
+        matches,
+        scratch[4 * k],
+        scratch[4 * k + 1],
+        &mut people,
+        &mut things,
+    );
     let i = lower(c, k);
     let j = higher(c, k);
     level_if_joined(
         scratch,
         links,
         matches,
+        &people,
+        &things,
         known,
         attributes,
         users,
@@ -194,6 +226,8 @@ fn first_partner<'a>(
     heads: &[u64; 8],
     links: &'a [u64; 2304],
     matches: &'a [u64; 896],
+    met_users: &'a [u64; 6],
+    met_resources: &'a [u64; 6],
     known: &'a [u64; 14],
     attributes: &'a [usize; 2],
     users: usize,
@@ -202,7 +236,7 @@ fn first_partner<'a>(
     c: usize,
     from: usize,
 ) -> Found
-    requires { ⌜ (users ≤ 64) × (resources ≤ 64) × (operations ≤ 64) × (getD (now attributes) 0 0 ≤ 6) × (getD (now attributes) 1 0 ≤ 6) × (c < 512) × (from ≤ 512) × (length (now scratch) ≡ 2048) × Marked (now heads) (now scratch) ⌝ }
+    requires { ⌜ (users ≤ 64) × (resources ≤ 64) × (operations ≤ 64) × (getD (now attributes) 0 0 ≤ 6) × (getD (now attributes) 1 0 ≤ 6) × (c < 512) × (from ≤ 512) × (length (now scratch) ≡ 2048) × Marked (now heads) (now scratch) × GroupMet (now matches) (now scratch) c (now «met_users») (now «met_resources») ⌝ }
     ensures { λ r. ⌜ Finds (now (links .entry)) (now (matches .entry)) (now (known .entry)) (now (attributes .entry)) users resources operations (now (scratch .entry)) c from (r .slot) (r .level) ⌝ }
 {
     // Most slots are no heads.
@@ -214,6 +248,8 @@ fn first_partner<'a>(
                 scratch,
                 links,
                 matches,
+                met_users,
+                met_resources,
                 known,
                 attributes,
                 users,
@@ -332,6 +368,14 @@ fn mark(scratch: &[u64], heads: &mut [u64])
     }
 }
 
+// Whether slot k is marked.
+fn is_marked(heads: &[u64; 8], k: usize) -> bool
+    requires { ⌜ k < 512 ⌝ }
+    ensures { λ b. ⌜ b ≡ marked (now (heads .entry)) k ⌝ }
+{
+    sets::has(heads[k / 64], k % 64)
+}
+
 // Slot j is no head any more.
 fn unmark(heads: &mut [u64; 8], j: usize)
     requires { ⌜ j < 512 ⌝ }
@@ -403,9 +447,14 @@ fn slot_of<'a>(
 {
     if is_slot(holders, permissions, operations, roles, k) {
         let g = group_of(links, attributes, holders, permissions, operations, k);
+        let mut people = [0u64; 6];
+        let mut things = [0u64; 6];
+        add_group(matches, g.users, g.resources, &mut people, &mut things);
         let level = pairing::level_of_group(
             links,
             matches,
+            &people,
+            &things,
             known,
             attributes,
             users,
@@ -466,7 +515,7 @@ fn fill<'a>(
 
 // Joins pairs until the slot `start`, or an earlier one that has taken it in, is in none: how many joins were made. No pair of earlier
 // slots is left before, so that at first only the slots behind `start` are tried; after a join both sides are, since the group is a new one.
-fn settle<'a>(
+fn settle_head<'a>(
     scratch: &mut [u64],
     heads: &mut [u64; 8],
     links: &'a [u64; 2304],
@@ -483,11 +532,22 @@ fn settle<'a>(
 {
     let mut merges: usize = 0;
     let mut c = start;
+    let mut people = [0u64; 6];
+    let mut things = [0u64; 6];
+    add_group(
+        matches,
+        scratch[4 * c],
+        scratch[4 * c + 1],
+        &mut people,
+        &mut things,
+    );
     let mut other = first_partner(
         scratch,
         heads,
         links,
         matches,
+        &people,
+        &things,
         known,
         attributes,
         users,
@@ -497,6 +557,13 @@ fn settle<'a>(
         c + 1,
     );
     while other.slot < 512 {
+        add_group(
+            matches,
+            scratch[4 * other.slot],
+            scratch[4 * other.slot + 1],
+            &mut people,
+            &mut things,
+        );
         let i = lower(c, other.slot);
         let j = higher(c, other.slot);
         join(scratch, i, j, other.level);
@@ -508,6 +575,8 @@ fn settle<'a>(
             heads,
             links,
             matches,
+            &people,
+            &things,
             known,
             attributes,
             users,
@@ -518,6 +587,39 @@ fn settle<'a>(
         );
     }
     merges
+}
+
+// The same, where most slots are no heads any more.
+fn settle<'a>(
+    scratch: &mut [u64],
+    heads: &mut [u64; 8],
+    links: &'a [u64; 2304],
+    matches: &'a [u64; 896],
+    known: &'a [u64; 14],
+    attributes: &'a [usize; 2],
+    users: usize,
+    resources: usize,
+    operations: usize,
+    start: usize,
+) -> usize
+    requires { ⌜ (users ≤ 64) × (resources ≤ 64) × (operations ≤ 64) × (getD (now attributes) 0 0 ≤ 6) × (getD (now attributes) 1 0 ≤ 6) × (start < 512) × (length (now scratch) ≡ 2048) × Marked (now heads) (now scratch) ⌝ }
+    ensures { λ n. ⌜ (length (now (scratch .exit)) ≡ 2048) × (n + headCount (now (scratch .exit)) ≤ headCount (now (scratch .entry))) × Marked (now (heads .exit)) (now (scratch .exit)) × ((F : Policy) → Sized F → Paired F (now (links .entry)) (now (matches .entry)) (now (known .entry)) (now (attributes .entry)) users resources operations → (made : ℕ) → Settled F (now (scratch .entry)) made start → Settled F (now (scratch .exit)) (made + n) (start + 1)) ⌝ }
+{
+    if is_marked(heads, start) {
+        return settle_head(
+            scratch,
+            heads,
+            links,
+            matches,
+            known,
+            attributes,
+            users,
+            resources,
+            operations,
+            start,
+        );
+    }
+    0
 }
 
 // Merges the parts of a policy, by the tables of its record, until no pair is left: how many merges were made.

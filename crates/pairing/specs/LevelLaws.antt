@@ -13,7 +13,7 @@ use Rattle.admit.specs.AdmitLaws.{Sized}
 use Rattle.grants.specs.Grid.{differenceOf, isSame}
 use Rattle.loaded.specs.Record.{attributeTable, recordWith, recordOf}
 use Rattle.matches.specs.MatchLaws.{knownIn, matchesIn, passing-means}
-use Rattle.matches.specs.Matches.{metOf, passingOf}
+use Rattle.matches.specs.Matches.{metOf, both, Met, passingOf}
 use Rattle.policy.specs.Covering.{standsIn, fits, levelOf}
 use Rattle.policy.specs.Merging.{union, mergeable}
 use Rattle.policy.specs.Policy.{Policy, sideOf, settingOf}
@@ -73,6 +73,14 @@ module _ (f : ℕ → Bool) where
   group-none l e k = test (any f (upTo 3))
       (λ q. let d = e ∙ ap (λ (b : Bool). cond b (lowest f) 4) q in let m = lowest-most f in omega arith)
       none-lowest
+
+-- ---- who meets the values of both groups' members
+
+module _ (matches : List ℕ) (side : ℕ) where
+  -- by the word that has them
+  pub met-together : (m n k : ℕ) (met : List ℕ) → k ≡ maskOf 64 (λ i. bit m i || bit n i) → Met matches side (both m n) met → Met matches side k met
+  unfolding both
+  met-together m n k met e h = rw e h
 
 -- ---- one level
 

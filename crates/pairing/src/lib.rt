@@ -6,6 +6,7 @@ ghost use Prim.Native.Nat.{_^_, _≤_, _<_};
 ghost use lib.ListN.{getD};
 ghost use Rattle.conjuncts.specs.Summary.{linkedWith};
 ghost use Rattle.grants.specs.Grid.{differenceOf};
+ghost use Rattle.matches.specs.Matches.{both, Met};
 ghost use Rattle.pairing.specs.Levels.{levelWithin, withOwn, tablesFit, pairLevel, groupLevel};
 ghost use Rattle.pairing.specs.Pairing.{wordsIn, rowsAgree, firstBeyond, grantsJust, grantsExactly, cornerFree, rimFree, reaches, cornersFree, mayJoin};
 ghost use Rattle.rulegrants.specs.RuleGrid.{rowOf};
@@ -313,10 +314,13 @@ fn with_own(matches: &[u64; 896], side: usize, own: bool, members: u64, passing:
     passing
 }
 
-// The lowest level up to a limit that two groups together fit; 4 if there is none. Whether they would be granted exactly is handed in.
+// The lowest level up to a limit that two groups together fit; 4 if there is none. Whether they would be granted exactly is handed in, and so
+// are the tables of who meets the values of both groups' users and of both groups' resources.
 fn level_within<'a>(
     links: &'a [u64; 2304],
     matches: &'a [u64; 896],
+    met_users: &'a [u64; 6],
+    met_resources: &'a [u64; 6],
     known: &'a [u64; 14],
     attributes: &'a [usize; 2],
     users: usize,
@@ -327,14 +331,14 @@ fn level_within<'a>(
     exactly: bool,
     limit: usize,
 ) -> usize
-    requires { ⌜ (users ≤ 64) × (resources ≤ 64) × (operations ≤ 64) × (getD (now attributes) 0 0 ≤ 6) × (getD (now attributes) 1 0 ≤ 6) × (limit ≤ 3) × (exactly ≡ grantsExactly (now links) (wordsIn g) (wordsIn h) users resources operations) ⌝ }
+    requires { ⌜ (users ≤ 64) × (resources ≤ 64) × (operations ≤ 64) × (getD (now attributes) 0 0 ≤ 6) × (getD (now attributes) 1 0 ≤ 6) × (limit ≤ 3) × Met (now matches) 0 (both (g .users) (h .users)) (now «met_users») × Met (now matches) 1 (both (g .resources) (h .resources)) (now «met_resources») × (exactly ≡ grantsExactly (now links) (wordsIn g) (wordsIn h) users resources operations) ⌝ }
     ensures { λ l. ⌜ l ≡ levelWithin (tablesFit (now (links .entry)) (now (matches .entry)) (now (known .entry)) (now (attributes .entry)) users resources operations (wordsIn g) (wordsIn h)) limit ⌝ }
 {
     let people = sets::union(g.users, h.users);
     let things = sets::union(g.resources, h.resources);
     // The levels differ in the 255s only.
-    let who = matches::passing(matches, known, attributes[0], 0, false, people, users);
-    let what = matches::passing(matches, known, attributes[1], 1, false, things, resources);
+    let who = matches::passing(met_users, known, attributes[0], 0, people, users);
+    let what = matches::passing(met_resources, known, attributes[1], 1, things, resources);
     for l in 0..limit + 1 {
         let w = with_own(matches, 0, (l == 1) | (l == 3), people, who);
         let v = with_own(matches, 1, (l == 2) | (l == 3), things, what);
@@ -349,6 +353,8 @@ fn level_within<'a>(
 pub fn level_of_pair<'a>(
     links: &'a [u64; 2304],
     matches: &'a [u64; 896],
+    met_users: &'a [u64; 6],
+    met_resources: &'a [u64; 6],
     known: &'a [u64; 14],
     attributes: &'a [usize; 2],
     users: usize,
@@ -358,7 +364,7 @@ pub fn level_of_pair<'a>(
     h: Group,
     limit: usize,
 ) -> usize
-    requires { ⌜ (users ≤ 64) × (resources ≤ 64) × (operations ≤ 64) × (getD (now attributes) 0 0 ≤ 6) × (getD (now attributes) 1 0 ≤ 6) × (limit ≤ 3) ⌝ }
+    requires { ⌜ (users ≤ 64) × (resources ≤ 64) × (operations ≤ 64) × (getD (now attributes) 0 0 ≤ 6) × (getD (now attributes) 1 0 ≤ 6) × (limit ≤ 3) × Met (now matches) 0 (both (g .users) (h .users)) (now «met_users») × Met (now matches) 1 (both (g .resources) (h .resources)) (now «met_resources») ⌝ }
     ensures { λ l. ⌜ l ≡ pairLevel (now (links .entry)) (now (matches .entry)) (now (known .entry)) (now (attributes .entry)) users resources operations (wordsIn g) (wordsIn h) limit ⌝ }
 {
     // Nearly all pairs are refused by a few words.
@@ -366,6 +372,8 @@ pub fn level_of_pair<'a>(
         return level_within(
             links,
             matches,
+            met_users,
+            met_resources,
             known,
             attributes,
             users,
@@ -384,6 +392,8 @@ pub fn level_of_pair<'a>(
 pub fn level_of_group<'a>(
     links: &'a [u64; 2304],
     matches: &'a [u64; 896],
+    met_users: &'a [u64; 6],
+    met_resources: &'a [u64; 6],
     known: &'a [u64; 14],
     attributes: &'a [usize; 2],
     users: usize,
@@ -391,13 +401,15 @@ pub fn level_of_group<'a>(
     operations: usize,
     g: Group,
 ) -> usize
-    requires { ⌜ (users ≤ 64) × (resources ≤ 64) × (operations ≤ 64) × (getD (now attributes) 0 0 ≤ 6) × (getD (now attributes) 1 0 ≤ 6) ⌝ }
+    requires { ⌜ (users ≤ 64) × (resources ≤ 64) × (operations ≤ 64) × (getD (now attributes) 0 0 ≤ 6) × (getD (now attributes) 1 0 ≤ 6) × Met (now matches) 0 (g .users) (now «met_users») × Met (now matches) 1 (g .resources) (now «met_resources») ⌝ }
     ensures { λ l. ⌜ l ≡ groupLevel (now (links .entry)) (now (matches .entry)) (now (known .entry)) (now (attributes .entry)) users resources operations (wordsIn g) ⌝ }
 {
     // A group together with itself is granted exactly. What fits no lower level has level 3.
     let level = level_within(
         links,
         matches,
+        met_users,
+        met_resources,
         known,
         attributes,
         users,

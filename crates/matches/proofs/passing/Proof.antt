@@ -5,10 +5,9 @@ use lib.ListN.{getD}
 use mathlib.Core.Bool.{Bool, _&&_}
 use mathlib.Core.List.{List}
 use mathlib.Core.Logic.{⊎-elim}
-use mathlib.Core.Path.{_≡_, refl, sym, ap, _∙_}
+use mathlib.Core.Path.{_≡_, sym, ap, _∙_}
 use native.Mathlib.Omega.{arith}
-use Rattle.matches.specs.Matches.{metOf}
-use Rattle.matches.specs.TableLaws.{passingTo, passing-without, passing-with}
+use Rattle.matches.specs.TableLaws.{passingTo, passing-so}
 use Rattle.sets.specs.LoopLaws.{turn-within, narrow-none, narrow-in, narrow-out, narrow-end}
 use Rattle.sets.specs.MaskLaws.{mask-lt}
 use Rattle.sets.specs.Sets.{bit, subset, maskOf}
@@ -22,51 +21,40 @@ everybody count = maskOf 64 (λ x. ltb x count)
 abbrev asked : List ℕ → ℕ → ℕ → ℕ → Bool
 asked known side members a = subset members (getD known (7 * side + a) 0)
 
-abbrev meeting : List ℕ → ℕ → ℕ → ℕ → ℕ
-meeting matches side members a = metOf matches (7 * side + a) members
+abbrev meeting : List ℕ → ℕ → ℕ
+meeting met a = getD met a 0
 
 abbrev Inv-loop : tie.InvT-loop
-Inv-loop matches known attributes side own members count m₀ a₀ m a = (a ≤ attributes) × (m ≡ maskOf 64 (passingTo matches known side members count a))
+Inv-loop met known attributes side members count m₀ a₀ m a = (a ≤ attributes) × (m ≡ maskOf 64 (passingTo met known side members count a))
 
 abbrev μ-loop : tie.MeasureT-loop
-μ-loop matches known attributes side own members count m₀ a₀ m a = attributes - a
+μ-loop met known attributes side members count m₀ a₀ m a = attributes - a
 
 loop-holds : tie.Need-loop-holds Inv-loop μ-loop
 loop-holds c =
     let g = c .before .args in
-    (search needs, c .below .ensures ∙ narrow-none (everybody (g .count)) (asked (g .known .now) (g .side) (g .members)) (meeting (g .matches .now) (g .side) (g .members)) (mask-lt 64 (λ x. ltb x (g .count))))
+    (search needs, c .below .ensures ∙ narrow-none (everybody (g .count)) (asked (g .known .now) (g .side) (g .members)) (meeting (g .met .now)) (mask-lt 64 (λ x. ltb x (g .count))))
 
 loop-again : tie.Need-loop-again Inv-loop μ-loop
 loop-again c =
     let g = c .before .before .before .before .before .before .args in
     let turn = c .before .before .before .before .loop in
     let asks = asked (g .known .now) (g .side) (g .members) in
-    let meet = meeting (g .matches .now) (g .side) (g .members) in (
+    let meet = meeting (g .met .now) in (
       turn-within (turn .a) (g .attributes) (c .before .before .before .loop-test .taken),
       ⊎-elim
-          (λ w. narrow-in (everybody (g .count)) asks meet (turn .a) (turn .m) _ (turn .inv .1) (sym (c .before .within .ensures) ∙ w .0 .taken)
-          (w .3 ∙ w .2 .ensures ∙ ap (λ (x : ℕ). maskOf 64 (λ k. bit (turn .m) k && bit x k)) (w .1 .ensures)))
+          (λ w. narrow-in (everybody (g .count)) asks meet (turn .a) (turn .m) _ (turn .inv .1) (sym (c .before .within .ensures) ∙ w .0 .taken) (w .3 ∙ w .2 .ensures))
           (λ w. narrow-out (everybody (g .count)) asks meet (turn .a) (turn .m) _ (turn .inv .1) (sym (c .before .within .ensures) ∙ w .0 .left) (w .1))
           (c .if1 .came),
     )
 
 returns : tie.Need-returns Inv-loop μ-loop
-returns c =
-    let end = c .before .before .before in
-    let start = end .before .before .before in
+returns c matches h =
+    let end = c .before .loop in
+    let start = c .before .before .before in
     let g = start .args in
-    passing-with (g .matches .now) (g .known .now) (g .attributes) (g .side) (g .members) (g .count) (start .pre .2) (g .own) (end .before .loop .m) _ _ (c .before .before .if2 .taken)
-    (narrow-end (everybody (g .count)) (asked (g .known .now) (g .side) (g .members)) (meeting (g .matches .now) (g .side) (g .members)) (end .before .loop .a) (g .attributes) (end .before .loop .m) (end .before .loop .inv .1) (omega arith))
-    (c .before .met-by2 .ensures) (c .meet2 .ensures)
-
-returns-2 : tie.Need-returns-2 Inv-loop μ-loop
-returns-2 c =
-    let end = c .before in
-    let start = end .before .before .before in
-    let g = start .args in
-    passing-without (g .matches .now) (g .known .now) (g .attributes) (g .side) (g .members) (g .count) (start .pre .2) (g .own) (end .before .loop .m) _ (c .if2 .left)
-    (narrow-end (everybody (g .count)) (asked (g .known .now) (g .side) (g .members)) (meeting (g .matches .now) (g .side) (g .members)) (end .before .loop .a) (g .attributes) (end .before .loop .m) (end .before .loop .inv .1) (omega arith))
-    refl
+    narrow-end (everybody (g .count)) (asked (g .known .now) (g .side) (g .members)) (meeting (g .met .now)) (end .a) (g .attributes) (end .m) (end .inv .1) (omega arith)
+    ∙ passing-so matches (g .met .now) (g .known .now) (g .attributes) (g .side) (g .members) (g .count) (start .pre .0) (start .pre .2) h
 
 pub passing-spec : {M : Type 1} → statement M
 passing-spec =
@@ -84,13 +72,7 @@ passing-spec =
     (λ c. search needs)
     (λ c. search needs)
     (λ c κs. search needs)
-    (λ c κs. search needs)
     (λ c. search needs)
     (λ c. search needs)
     loop-again
-    (λ c. search needs)
-    (λ c. search needs)
-    (λ c κs. search needs)
-    (λ c κs. search needs)
-    returns
-    returns-2)
+    returns)

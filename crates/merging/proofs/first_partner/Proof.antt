@@ -7,10 +7,10 @@ use Rattle.merging.proofs.first_partner.Statement.{statement}
 use Rattle.merging.proofs.first_partner.Tie as tie
 
 abbrev Inv-loop : tie.InvT-loop
-Inv-loop scratch heads links matches known attributes users resources operations c from g k₀ k = Looking links matches known attributes users resources operations heads scratch c from k
+Inv-loop scratch heads links matches «met_users» «met_resources» known attributes users resources operations c from g k₀ k = Looking links matches known attributes users resources operations heads scratch c from k
 
 abbrev μ-loop : tie.MeasureT-loop
-μ-loop scratch heads links matches known attributes users resources operations c from g k₀ k = 512 - k
+μ-loop scratch heads links matches «met_users» «met_resources» known attributes users resources operations c from g k₀ k = 512 - k
 
 loop-holds : tie.Need-loop-holds Inv-loop μ-loop
 loop-holds c =

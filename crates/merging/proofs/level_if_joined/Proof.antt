@@ -1,8 +1,31 @@
 -- Assumes nothing.
-use Rattle.merging.specs.SearchLaws.{level-told}
+use Prim.Native.Nat.{ℕ}
 use borrow.Author.Needs.{needs}
+use mathlib.Core.Path.{sym, ap₂, subst}
+use native.Mathlib.Omega.{arith}
+use Rattle.matches.specs.Matches.{both, Met}
+use Rattle.merging.specs.SearchLaws.{level-told}
+use Rattle.words.specs.Words.{Words}
 use Rattle.merging.proofs.level_if_joined.Statement.{statement}
 use Rattle.merging.proofs.level_if_joined.Tie as tie
+
+level-of-pair-requires : tie.Need-level-of-pair-requires
+level-of-pair-requires c κs =
+    let first = c .before in
+    let start = first .before .before .before .before .before in
+    let a = start .args in
+    let g = first .group-at .ensures in
+    let h = c .group-at2 .ensures in
+    let p = start .pre in (
+      p .0,
+      p .1,
+      p .2,
+      p .3,
+      p .4,
+      omega arith,
+      subst (λ (m : ℕ). Met (a .matches .now) 0 m (a .met-users .now)) (sym (ap₂ (λ (W X : Words). both (W .users) (X .users)) g h)) (p .8),
+      subst (λ (m : ℕ). Met (a .matches .now) 1 m (a .met-resources .now)) (sym (ap₂ (λ (W X : Words). both (W .resources) (X .resources)) g h)) (p .9),
+    )
 
 returns : tie.Need-returns
 returns c =
@@ -21,5 +44,5 @@ level-if-joined-spec =
     (λ c κs. search needs)
     (λ c κs. search needs)
     (λ c κs. search needs)
-    (λ c κs. search needs)
+    level-of-pair-requires
     returns)

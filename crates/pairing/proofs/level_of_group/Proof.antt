@@ -1,6 +1,7 @@
 -- Assumes nothing.
 use mathlib.Core.Path.{sym}
 use native.Mathlib.Omega.{arith}
+use Rattle.matches.specs.MetLaws.{met-alone}
 use Rattle.pairing.specs.ExactLaws.{self-exactly}
 use Rattle.pairing.specs.LevelLaws.{group-found, group-none}
 use Rattle.pairing.specs.Levels.{tablesFit, groupLevel}
@@ -12,7 +13,7 @@ level-within-requires : tie.Need-level-within-requires
 level-within-requires c κs =
     let a = c .args in
     let p = c .pre in
-    (p .0, p .1, p .2, p .3, p .4, omega arith, sym (self-exactly (a .links .now) (wordsIn (a .g)) (a .users) (a .resources) (a .operations) (p .0) (p .1) (p .2)))
+    (p .0, p .1, p .2, p .3, p .4, omega arith, met-alone (a .matches .now) 0 (a .g .users) (a .met-users .now) (p .5), met-alone (a .matches .now) 1 (a .g .resources) (a .met-resources .now) (p .6), sym (self-exactly (a .links .now) (wordsIn (a .g)) (a .users) (a .resources) (a .operations) (p .0) (p .1) (p .2)))
 
 returns : tie.Need-returns
 unfolding groupLevel

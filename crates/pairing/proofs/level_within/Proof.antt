@@ -6,18 +6,18 @@ use mathlib.Core.Path.{_≡_, sym, _∙_}
 use native.Mathlib.Omega.{arith}
 use Rattle.sets.specs.LoopLaws.{any-none, any-on}
 use Rattle.sets.specs.Tests.{any, upTo}
-use Rattle.pairing.specs.LevelLaws.{level-found, level-none, pass-within, level-fits}
+use Rattle.pairing.specs.LevelLaws.{level-found, level-none, met-together, pass-within, level-fits}
 use Rattle.pairing.specs.Levels.{tablesFit}
 use Rattle.pairing.specs.Pairing.{wordsIn}
 use Rattle.pairing.proofs.level_within.Statement.{statement}
 use Rattle.pairing.proofs.level_within.Tie as tie
 
 abbrev Inv-loop : tie.InvT-loop
-Inv-loop links matches known attributes users resources operations g h exactly limit people things who what l₀ l-end l =
+Inv-loop links matches «met_users» «met_resources» known attributes users resources operations g h exactly limit people things who what l₀ l-end l =
     (l ≤ limit + 1) × (any (tablesFit links matches known attributes users resources operations (wordsIn g) (wordsIn h)) (upTo l) ≡ false)
 
 abbrev μ-loop : tie.MeasureT-loop
-μ-loop links matches known attributes users resources operations g h exactly limit people things who what l₀ l-end l = (limit + 1) - l
+μ-loop links matches «met_users» «met_resources» known attributes users resources operations g h exactly limit people things who what l₀ l-end l = (limit + 1) - l
 
 loop-holds : tie.Need-loop-holds Inv-loop μ-loop
 loop-holds c =
@@ -36,12 +36,12 @@ fits-with-requires c κs =
       much = start .pre .1;
       people = first .before .before .before .union .ensures;
       things = first .before .before .union2 .ensures;
-      people-pass = first .passing .ensures;
-      things-pass = second .passing2 .ensures;
+      people-pass = first .passing .ensures (a .matches .now) (met-together (a .matches .now) 0 (a .g .users) (a .h .users) (first .before .before .before .union .result) (a .met-users .now) (first .before .before .before .union .ensures) (start .pre .6));
+      things-pass = second .passing2 .ensures (a .matches .now) (met-together (a .matches .now) 1 (a .g .resources) (a .h .resources) (first .before .before .union2 .result) (a .met-resources .now) (first .before .before .union2 .ensures) (start .pre .7));
       people-here = c .before .with-own .ensures;
       things-here = c .with-own2 .ensures;
     }) in
-    (start .pre .0, start .pre .1, start .pre .2, p .0, p .1, start .pre .6)
+    (start .pre .0, start .pre .1, start .pre .2, p .0, p .1, start .pre .8)
 
 returns : tie.Need-returns Inv-loop μ-loop
 returns c =
@@ -58,8 +58,8 @@ returns c =
       much = start .pre .1;
       people = first .before .before .before .union .ensures;
       things = first .before .before .union2 .ensures;
-      people-pass = first .passing .ensures;
-      things-pass = second .passing2 .ensures;
+      people-pass = first .passing .ensures (a .matches .now) (met-together (a .matches .now) 0 (a .g .users) (a .h .users) (first .before .before .before .union .result) (a .met-users .now) (first .before .before .before .union .ensures) (start .pre .6));
+      things-pass = second .passing2 .ensures (a .matches .now) (met-together (a .matches .now) 1 (a .g .resources) (a .h .resources) (first .before .before .union2 .result) (a .met-resources .now) (first .before .before .union2 .ensures) (start .pre .7));
       people-here = here .before .with-own .ensures;
       things-here = here .with-own2 .ensures;
     }) (c .before .fits-with .ensures)) ∙ c .if1 .taken)
@@ -79,8 +79,8 @@ loop-again c =
             much = start .pre .1;
             people = first .before .before .before .union .ensures;
             things = first .before .before .union2 .ensures;
-            people-pass = first .passing .ensures;
-            things-pass = second .passing2 .ensures;
+            people-pass = first .passing .ensures (a .matches .now) (met-together (a .matches .now) 0 (a .g .users) (a .h .users) (first .before .before .before .union .result) (a .met-users .now) (first .before .before .before .union .ensures) (start .pre .6));
+            things-pass = second .passing2 .ensures (a .matches .now) (met-together (a .matches .now) 1 (a .g .resources) (a .h .resources) (first .before .before .union2 .result) (a .met-resources .now) (first .before .before .union2 .ensures) (start .pre .7));
             people-here = here .before .with-own .ensures;
             things-here = here .with-own2 .ensures;
           }) (c .before .fits-with .ensures)) ∙ c .if1 .left),
