@@ -1,2 +1,3 @@
 pub mod PartWords
+pub mod AtomLaws
 pub mod PartWordLaws

@@ -1,7 +1,7 @@
 -- What the record's tables give for a part is its words, and an operation leads a part where the tables say so.
 -- Assumes nothing.
 use Prim.Native.Nat.{ℕ, _+_, _*_, _/_, _%_, _≤_, _<_}
-use borrow.Author.Tests.{eqb-true, eq-eqb, ltb-true, ltb-false, lt-ltb}
+use borrow.Author.Tests.{ltb-true, lt-ltb}
 use lib.Dec.{eqb, ltb}
 use lib.ListN.{getD}
 use mathlib.Core.Bool.{Bool, true, false, cond, _&&_, not}
@@ -12,6 +12,7 @@ use Rattle.admit.specs.AdmitLaws.{Sized}
 use Rattle.admit.specs.TableLaws.{eqb-turned, permittedOn, row-shown, holders-shown, holder-within, rows-alike}
 use Rattle.grants.specs.LinkLaws.{link-means}
 use Rattle.grants.specs.Links.{linkTable}
+use Rattle.groupwords.specs.AtomLaws.{lowest-first}
 use Rattle.groupwords.specs.PartWords.{trueOfAll, isAtomOf, atomsOf, isPartIn}
 use Rattle.loaded.specs.Record.{permissionTable, attributeTable, recordWith, recordOf}
 use Rattle.operands.specs.Operands.{classRow}
@@ -20,10 +21,10 @@ use Rattle.policy.specs.PartLaws.{alike-out, alike-in}
 use Rattle.policy.specs.Policy.{Policy, held, sideOf, settingOf, rolesIn}
 use Rattle.policy.specs.Roles.{Part, alike, leads, isPart, parts, blockOf, classOf}
 use Rattle.policy.specs.Rules.{holds, user, resource, atom}
-use Rattle.sets.specs.Lowest.{lowestFrom, lowestFrom-some}
-use Rattle.sets.specs.MaskLaws.{mask-lt, bit-maskOf, mask-same, mask-wide, least-most, empty-law}
+use Rattle.sets.specs.Lowest.{lowestFrom}
+use Rattle.sets.specs.MaskLaws.{mask-lt, bit-maskOf, mask-same, mask-wide, empty-law}
 use Rattle.sets.specs.Sets.{bit, subset, subset-out, subset-in, maskOf, bit-mask}
-use Rattle.sets.specs.Tests.{Is, and-in, and-l, and-r, never, test, fails, same, imp, imp-in, imp-out, _∈_, all, any, all-out, all-in, any-in, any-out, any-ext, upTo, upTo-in, upTo-out, not-in, not-out}
+use Rattle.sets.specs.Tests.{Is, and-in, and-l, and-r, same, imp, imp-in, imp-out, _∈_, all, any, all-out, all-in, any-ext, upTo, upTo-in, upTo-out}
 use Rattle.words.specs.WordLaws.{part-words}
 use Rattle.words.specs.Words.{Words, Roomy, wordsOf, partAtom}
 
@@ -180,24 +181,10 @@ module _ (F : Policy) (Z : Sized F) where
         turned a b h = alike-in (settingOf F) (rolesIn F) k b a (λ r l. sym (alike-out (settingOf F) (rolesIn F) k a b r l h))
 
     class-least : eqb (lowestFrom (bit (classOf (settingOf F) (rolesIn F) (record { role = k; lead = o }))) 0 64) o ≡ not (any (λ q. alike (settingOf F) (rolesIn F) k q o) (upTo o))
-    class-least = by-class (classOf (settingOf F) (rolesIn F) (record { role = k; lead = o })) class-bit
-      where
-        by-class : (m : ℕ) → ((q : ℕ) → q < settingOf F .slots → bit m q ≡ alike (settingOf F) (rolesIn F) k q o) → eqb (lowestFrom (bit m) 0 64) o ≡ not (any (λ q. alike (settingOf F) (rolesIn F) k q o) (upTo o))
-        by-class m e =
-            let n = slots-room in
-            let b = e o ho ∙ alike-in (settingOf F) (rolesIn F) k o o (λ r l. refl) in
-            let most = least-most (bit m) 64 o b in
-            same (eqb (lowestFrom (bit m) 0 64) o) (not (any (λ q. alike (settingOf F) (rolesIn F) k q o) (upTo o)))
-            (λ h. let d = eqb-true (lowestFrom (bit m) 0 64) o h in
-            not-in (any (λ q. alike (settingOf F) (rolesIn F) k q o) (upTo o)) (fails (any (λ q. alike (settingOf F) (rolesIn F) k q o) (upTo o)) λ a.
-            let t = any-out (λ q. alike (settingOf F) (rolesIn F) k q o) (upTo o) a in
-            let l = upTo-out o (t .1) in
-            let c = least-most (bit m) 64 (t .0) (e (t .0) (omega arith) ∙ t .2) in
-            omega arith))
-            (λ h. test (ltb (lowestFrom (bit m) 0 64) o)
-            (λ l. let c = ltb-true (lowestFrom (bit m) 0 64) o l in
-            never (any-in (λ q. alike (settingOf F) (rolesIn F) k q o) (upTo-in c) (sym (e (lowestFrom (bit m) 0 64) (omega arith)) ∙ lowestFrom-some (bit m) 0 64 o (omega arith) (omega arith) b)) (not-out (any (λ q. alike (settingOf F) (rolesIn F) k q o) (upTo o)) h))
-            (λ l. let c = ltb-false (lowestFrom (bit m) 0 64) o l in eq-eqb (lowestFrom (bit m) 0 64) o (omega arith)))
+    class-least =
+        let n = slots-room in
+        lowest-first (classOf (settingOf F) (rolesIn F) (record { role = k; lead = o })) o (λ q. alike (settingOf F) (rolesIn F) k q o) (omega arith)
+        (class-bit o ho ∙ alike-in (settingOf F) (rolesIn F) k o o (λ r l. refl)) (λ q l. class-bit q (omega arith))
 
     -- THE LAW of parts: an operation is the lowest of a part where the tables say so
     pub part-means : isPartIn (recordOf F .holders) (recordOf F .permissions) (recordOf F .operations) k o ≡ isPart (settingOf F) (rolesIn F) k o

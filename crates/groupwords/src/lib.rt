@@ -1,47 +1,45 @@
 // The words of a part: besides its holders and its resources, which stand in the loaded role file, its class and the atoms true of all
 // pairs of them. And which operations are the lowest of a part.
 ghost use mathlib.Core.Path.{_≡_};
-ghost use Prim.Native.Nat.{_≤_, _<_};
-ghost use Rattle.groupwords.specs.PartWords.{trueOfAll, isAtomOf, atomsOf, isPartIn};
+ghost use Prim.Native.Nat.{_^_, _≤_, _<_};
+ghost use Rattle.groupwords.specs.PartWords.{atMostSix, declaredAtoms, trueOfUser, atomsOf, isFirst, isPartIn};
 ghost use Rattle.operands.specs.Operands.{classRow};
 
-// Whether an atom, by its number, is true of all pairs of these users and resources.
-fn true_of_all(links: &[u64; 2304], atom: usize, users: u64, resources: u64) -> bool
-    requires { ⌜ atom < 36 ⌝ }
-    ensures { λ r. ⌜ r ≡ trueOfAll (now (links .entry)) atom users resources ⌝ }
+// A declared number of attributes is at most six; a larger one counts as six.
+fn at_most_six(n: usize) -> usize
+    ensures { λ r. ⌜ r ≡ atMostSix n ⌝ }
 {
-    let mut rest = users;
+    if n < 6 { n } else { 6 }
+}
+
+// The atoms over declared attributes: number 6 * user attribute + resource attribute.
+fn declared(attributes: &[usize; 2]) -> u64
+    ensures { λ r. ⌜ r ≡ declaredAtoms (now (attributes .entry)) ⌝ }
+{
+    let rows = sets::below(6 * at_most_six(attributes[0]));
+    // The factor has the bits 0, 6, 12, 18, 24 and 30, so that the product has the columns in each of six rows.
+    let columns = sets::below(at_most_six(attributes[1])) * 0x4104_1041;
+    sets::meet(rows, columns)
+}
+
+// Those of some atoms that join a user with all of these resources.
+fn true_of_user(links: &[u64; 2304], atoms: u64, user: usize, resources: u64) -> u64
+    requires { ⌜ (atoms < 2 ^ 36) × (user < 64) ⌝ }
+    ensures { λ r. ⌜ r ≡ trueOfUser (now (links .entry)) atoms user resources ⌝ }
+{
+    let mut m: u64 = 0;
+    let mut rest = atoms;
     while 0 < rest {
-        let u = sets::least(rest);
-        if !sets::within(resources, links[64 * atom + u]) {
-            return false;
+        let i = sets::least(rest);
+        if sets::within(resources, links[64 * i + user]) {
+            m = sets::with(m, i);
         }
         rest = matches::without_least(rest);
     }
-    true
+    m
 }
 
-// And whether it is over declared attributes.
-fn is_atom<'a>(
-    links: &'a [u64; 2304],
-    attributes: &'a [usize; 2],
-    users: u64,
-    resources: u64,
-    atom: usize,
-) -> bool
-    requires { ⌜ atom < 36 ⌝ }
-    ensures { λ r. ⌜ r ≡ isAtomOf (now (links .entry)) (now (attributes .entry)) users resources atom ⌝ }
-{
-    if attributes[0] <= atom / 6 {
-        return false;
-    }
-    if attributes[1] <= atom % 6 {
-        return false;
-    }
-    true_of_all(links, atom, users, resources)
-}
-
-// The atoms true of all pairs of these users and resources: number 6 * user attribute + resource attribute.
+// The atoms true of all pairs of these users and resources. Each user leaves few of them for the next to look at.
 pub fn atoms_of<'a>(
     links: &'a [u64; 2304],
     attributes: &'a [usize; 2],
@@ -50,11 +48,11 @@ pub fn atoms_of<'a>(
 ) -> u64
     ensures { λ r. ⌜ r ≡ atomsOf (now (links .entry)) (now (attributes .entry)) users resources ⌝ }
 {
-    let mut m: u64 = 0;
-    for i in 0..36 {
-        if is_atom(links, attributes, users, resources, i) {
-            m = sets::with(m, i);
-        }
+    let mut m = declared(attributes);
+    let mut rest = users;
+    while 0 < rest {
+        m = true_of_user(links, m, sets::least(rest), resources);
+        rest = matches::without_least(rest);
     }
     m
 }
@@ -74,6 +72,20 @@ pub fn class_of(permissions: &[u64; 512], role: usize, operations: usize, o: usi
     m
 }
 
+// Whether no operation of a role before operation o has the same resources.
+fn is_first(permissions: &[u64; 512], role: usize, o: usize) -> bool
+    requires { ⌜ (role < 32) × (o < 16) ⌝ }
+    ensures { λ r. ⌜ r ≡ isFirst (now (permissions .entry)) role o ⌝ }
+{
+    let row = permissions[16 * role + o];
+    for q in 0..o {
+        if permissions[16 * role + q] == row {
+            return false;
+        }
+    }
+    true
+}
+
 // Whether operation o is the lowest of a part of the role.
 pub fn is_part<'a>(
     holders: &'a [u64; 32],
@@ -91,5 +103,8 @@ pub fn is_part<'a>(
     if permissions[16 * role + o] == 0 {
         return false;
     }
-    sets::least(class_of(permissions, role, operations, o)) == o
+    if operations <= o {
+        return false;
+    }
+    is_first(permissions, role, o)
 }

@@ -182,7 +182,7 @@ module _ (links : List ℕ) (W X : Words) (who what us rs os : ℕ) (mu : us ≤
       same (grantsJust links W X who what us rs os) (grantsExactly links W X us rs os && rimFree links (joined W X .atoms) (joined W X .users) (joined W X .resources) who what)
       (λ h. and-in (just-exactly h) (just-rim o lo b h)) (λ h. rim-just (and-l (grantsExactly links W X us rs os) _ h) (and-r (grantsExactly links W X us rs os) _ h))
 
--- ---- groups with the same atoms
+-- ---- groups that may become one
 
 module _ (links : List ℕ) (W X : Words) where
   -- a group reaches the other at an operation that the other lacks
@@ -210,7 +210,11 @@ the-first : {a b : Bool} → Is a ⊎ Is b → b ≡ false → Is a
 the-first (inl p) e = p
 the-first (inr q) e = never q e
 
-module _ (links : List ℕ) (W X : Words) (j : Is (mayJoin links W X)) (e : W .atoms ≡ X .atoms) where
+-- of whom that is so, all atoms of the first set are of the second
+abbrev pub Keeps : Bool → ℕ → ℕ → Type 0
+Keeps b m n = Is b → (i : ℕ) → Is (bit m i) → Is (bit n i)
+
+module _ (links : List ℕ) (W X : Words) (j : Is (mayJoin links W X)) where
   reach : Is (reaches W X) × Is (reaches X W)
   unfolding mayJoin
   reach = let k = and-l (reaches W X && reaches X W) _ j in (and-l (reaches W X) _ k, and-r (reaches W X) _ k)
@@ -221,21 +225,14 @@ module _ (links : List ℕ) (W X : Words) (j : Is (mayJoin links W X)) (e : W .a
   corners = let k = and-r (reaches W X && reaches X W) _ j in
       (and-l (cornerFree links (joined W X .atoms) (less (W .users) (X .users)) (less (X .resources) (W .resources))) _ k, and-r (cornerFree links (joined W X .atoms) (less (W .users) (X .users)) (less (X .resources) (W .resources))) _ k)
 
-  -- either has the atoms of both
-  both-join : (u r : ℕ) → Is (joins links (joined W X .atoms) u r) → Is (joins links (W .atoms) u r) × Is (joins links (X .atoms) u r)
-  unfolding joined
-  both-join u r k = (
-    joins-fewer links (joined W X .atoms) (W .atoms) u r (λ i l b. bit-mask 64 (λ k. bit (W .atoms) k && bit (X .atoms) k) i (omega arith) ∙ and-in b (ap (λ (m : ℕ). bit m i) (sym e) ∙ b)) k,
-    joins-fewer links (joined W X .atoms) (X .atoms) u r (λ i l b. bit-mask 64 (λ k. bit (W .atoms) k && bit (X .atoms) k) i (omega arith) ∙ and-in (ap (λ (m : ℕ). bit m i) e ∙ b) b) k,
-  )
-
-  covered-grouped : (u r o : ℕ) → u < 64 → r < 64 → o < 64 → Is (covered links W X (joined W X .users) (joined W X .resources) u r o) → Is (grouped links W X u r o)
+  covered-grouped : (u r o : ℕ) → u < 64 → r < 64 → o < 64 → Keeps (bit (W .users) u) (W .atoms) (X .atoms) → Keeps (bit (X .users) u) (X .atoms) (W .atoms)
+      → Is (covered links W X (joined W X .users) (joined W X .resources) u r o) → Is (grouped links W X u r o)
   unfolding covering joined
-  covered-grouped u r o lu lr lo h = test (bit (W .ops) o)
-      (λ w. test (bit (X .ops) o) (λ x. shared w x) (λ x. let s = reaches-out links W X (reach .0) o lo w x in
-      first w (⊎-elim (λ k. k) (subset-out (X .users) (W .users) (s .0) u) people) (⊎-elim (λ k. k) (subset-out (X .resources) (W .resources) (s .1) r) things)))
-      (λ w. let x = the-second (union-out (W .ops) (X .ops) o lo (t .operation)) w in let s = reaches-out links X W (reach .1) o lo x w in
-      second x (⊎-elim (subset-out (W .users) (X .users) (s .0) u) (λ k. k) people) (⊎-elim (subset-out (W .resources) (X .resources) (s .1) r) (λ k. k) things))
+  covered-grouped u r o lu lr lo f s h = test (bit (W .ops) o)
+      (λ w. test (bit (X .ops) o) (λ x. shared w x) (λ x. let n = reaches-out links W X (reach .0) o lo w x in
+      first w (⊎-elim (λ k. k) (subset-out (X .users) (W .users) (n .0) u) people) (⊎-elim (λ k. k) (subset-out (X .resources) (W .resources) (n .1) r) things)))
+      (λ w. let x = the-second (union-out (W .ops) (X .ops) o lo (t .operation)) w in let n = reaches-out links X W (reach .1) o lo x w in
+      second x (⊎-elim (subset-out (W .users) (X .users) (n .0) u) (λ k. k) people) (⊎-elim (subset-out (W .resources) (X .resources) (n .1) r) (λ k. k) things))
     where
       t : Spanned links (covering W X (joined W X .users) (joined W X .resources)) u r o
       t = spans-out links (covering W X (joined W X .users) (joined W X .resources)) u r o lr h
@@ -247,10 +244,20 @@ module _ (links : List ℕ) (W X : Words) (j : Is (mayJoin links W X)) (e : W .a
       things = union-out (W .resources) (X .resources) r lr (t .resource)
 
       first : Is (bit (W .ops) o) → Is (bit (W .users) u) → Is (bit (W .resources) r) → Is (grouped links W X u r o)
-      first a b c = or-l (tableSpans links X u r o) (spans-in links W u r o lr (record { operation = a; user = b; resource = c; joined-by = both-join u r (t .joined-by) .0 }))
+      first a b c = or-l (tableSpans links X u r o) (spans-in links W u r o lr (record {
+        operation = a;
+        user = b;
+        resource = c;
+        joined-by = joins-fewer links (joined W X .atoms) (W .atoms) u r (λ i l k. bit-mask 64 (λ k. bit (W .atoms) k && bit (X .atoms) k) i (omega arith) ∙ and-in k (f b i k)) (t .joined-by);
+      }))
 
       second : Is (bit (X .ops) o) → Is (bit (X .users) u) → Is (bit (X .resources) r) → Is (grouped links W X u r o)
-      second a b c = or-r (tableSpans links W u r o) (spans-in links X u r o lr (record { operation = a; user = b; resource = c; joined-by = both-join u r (t .joined-by) .1 }))
+      second a b c = or-r (tableSpans links W u r o) (spans-in links X u r o lr (record {
+        operation = a;
+        user = b;
+        resource = c;
+        joined-by = joins-fewer links (joined W X .atoms) (X .atoms) u r (λ i l k. bit-mask 64 (λ k. bit (W .atoms) k && bit (X .atoms) k) i (omega arith) ∙ and-in (s b i k) k) (t .joined-by);
+      }))
 
       -- a user of the one only and a resource of the other only would stand in a corner
       apart : (bit (W .users) u && bit (W .resources) r) ≡ false → (bit (X .users) u && bit (X .resources) r) ≡ false → ⊥
@@ -272,15 +279,21 @@ module _ (links : List ℕ) (W X : Words) (j : Is (mayJoin links W X)) (e : W .a
           (λ q. second x (and-l (bit (X .users) u) _ q) (and-r (bit (X .users) u) _ q))
           (λ q. absurd (apart p q)))
 
-  -- THE LAW: groups that may become one and have the same atoms are granted exactly
-  pub alike-exactly : (us rs os : ℕ) → us ≤ 64 → rs ≤ 64 → os ≤ 64 → Is (grantsExactly links W X us rs os)
-  unfolding grantsExactly
-  alike-exactly us rs os mu mr mo = just-in links W X (joined W X .users) (joined W X .resources) us rs os λ u r o lu lr lo.
+  -- THE LAW: each user of groups that may become one whose atoms are all in the atoms of both is granted exactly
+  pub user-exactly : (u r o : ℕ) → u < 64 → r < 64 → o < 64 → Keeps (bit (W .users) u) (W .atoms) (X .atoms) → Keeps (bit (X .users) u) (X .atoms) (W .atoms)
+      → covered links W X (joined W X .users) (joined W X .resources) u r o ≡ grouped links W X u r o
+  user-exactly u r o lu lr lo f s =
       same (covered links W X (joined W X .users) (joined W X .resources) u r o) (grouped links W X u r o)
-      (covered-grouped u r o (omega arith) (omega arith) (omega arith))
-      (groups-covered links W X (joined W X .users) (joined W X .resources) (subset-self (joined W X .users)) (subset-self (joined W X .resources)) u r o (omega arith) (omega arith) (omega arith))
+      (covered-grouped u r o lu lr lo f s)
+      (groups-covered links W X (joined W X .users) (joined W X .resources) (subset-self (joined W X .users)) (subset-self (joined W X .resources)) u r o lu lr lo)
 
--- so is a group together with itself
+  -- so are groups with the same atoms
+  pub alike-exactly : W .atoms ≡ X .atoms → (us rs os : ℕ) → us ≤ 64 → rs ≤ 64 → os ≤ 64 → Is (grantsExactly links W X us rs os)
+  unfolding grantsExactly
+  alike-exactly e us rs os mu mr mo = just-in links W X (joined W X .users) (joined W X .resources) us rs os λ u r o lu lr lo.
+      user-exactly u r o (omega arith) (omega arith) (omega arith) (λ _ i b. ap (λ (m : ℕ). bit m i) (sym e) ∙ b) (λ _ i b. ap (λ (m : ℕ). bit m i) e ∙ b)
+
+-- and a group together with itself
 pub self-exactly : (links : List ℕ) (W : Words) (us rs os : ℕ) → us ≤ 64 → rs ≤ 64 → os ≤ 64 → Is (grantsExactly links W W us rs os)
 unfolding reaches mayJoin cornersFree
 self-exactly links W = alike-exactly links W W may refl

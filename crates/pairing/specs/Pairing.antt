@@ -1,11 +1,12 @@
 -- Two groups of parts beside the covering rule of both together, from four words of each and the table of links; and what they cannot do
 -- without if they are to be one.
 -- Assumes nothing.
-use Prim.Native.Nat.{ℕ}
+use Prim.Native.Nat.{ℕ, _<_}
 use lib.Dec.{eqb}
-use mathlib.Core.Bool.{Bool, _&&_, _||_, not}
+use mathlib.Core.Bool.{Bool, false, cond, _&&_, _||_, not}
 use mathlib.Core.List.{List}
 use mathlib.Core.Option.{Option}
+use mathlib.Core.Path.{_≡_}
 use Rattle.files.specs.Calls.{first}
 use Rattle.grants.specs.Grid.{tripleList, differAt, differenceOf, isSame}
 use Rattle.policy.specs.Rules.{Block}
@@ -37,6 +38,11 @@ grouped links W X = together (tableSpans links W) (tableSpans links X)
 -- the first triple at which the covering rule and the two groups differ
 unfoldable pub firstBeyond : List ℕ → Words → Words → ℕ → ℕ → ℕ → ℕ → ℕ → Option (ℕ × ℕ × ℕ)
 firstBeyond links W X who what us rs os = first (differAt (covered links W X who what) (grouped links W X)) (tripleList us rs os)
+
+-- each user who is not among these has the same triples on both sides
+unfoldable pub OthersSame : List ℕ → Words → Words → ℕ → ℕ → ℕ → ℕ → Type 0
+OthersSame links W X among who what us =
+    (u : ℕ) → u < us → bit among u ≡ false → (r o : ℕ) → r < 64 → o < 64 → covered links W X who what u r o ≡ grouped links W X u r o
 
 -- they differ at none
 abbrev pub grantsJust : List ℕ → Words → Words → ℕ → ℕ → ℕ → ℕ → ℕ → Bool
@@ -81,3 +87,8 @@ cornersFree links W X =
 -- all of these
 unfoldable pub mayJoin : List ℕ → Words → Words → Bool
 mayJoin links W X = (reaches W X && reaches X W) && cornersFree links W X
+
+-- whom the covering rule of two such groups may grant more: the users of a group with atoms that the other lacks
+unfoldable pub changedUsers : Words → Words → ℕ
+changedUsers W X =
+    cond (subset (W .atoms) (X .atoms)) (X .users) (cond (subset (X .atoms) (W .atoms)) (W .users) (maskOf 64 (λ k. bit (W .users) k || bit (X .users) k)))

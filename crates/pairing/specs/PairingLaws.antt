@@ -3,13 +3,12 @@
 use Prim.Native.Nat.{ℕ, _+_, _≤_, _<_}
 use borrow.Author.Tests.{eqb-true}
 use lib.Dec.{eqb}
-use mathlib.Core.Bool.{Bool, true, false, cond, _&&_, _||_, not, and-false, false≢true}
+use mathlib.Core.Bool.{Bool, true, false, _&&_, _||_, not}
 use mathlib.Core.List.{List, [], _∷_, map, List·Memᴰ·head, List·Memᴰ·tail}
 use mathlib.Core.Logic.{_⊎_, inl, inr}
 use mathlib.Core.Option.{none}
 use mathlib.Core.Path.{_≡_, refl, sym, ap, ap₂, _∙_}
 use native.Mathlib.Omega.{arith}
-use Rattle.conjuncts.specs.Summary.{linkedWith}
 use Rattle.files.specs.Calls.{first}
 use Rattle.grants.specs.Grid.{tripleList, differAt, differenceOf}
 use Rattle.grants.specs.GridLaws.{UsersPassed, ResourcesPassed, OperationsPassed, user-passed, found}
@@ -19,7 +18,7 @@ use Rattle.sets.specs.MaskLaws.{or-false}
 use Rattle.sets.specs.Sets.{bit, bit-none, maskOf, bit-mask}
 use Rattle.sets.specs.Tests.{Is, and-in, and-l, and-r, or-out, never, iff, iff-in, _∈_, each, each-out, map-out, upTo, upTo-out, not-in}
 use Rattle.words.specs.Words.{Words, joined}
-use Rattle.pairing.specs.Pairing.{tableSpans, covering, covered, grouped, firstBeyond, rowsAgree}
+use Rattle.pairing.specs.Pairing.{tableSpans, covering, covered, grouped, firstBeyond, OthersSame, rowsAgree}
 
 -- ---- rows that agree
 
@@ -68,12 +67,6 @@ first-never : {T : Type 0} (f : T → Bool) (l : List T) → ((x : T) → x ∈ 
 first-never f [] h = refl
 first-never f (x ∷ xs) h = rw (h x (List·Memᴰ·head refl)) (first-never f xs (λ y m. h y (List·Memᴰ·tail m)))
 
--- who is not a user of a group has no triple of it
-no-triples : (links : List ℕ) (W : Words) (u r o : ℕ) → bit (W .users) u ≡ false → tableSpans links W u r o ≡ false
-unfolding tableSpans rowOf
-no-triples links W u r o e =
-    ap (λ (b : Bool). bit (W .ops) o && bit (cond b (linkedWith links (W .atoms) u (W .resources)) 0) r) e ∙ ap (λ (b : Bool). bit (W .ops) o && b) (bit-none r) ∙ and-false (bit (W .ops) o)
-
 -- the words that the code has at a user: the operations and the atoms of the covering rule, its row c, and the rows a and b of the groups
 pub record RowsAt (links : List ℕ) (W X : Words) (who what u all atoms c a b : ℕ) : Type 0 where
   pub operations : all ≡ maskOf 64 (λ k. bit (W .ops) k || bit (X .ops) k)
@@ -114,27 +107,11 @@ module _ (links : List ℕ) (W X : Words) (who what : ℕ) where
           ap (differAt (covered links W X who what) (grouped links W X)) (k .2)
           ∙ ap not (iff-in (covered links W X who what n (p .0) (k .0)) (grouped links W X n (p .0) (k .0)) (s (p .0) (k .0) (omega arith) (omega arith)))
 
-  -- so is one who is in none of the sets
-  pub user-apart : (rs os n v m : ℕ) → rs ≤ 64 → os ≤ 64 → n < 64 → v ≡ maskOf 64 (λ k. bit (W .users) k || bit (X .users) k) → m ≡ maskOf 64 (λ k. bit who k || bit v k) → bit m n ≡ false
+  -- so is one who is not among those looked at
+  pub user-skipped : (among us rs os n : ℕ) → rs ≤ 64 → os ≤ 64 → n < us → OthersSame links W X among who what us → bit among n ≡ false
       → UsersPassed (covered links W X who what) (grouped links W X) rs os n → UsersPassed (covered links W X who what) (grouped links W X) rs os (n + 1)
-  unfolding covering
-  user-apart rs os n v m lr lo l e q h = user-same rs os n lr lo (λ r o _ _.
-      no-triples links (covering W X who what) n r o (neither (bit who n) _ out)
-      ∙ sym (ap₂ _||_ (no-triples links W n r o (neither (bit (W .users) n) _ within)) (no-triples links X n r o (neither-second (bit (W .users) n) _ within))))
-    where
-      neither : (a b : Bool) → (a || b) ≡ false → a ≡ false
-      neither true b k = k
-      neither false b k = refl
-
-      neither-second : (a b : Bool) → (a || b) ≡ false → b ≡ false
-      neither-second true b k = absurd (false≢true (sym k))
-      neither-second false b k = k
-
-      out : (bit who n || bit v n) ≡ false
-      out = sym (bit-mask 64 (λ k. bit who k || bit v k) n l) ∙ sym (ap (λ (x : ℕ). bit x n) q) ∙ h
-
-      within : (bit (W .users) n || bit (X .users) n) ≡ false
-      within = sym (bit-mask 64 (λ k. bit (W .users) k || bit (X .users) k) n l) ∙ sym (ap (λ (x : ℕ). bit x n) e) ∙ neither-second (bit who n) (bit v n) out
+  unfolding OthersSame
+  user-skipped among us rs os n lr lo l s e h = user-same rs os n lr lo (s n l e) h
 
   -- and one whose rows agree
   pub user-agrees : (rs os n : ℕ) {s : Bool} {all atoms c a b : ℕ} → rs ≤ 64 → os ≤ 64 → RowsAt links W X who what n all atoms c a b

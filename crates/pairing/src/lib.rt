@@ -8,7 +8,7 @@ ghost use Rattle.conjuncts.specs.Summary.{linkedWith};
 ghost use Rattle.grants.specs.Grid.{differenceOf};
 ghost use Rattle.matches.specs.Matches.{both, Met};
 ghost use Rattle.pairing.specs.Levels.{levelWithin, withOwn, tablesFit, pairLevel, groupLevel};
-ghost use Rattle.pairing.specs.Pairing.{wordsIn, rowsAgree, firstBeyond, grantsJust, grantsExactly, cornerFree, rimFree, reaches, cornersFree, mayJoin};
+ghost use Rattle.pairing.specs.Pairing.{wordsIn, rowsAgree, firstBeyond, OthersSame, grantsJust, grantsExactly, cornerFree, rimFree, reaches, cornersFree, mayJoin, changedUsers};
 ghost use Rattle.rulegrants.specs.RuleGrid.{rowOf};
 ghost use Rattle.sets.specs.Sets.{bit};
 ghost use Rattle.sets.specs.Tests.{iff};
@@ -82,27 +82,27 @@ fn agree(mine: u64, theirs: u64, c: u64, a: u64, b: u64) -> bool
 }
 
 // The first triple, by user, then resource, then operation, at which the covering rule of two groups together and the groups differ. Who
-// and what pass its conjuncts is handed in.
+// and what pass its conjuncts is handed in, and among whom to look.
 pub fn first_beyond(
     links: &[u64; 2304],
     g: Group,
     h: Group,
+    among: u64,
     who: u64,
     what: u64,
     users: usize,
     resources: usize,
     operations: usize,
 ) -> Difference
-    requires { ⌜ (users ≤ 64) × (resources ≤ 64) × (operations ≤ 64) ⌝ }
+    requires { ⌜ (users ≤ 64) × (resources ≤ 64) × (operations ≤ 64) × OthersSame (now links) (wordsIn g) (wordsIn h) among who what users ⌝ }
     ensures { λ d. ⌜ d ≡ differenceOf (firstBeyond (now (links .entry)) (wordsIn g) (wordsIn h) who what users resources operations) ⌝ }
 {
     let all = sets::union(g.operations, h.operations);
     let atoms = sets::meet(g.atoms, h.atoms);
-    let anybody = sets::union(who, sets::union(g.users, h.users));
     'triples: loop {
         for u in 0..users {
-            // A user of none of them has no triple.
-            if !sets::has(anybody, u) {
+            // Any other user has the same triples on both sides.
+            if !sets::has(among, u) {
                 continue;
             }
             let c = row(links, atoms, who, what, u);
@@ -197,25 +197,41 @@ pub fn may_join(links: &[u64; 2304], g: Group, h: Group) -> bool
     false
 }
 
-// Whether a rule with the operations and the atoms of two groups grants just what they have. Who and what pass its conjuncts is handed in.
+// Whether a rule with the operations and the atoms of two groups grants just what they have. Who and what pass its conjuncts is handed in,
+// and among whom to look.
 fn grants_just(
     links: &[u64; 2304],
     g: Group,
     h: Group,
+    among: u64,
     who: u64,
     what: u64,
     users: usize,
     resources: usize,
     operations: usize,
 ) -> bool
-    requires { ⌜ (users ≤ 64) × (resources ≤ 64) × (operations ≤ 64) ⌝ }
+    requires { ⌜ (users ≤ 64) × (resources ≤ 64) × (operations ≤ 64) × OthersSame (now links) (wordsIn g) (wordsIn h) among who what users ⌝ }
     ensures { λ s. ⌜ s ≡ grantsJust (now (links .entry)) (wordsIn g) (wordsIn h) who what users resources operations ⌝ }
 {
-    let difference = first_beyond(links, g, h, who, what, users, resources, operations);
+    let difference = first_beyond(links, g, h, among, who, what, users, resources, operations);
     match difference {
         Difference::Same => true,
         Difference::At(_, _, _) => false,
     }
+}
+
+// Whom the covering rule of two groups that may become one may grant more than they have: the users of a group with atoms that the other
+// lacks. Users of the other group only keep their atoms, and the corners are free.
+fn changed(g: Group, h: Group) -> u64
+    ensures { λ r. ⌜ r ≡ changedUsers (wordsIn g) (wordsIn h) ⌝ }
+{
+    if sets::within(g.atoms, h.atoms) {
+        return h.users;
+    }
+    if sets::within(h.atoms, g.atoms) {
+        return g.users;
+    }
+    sets::union(g.users, h.users)
 }
 
 // Whether two groups that may become one would be granted just what they have if nobody but their users and nothing but their resources
@@ -239,6 +255,7 @@ fn grants_exactly(
         links,
         g,
         h,
+        changed(g, h),
         sets::union(g.users, h.users),
         sets::union(g.resources, h.resources),
         users,
@@ -300,7 +317,19 @@ fn fits_with(
         }
         return false;
     }
-    grants_just(links, g, h, who, what, users, resources, operations)
+    // A user of none of them has no triple.
+    let anybody = sets::union(who, people);
+    grants_just(
+        links,
+        g,
+        h,
+        anybody,
+        who,
+        what,
+        users,
+        resources,
+        operations,
+    )
 }
 
 // Who passes with the 255 of a side, if that is asked for, of those who pass without.

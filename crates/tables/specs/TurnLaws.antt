@@ -18,8 +18,9 @@ use Rattle.loaded.specs.RecordLaws.{table-ext, table-length}
 use Rattle.matches.specs.Matches.{lessOne}
 use Rattle.matches.specs.MemberLaws.{bit-less}
 use Rattle.policy.specs.Rules.{formOf, linked}
+use Rattle.sets.specs.LoopLaws.{joining, join-out}
 use Rattle.sets.specs.Lowest.{lowestFrom, lowestFrom-most}
-use Rattle.sets.specs.MaskLaws.{and-true, mask-none}
+use Rattle.sets.specs.MaskLaws.{and-true, or-false, mask-lt, mask-unique, mask-none}
 use Rattle.sets.specs.Sets.{bit, bit-none, subset, maskOf, bit-mask}
 use Rattle.sets.specs.Tests.{Is, test, not-in}
 use Rattle.tables.specs.Tables.{meetOf, turns, spreadOf, joins, numberOf, unionOf, metBy, linkedTo, linkValue, linkAtom, matchValue, matchPlace}
@@ -40,6 +41,14 @@ module _ (step : ℕ → List ℕ → List ℕ) (table : List ℕ) where
   pub turns-long : (size n : ℕ) → ((k : ℕ) (t : List ℕ) → length t ≡ size → length (step k t) ≡ size) → length table ≡ size → length (turns step n table) ≡ size
   turns-long size zero h e = e
   turns-long size (suc n) h e = h n (turns step n table) (turns-long size n h e)
+
+-- ---- joining
+
+-- a turn that joins nobody where the test fails
+pub join-nobody : (a : ℕ) (f : ℕ → Bool) (g : ℕ → ℕ) (n m m′ word : ℕ) → m ≡ maskOf 64 (joining a f g n) → f n ≡ false → word ≡ 0 → m′ ≡ maskOf 64 (λ k. bit m k || bit word k)
+    → m′ ≡ maskOf 64 (joining a f g (n + 1))
+join-nobody a f g n m m′ word h e z q = join-out a f g n m m′ h e (q ∙ sym (mask-unique 64 m (λ k. bit m k || bit word k) (omega (arith, h, mask-lt 64 (joining a f g n)))
+    (λ k l. sym (ap (λ (b : Bool). bit m k || b) (ap (λ (x : ℕ). bit x k) z ∙ bit-none k) ∙ or-false (bit m k)))))
 
 -- ---- spreading
 

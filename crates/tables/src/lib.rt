@@ -89,9 +89,14 @@ fn joined<'a>(
 {
     let mut m: u64 = 0;
     for l in 0..count {
-        if joins(left, right, turned, v, distinct[64 * place + l]) {
-            m = sets::union(m, having[64 * place + l]);
-        }
+        let word = having[64 * place + l];
+        // Which values are joined cannot be foreseen, so there is a word to join either way.
+        let found = if joins(left, right, turned, v, distinct[64 * place + l]) {
+            word
+        } else {
+            0
+        };
+        m = sets::union(m, found);
     }
     m
 }

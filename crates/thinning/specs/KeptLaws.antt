@@ -96,7 +96,7 @@ less-within m i j h = and-l (bit m j) _ (and-r (ltb j 64) _ (sym (bit-maskOf 64 
 
 module _ (links met : List ℕ) (us rs os : ℕ) (W : Words) (p : ℕ) where
   -- thinning takes places away and adds none
-  thin-within : (n j : ℕ) → Is (bit (thinTo links met us rs os W p n) j) → Is (bit p j)
+  pub thin-within : (n j : ℕ) → Is (bit (thinTo links met us rs os W p n) j) → Is (bit p j)
   unfolding thinBy
   thin-within zero j h = h
   thin-within (suc n) j h =

@@ -4,3 +4,4 @@ pub mod RowLaws
 pub mod SearchLaws
 pub mod PlaceLaws
 pub mod KeptLaws
+pub mod VisitLaws

@@ -364,7 +364,6 @@ fn thinned<'a>(
     requires { ⌜ (users ≤ 64) × (resources ≤ 64) × (now rows ≡ joinedRows (now links) (g .atoms)) × (full ≡ maskOf 64 (isFull (now rows) (wordsIn g))) ⌝ }
     ensures { λ r. ⌜ r ≡ thinBy (now (links .entry)) (now (met .entry)) users resources operations (wordsIn g) places place ⌝ }
 {
-    // Most places have no condition.
     if sets::has(places, place) {
         let fewer = sets::without(places, sets::with(0, place));
         if grants_same(
@@ -405,7 +404,9 @@ pub fn kept_places<'a>(
     let mut rows = [0u64; 64];
     joined_rows(links, g.atoms, &mut rows);
     let full = full_users(&rows, g);
-    for i in 0..50 {
+    // No place comes in, so those without a condition need no turn.
+    let mut rest = kept;
+    while 0 < rest {
         kept = thinned(
             links,
             &met,
@@ -413,11 +414,12 @@ pub fn kept_places<'a>(
             g,
             full,
             kept,
-            i,
+            sets::least(rest),
             users,
             resources,
             operations,
         );
+        rest = matches::without_least(rest);
     }
     kept
 }

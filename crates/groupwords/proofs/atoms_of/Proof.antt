@@ -1,43 +1,58 @@
--- The invariant: the set has the atoms before i that are true of all. Assumes nothing.
-use Prim.Native.Nat.{_-_, _≤_}
-use mathlib.Core.Logic.{⊎-elim}
-use mathlib.Core.Path.{_≡_, sym, _∙_}
-use native.Mathlib.Omega.{arith}
-use Rattle.groupwords.specs.PartWords.{isAtomOf, atomsOf}
-use Rattle.sets.specs.LoopLaws.{turn-within}
-use Rattle.sets.specs.MaskLaws.{fill-none, fill-with, fill-out, fill-end}
-use Rattle.sets.specs.Sets.{maskOf}
+-- The invariant: the atoms kept that are true of all users left are the answer. What is left falls. Assumes nothing.
+use Prim.Native.Nat.{ℕ, _^_, _<_}
 use borrow.Author.Needs.{needs}
+use mathlib.Core.Path.{_≡_, sym, ap, _∙_}
+use native.Mathlib.Omega.{arith}
+use Rattle.groupwords.specs.AtomLaws.{declared-low, trueStill, still-begin, still-low, still-turn, still-done}
+use Rattle.groupwords.specs.PartWords.{atomsOf}
+use Rattle.matches.specs.Matches.{lessOne}
+use Rattle.matches.specs.MemberLaws.{least-in, less-less}
 use Rattle.groupwords.proofs.atoms_of.Statement.{statement}
 use Rattle.groupwords.proofs.atoms_of.Tie as tie
 
 abbrev Inv-loop : tie.InvT-loop
-Inv-loop links attributes users resources m₀ i₀ m i = (i ≤ 36) × (m ≡ maskOf i (isAtomOf links attributes users resources))
+Inv-loop links attributes users resources m₀ rest₀ m rest = (m < 2 ^ 36) × (rest < 2 ^ 64) × (trueStill links m rest resources ≡ atomsOf links attributes users resources)
 
 abbrev μ-loop : tie.MeasureT-loop
-μ-loop links attributes users resources m₀ i₀ m i = 36 - i
+μ-loop links attributes users resources m₀ rest₀ m rest = rest
 
 loop-holds : tie.Need-loop-holds Inv-loop μ-loop
-loop-holds start =
-    let a = start .args in
-    (search needs, sym (fill-none (isAtomOf (a .links .now) (a .attributes .now) (a .users) (a .resources))))
+loop-holds c =
+    let a = c .before .args in
+    (declared-low (a .attributes .now) _ (c .declared .ensures), search needs, still-begin (a .links .now) (a .attributes .now) (a .users) (a .resources) _ (c .declared .ensures))
+
+true-of-user-requires : tie.Need-true-of-user-requires Inv-loop μ-loop
+true-of-user-requires c κs =
+    let turn = c .before .before .loop in
+    (turn .inv .0, least-in (turn .rest) (turn .inv .1) _ (c .least .ensures) (c .before .loop-test .taken) .0)
+
+loop-less : tie.Need-loop-less Inv-loop μ-loop
+loop-less c =
+    let d = c .before .before in
+    let turn = d .before .before .loop in
+    let t = least-in (turn .rest) (turn .inv .1) _ (d .least .ensures) (d .before .loop-test .taken) in
+    let l = less-less (turn .rest) (turn .inv .1) _ (t .1) in
+    let e = c .without-least .ensures ∙ ap (lessOne (turn .rest)) (sym (d .least .ensures)) in
+    omega arith
 
 loop-again : tie.Need-loop-again Inv-loop μ-loop
 loop-again c =
-    let a = c .before .before .before .before .args in
-    let turn = c .before .before .before .loop in (
-      turn-within (turn .i) 36 (c .before .before .loop-test .taken),
-      ⊎-elim
-          (λ w. fill-with (turn .i) (turn .m) _ (isAtomOf (a .links .now) (a .attributes .now) (a .users) (a .resources)) (omega arith) (turn .inv .1) (sym (c .before .is-atom .ensures) ∙ w .0 .taken) (w .2 ∙ w .1 .ensures))
-          (λ w. fill-out (turn .i) (turn .m) _ (isAtomOf (a .links .now) (a .attributes .now) (a .users) (a .resources)) (turn .inv .1) (sym (c .before .is-atom .ensures) ∙ w .0 .left) (w .1))
-          (c .if1 .came),
+    let d = c .before .before in
+    let turn = d .before .before .loop in
+    let a = d .before .before .before .before .args in
+    let t = least-in (turn .rest) (turn .inv .1) _ (d .least .ensures) (d .before .loop-test .taken) in (
+      still-low (a .links .now) (turn .m) (d .least .result) (a .resources) _ (c .before .true-of-user .ensures),
+      search needs,
+      ap (λ (m : ℕ). trueStill (a .links .now) (c .before .true-of-user .result) m (a .resources)) (c .without-least .ensures ∙ ap (lessOne (turn .rest)) (sym (d .least .ensures)))
+          ∙ still-turn (a .links .now) (turn .m) _ (turn .rest) (d .least .result) (a .resources) (turn .inv .1) (t .0) (t .1) (c .before .true-of-user .ensures)
+          ∙ turn .inv .2,
     )
 
 returns : tie.Need-returns Inv-loop μ-loop
-unfolding atomsOf
 returns c =
-    let a = c .before .before .args in
-    fill-end (c .before .loop .i) 36 (c .before .loop .m) (isAtomOf (a .links .now) (a .attributes .now) (a .users) (a .resources)) (c .before .loop .inv .1) (omega arith)
+    let end = c .before .loop in
+    let a = c .before .before .before .args in
+    sym (still-done (a .links .now) (end .m) (end .rest) (a .resources) (end .inv .0) (omega arith)) ∙ end .inv .2
 
 pub atoms-of-spec : {M : Type 1} → statement M
 atoms-of-spec =
@@ -45,10 +60,11 @@ atoms-of-spec =
     (tie.spec
     Inv-loop
     μ-loop
+    (λ c κs. search needs)
     loop-holds
     (λ c κs. search needs)
+    true-of-user-requires
     (λ c κs. search needs)
-    (λ c. search needs)
-    (λ c. search needs)
+    loop-less
     loop-again
     returns)

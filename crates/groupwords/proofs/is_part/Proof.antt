@@ -1,12 +1,10 @@
 -- Assumes nothing.
-use Prim.Native.Nat.{ℕ}
-use borrow.Author.Tests.{eq-eqb, ne-eqb}
-use lib.Dec.{eqb}
-use mathlib.Core.Path.{refl, ap, _∙_}
-use Rattle.groupwords.specs.PartWords.{isPartIn}
-use Rattle.sets.specs.Lowest.{lowestFrom}
-use Rattle.sets.specs.Sets.{bit}
 use borrow.Author.Needs.{needs}
+use borrow.Author.Tests.{eq-eqb, ne-eqb}
+use mathlib.Core.Path.{refl, sym, _∙_}
+use native.Mathlib.Omega.{arith}
+use Rattle.groupwords.specs.AtomLaws.{first-leads, beyond-leads}
+use Rattle.groupwords.specs.PartWords.{isPartIn}
 use Rattle.groupwords.proofs.is_part.Statement.{statement}
 use Rattle.groupwords.proofs.is_part.Tie as tie
 
@@ -21,10 +19,18 @@ returns-2 c = rw (ne-eqb _ _ (c .before .before .if1 .left), eq-eqb _ _ (c .if2 
 returns-3 : tie.Need-returns-3
 unfolding isPartIn
 returns-3 c =
-    let e = c .before .before in
-    let o = e .before .before .before .before .args .o in
-    rw (ne-eqb _ _ (e .before .before .if1 .left), ne-eqb _ _ (e .if2 .left))
-    (ap (λ (x : ℕ). eqb x o) (c .least .ensures ∙ ap (λ (m : ℕ). lowestFrom (bit m) 0 64) (c .before .class-of .ensures)))
+    let some = c .before in
+    let start = some .before .before .before .before in
+    let a = start .args in
+    rw (ne-eqb _ _ (some .before .before .if1 .left), ne-eqb _ _ (some .if2 .left)) (sym (beyond-leads (a .permissions .now) (a .role) (a .operations) (a .o) (start .pre .1) (start .pre .2) (omega arith)))
+
+returns-4 : tie.Need-returns-4
+unfolding isPartIn
+returns-4 c =
+    let some = c .before .before in
+    let start = some .before .before .before .before in
+    let a = start .args in
+    rw (ne-eqb _ _ (some .before .before .if1 .left), ne-eqb _ _ (some .if2 .left)) (c .is-first .ensures ∙ sym (first-leads (a .permissions .now) (a .role) (a .operations) (a .o) (start .pre .1) (start .pre .2) (c .before .if3 .left)))
 
 pub is-part-spec : {M : Type 1} → statement M
 is-part-spec =
@@ -38,6 +44,6 @@ is-part-spec =
     (λ c. search needs)
     (λ c. search needs)
     returns-2
+    returns-3
     (λ c κs. search needs)
-    (λ c κs. search needs)
-    returns-3)
+    returns-4)

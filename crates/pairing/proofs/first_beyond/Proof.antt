@@ -5,58 +5,59 @@ use borrow.Author.Needs.{needs}
 use mathlib.Core.Path.{sym, _∙_}
 use native.Mathlib.Omega.{arith}
 use Rattle.grants.specs.GridLaws.{UsersPassed, ResourcesPassed, OperationsPassed, no-users, no-resources, no-operations, operation-passed, resource-passed, user-passed}
+use Rattle.sets.specs.LoopLaws.{turn-within}
 use Rattle.sets.specs.Tests.{not-out}
 use Rattle.pairing.specs.Pairing.{wordsIn, covered, grouped}
-use Rattle.pairing.specs.PairingLaws.{differs-at, user-apart, user-agrees, beyond-at, beyond-none}
+use Rattle.pairing.specs.PairingLaws.{differs-at, user-skipped, user-agrees, beyond-at, beyond-none}
 use Rattle.pairing.proofs.first_beyond.Statement.{statement}
 use Rattle.pairing.proofs.first_beyond.Tie as tie
 
 abbrev Inv-loop3 : tie.InvT-loop3
-Inv-loop3 links g h who what users resources operations all atoms anybody u c a b r o₀ o = (o ≤ operations) × OperationsPassed (covered links (wordsIn g) (wordsIn h) who what) (grouped links (wordsIn g) (wordsIn h)) u r o
+Inv-loop3 links g h among who what users resources operations all atoms u c a b r o₀ o = (o ≤ operations) × OperationsPassed (covered links (wordsIn g) (wordsIn h) who what) (grouped links (wordsIn g) (wordsIn h)) u r o
 
 abbrev μ-loop3 : tie.MeasureT-loop3
-μ-loop3 links g h who what users resources operations all atoms anybody u c a b r o₀ o = operations - o
+μ-loop3 links g h among who what users resources operations all atoms u c a b r o₀ o = operations - o
 
 abbrev Inv-loop2 : tie.InvT-loop2
-Inv-loop2 links g h who what users resources operations all atoms anybody u c a b r₀ r = (r ≤ resources) × ResourcesPassed (covered links (wordsIn g) (wordsIn h) who what) (grouped links (wordsIn g) (wordsIn h)) operations u r
+Inv-loop2 links g h among who what users resources operations all atoms u c a b r₀ r = (r ≤ resources) × ResourcesPassed (covered links (wordsIn g) (wordsIn h) who what) (grouped links (wordsIn g) (wordsIn h)) operations u r
 
 abbrev μ-loop2 : tie.MeasureT-loop2
-μ-loop2 links g h who what users resources operations all atoms anybody u c a b r₀ r = resources - r
+μ-loop2 links g h among who what users resources operations all atoms u c a b r₀ r = resources - r
 
 abbrev Inv-loop : tie.InvT-loop
-Inv-loop links g h who what users resources operations all atoms anybody u₀ u = (u ≤ users) × UsersPassed (covered links (wordsIn g) (wordsIn h) who what) (grouped links (wordsIn g) (wordsIn h)) resources operations u
+Inv-loop links g h among who what users resources operations all atoms u₀ u = (u ≤ users) × UsersPassed (covered links (wordsIn g) (wordsIn h) who what) (grouped links (wordsIn g) (wordsIn h)) resources operations u
 
 abbrev μ-loop : tie.MeasureT-loop
-μ-loop links g h who what users resources operations all atoms anybody u₀ u = users - u
+μ-loop links g h among who what users resources operations all atoms u₀ u = users - u
 
 abbrev Inv-triples : tie.InvT-triples
-Inv-triples links g h who what users resources operations all atoms anybody = Unit {0}
+Inv-triples links g h among who what users resources operations all atoms = Unit {0}
 
 abbrev μ-triples : tie.MeasureT-triples
-μ-triples links g h who what users resources operations all atoms anybody = 0
+μ-triples links g h among who what users resources operations all atoms = 0
 
 loop-holds : tie.Need-loop-holds Inv-loop3 μ-loop3 Inv-loop2 μ-loop2 Inv-loop μ-loop Inv-triples μ-triples
 loop-holds c =
-    let a = c .before .before .before .before .before .args in
+    let a = c .before .before .before .args in
     (search needs, no-users (covered (a .links .now) (wordsIn (a .g)) (wordsIn (a .h)) (a .who) (a .what)) (grouped (a .links .now) (wordsIn (a .g)) (wordsIn (a .h))) (a .resources) (a .operations))
 
 loop-again : tie.Need-loop-again Inv-loop3 μ-loop3 Inv-loop2 μ-loop2 Inv-loop μ-loop Inv-triples μ-triples
 loop-again c =
     let turn = c .before .before .before in
-    let sets = turn .before .before in
-    let a = sets .before .before .before .before .args in (
-      search needs,
-      user-apart (a .links .now) (wordsIn (a .g)) (wordsIn (a .h)) (a .who) (a .what) (a .resources) (a .operations) (turn .loop .u) (sets .before .union2 .result) (sets .union3 .result) (omega arith) (omega arith) (omega arith)
-          (sets .before .union2 .ensures) (sets .union3 .ensures) (sym (c .before .has .ensures) ∙ not-out (c .before .has .result) (c .if1 .taken)) (turn .loop .inv .1),
+    let start = turn .before .before .before .before in
+    let a = start .args in (
+      turn-within (turn .loop .u) (a .users) (c .before .before .loop-test .taken),
+      user-skipped (a .links .now) (wordsIn (a .g)) (wordsIn (a .h)) (a .who) (a .what) (a .among) (a .users) (a .resources) (a .operations) (turn .loop .u) (start .pre .1) (start .pre .2) (c .before .before .loop-test .taken)
+          (start .pre .3) (sym (c .before .has .ensures) ∙ not-out (c .before .has .result) (c .if1 .taken)) (turn .loop .inv .1),
     )
 
 loop-again-2 : tie.Need-loop-again-2 Inv-loop3 μ-loop3 Inv-loop2 μ-loop2 Inv-loop μ-loop Inv-triples μ-triples
 loop-again-2 c =
     let rows = c .before .before in
     let turn = rows .before .before .before .before .before .before in
-    let start = turn .before .before .before .before in
+    let start = turn .before .before in
     let a = start .before .before .args in (
-      search needs,
+      turn-within (turn .loop .u) (a .users) (rows .before .before .before .before .before .loop-test .taken),
       user-agrees (a .links .now) (wordsIn (a .g)) (wordsIn (a .h)) (a .who) (a .what) (a .resources) (a .operations) (turn .loop .u) (omega arith) (omega arith)
           (record { operations = start .before .union .ensures; links-of-both = start .meet .ensures; of-cover = rows .before .before .row .ensures; of-first = rows .before .row2 .ensures; of-second = rows .row3 .ensures })
           (turn .loop .inv .1) (c .before .agree .ensures) (c .if2 .taken),
@@ -65,13 +66,13 @@ loop-again-2 c =
 loop2-holds : tie.Need-loop2-holds Inv-loop3 μ-loop3 Inv-loop2 μ-loop2 Inv-loop μ-loop Inv-triples μ-triples
 loop2-holds c =
     let turn = c .before .before .before .before .before .before .before .before in
-    let a = turn .before .before .before .before .before .before .args in
+    let a = turn .before .before .before .before .args in
     (search needs, no-resources (covered (a .links .now) (wordsIn (a .g)) (wordsIn (a .h)) (a .who) (a .what)) (grouped (a .links .now) (wordsIn (a .g)) (wordsIn (a .h))) (a .operations) (turn .loop .u))
 
 loop3-holds : tie.Need-loop3-holds Inv-loop3 μ-loop3 Inv-loop2 μ-loop2 Inv-loop μ-loop Inv-triples μ-triples
 loop3-holds c =
     let turn = c .before .before .before .before .before .before .before .before .before .before in
-    let a = turn .before .before .before .before .before .before .args in
+    let a = turn .before .before .before .before .args in
     (search needs, no-operations (covered (a .links .now) (wordsIn (a .g)) (wordsIn (a .h)) (a .who) (a .what)) (grouped (a .links .now) (wordsIn (a .g)) (wordsIn (a .h))) (turn .loop .u) (c .before .loop2 .r))
 
 loop3-again : tie.Need-loop3-again Inv-loop3 μ-loop3 Inv-loop2 μ-loop2 Inv-loop μ-loop Inv-triples μ-triples
@@ -80,7 +81,7 @@ loop3-again c =
     let second = third .before .before in
     let rows = second .before .before .before in
     let turn = rows .before .before .before .before .before .before in
-    let start = turn .before .before .before .before in
+    let start = turn .before .before in
     let a = start .before .before .args in (
       search needs,
       operation-passed (covered (a .links .now) (wordsIn (a .g)) (wordsIn (a .h)) (a .who) (a .what)) (grouped (a .links .now) (wordsIn (a .g)) (wordsIn (a .h))) (turn .loop .u) (second .loop2 .r) (third .loop3 .o) (third .loop3 .inv .1)
@@ -94,13 +95,13 @@ loop2-again : tie.Need-loop2-again Inv-loop3 μ-loop3 Inv-loop2 μ-loop2 Inv-loo
 loop2-again c =
     let second = c .before .before .before in
     let turn = second .before .before .before .before .before .before .before .before .before in
-    let a = turn .before .before .before .before .before .before .args in
+    let a = turn .before .before .before .before .args in
     (search needs, resource-passed (covered (a .links .now) (wordsIn (a .g)) (wordsIn (a .h)) (a .who) (a .what)) (grouped (a .links .now) (wordsIn (a .g)) (wordsIn (a .h))) (a .operations) (turn .loop .u) (second .loop2 .r) (c .before .loop3 .o) (second .loop2 .inv .1) (c .before .loop3 .inv .1) (omega arith))
 
 loop-again-3 : tie.Need-loop-again-3 Inv-loop3 μ-loop3 Inv-loop2 μ-loop2 Inv-loop μ-loop Inv-triples μ-triples
 loop-again-3 c =
     let turn = c .before .before .before .before .before .before .before .before .before .before in
-    let a = turn .before .before .before .before .before .before .args in
+    let a = turn .before .before .before .before .args in
     (search needs, user-passed (covered (a .links .now) (wordsIn (a .g)) (wordsIn (a .h)) (a .who) (a .what)) (grouped (a .links .now) (wordsIn (a .g)) (wordsIn (a .h))) (a .resources) (a .operations) (turn .loop .u) (c .before .loop2 .r) (turn .loop .inv .1) (c .before .loop2 .inv .1) (omega arith))
 
 returns : tie.Need-returns Inv-loop3 μ-loop3 Inv-loop2 μ-loop2 Inv-loop μ-loop Inv-triples μ-triples
@@ -109,7 +110,7 @@ returns c =
     let second = third .before .before in
     let rows = second .before .before .before in
     let turn = rows .before .before .before .before .before .before in
-    let start = turn .before .before .before .before in
+    let start = turn .before .before in
     let a = start .before .before .args in
     beyond-at (a .links .now) (wordsIn (a .g)) (wordsIn (a .h)) (a .who) (a .what) (a .users) (a .resources) (a .operations) (turn .loop .u) (second .loop2 .r) (third .loop3 .o) (rows .before .before .before .before .before .loop-test .taken) (omega arith) (omega arith)
     (turn .loop .inv .1) (second .loop2 .inv .1) (third .loop3 .inv .1)
@@ -121,7 +122,7 @@ returns c =
 returns-2 : tie.Need-returns-2 Inv-loop3 μ-loop3 Inv-loop2 μ-loop2 Inv-loop μ-loop Inv-triples μ-triples
 returns-2 c =
     let turn = c .before in
-    let a = turn .before .before .before .before .before .before .args in
+    let a = turn .before .before .before .before .args in
     beyond-none (a .links .now) (wordsIn (a .g)) (wordsIn (a .h)) (a .who) (a .what) (a .users) (a .resources) (a .operations) (turn .loop .u) (turn .loop .inv .1) (omega arith)
 
 pub first-beyond-spec : {M : Type 1} → statement M
@@ -136,8 +137,6 @@ first-beyond-spec =
     μ-loop
     Inv-triples
     μ-triples
-    (λ c κs. search needs)
-    (λ c κs. search needs)
     (λ c κs. search needs)
     (λ c κs. search needs)
     (λ c. tt)

@@ -6,6 +6,7 @@ use mathlib.Core.Path.{sym, ap, _∙_}
 use Rattle.sets.specs.Sets.{bit, maskOf}
 use Rattle.pairing.specs.ExactLaws.{besides-decide}
 use Rattle.pairing.specs.JoinLaws.{first-fails, second-decides}
+use Rattle.pairing.specs.LookedLaws.{strangers-same}
 use Rattle.pairing.specs.Pairing.{wordsIn, rimFree}
 use Rattle.pairing.proofs.fits_with.Statement.{statement}
 use Rattle.pairing.proofs.fits_with.Tie as tie
@@ -61,6 +62,17 @@ returns-2 c =
       passed = taken .if1 .taken;
     }))
 
+grants-just-requires : tie.Need-grants-just-requires
+grants-just-requires c κs =
+    let both = c .before .before .before .before .before .before in
+    let start = both .before .before .before in
+    let a = start .args in (
+      start .pre .0,
+      start .pre .1,
+      start .pre .2,
+      strangers-same (a .links .now) (wordsIn (a .g)) (wordsIn (a .h)) (a .who) (a .what) (a .users) _ _ (start .pre .0) (both .before .before .union .ensures) (c .union4 .ensures),
+    )
+
 pub fits-with-spec : {M : Type 1} → statement M
 fits-with-spec =
     tie.close
@@ -77,4 +89,5 @@ fits-with-spec =
     returns
     returns-2
     (λ c κs. search needs)
+    grants-just-requires
     (λ c. search needs))

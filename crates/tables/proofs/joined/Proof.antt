@@ -2,14 +2,15 @@
 use Prim.Native.Nat.{ℕ, _+_, _*_, _-_, _≤_}
 use borrow.Author.Needs.{needs}
 use lib.ListN.{getD}
-use mathlib.Core.Bool.{Bool}
+use mathlib.Core.Bool.{Bool, _||_}
 use mathlib.Core.List.{List}
 use mathlib.Core.Logic.{⊎-elim}
-use mathlib.Core.Path.{_≡_, sym, _∙_}
+use mathlib.Core.Path.{_≡_, sym, ap, _∙_}
 use native.Mathlib.Omega.{arith}
-use Rattle.sets.specs.LoopLaws.{turn-within, joining, join-none, join-in, join-out, join-end}
-use Rattle.sets.specs.Sets.{maskOf}
+use Rattle.sets.specs.LoopLaws.{turn-within, joining, join-none, join-in, join-end}
+use Rattle.sets.specs.Sets.{bit, maskOf}
 use Rattle.tables.specs.Tables.{joins, unionOf}
+use Rattle.tables.specs.TurnLaws.{join-nobody}
 use Rattle.tables.proofs.joined.Statement.{statement}
 use Rattle.tables.proofs.joined.Tie as tie
 
@@ -32,13 +33,15 @@ loop-holds c =
 
 loop-again : tie.Need-loop-again Inv-loop μ-loop
 loop-again c =
-    let a = c .before .before .before .before .before .args in
-    let turn = c .before .before .before .before .loop in (
-      turn-within (turn .l) (a .count) (c .before .before .before .loop-test .taken),
+    let tested = c .before .before in
+    let turn = tested .before .before .before .before .loop in
+    let a = tested .before .before .before .before .before .args in (
+      turn-within (turn .l) (a .count) (tested .before .before .before .loop-test .taken),
       ⊎-elim
-          (λ w. w .3 ∙ join-in 0 (passes (a .distinct .now) (a .place) (a .left) (a .right) (a .turned) (a .v)) (who (a .having .now) (a .place)) (turn .l) (turn .m) _ (turn .inv .1) (sym (c .before .joins .ensures) ∙ w .0 .taken) (w .2 .ensures))
-          (λ w. join-out 0 (passes (a .distinct .now) (a .place) (a .left) (a .right) (a .turned) (a .v)) (who (a .having .now) (a .place)) (turn .l) (turn .m) _ (turn .inv .1) (sym (c .before .joins .ensures) ∙ w .0 .left) (w .1))
-          (c .if1 .came),
+          (λ w. join-in 0 (passes (a .distinct .now) (a .place) (a .left) (a .right) (a .turned) (a .v)) (who (a .having .now) (a .place)) (turn .l) (turn .m) _ (turn .inv .1) (sym (tested .joins .ensures) ∙ w .0 .taken)
+          (c .union .ensures ∙ ap (λ (x : ℕ). maskOf 64 (λ k. bit (turn .m) k || bit x k)) (w .1)))
+          (λ w. join-nobody 0 (passes (a .distinct .now) (a .place) (a .left) (a .right) (a .turned) (a .v)) (who (a .having .now) (a .place)) (turn .l) (turn .m) _ _ (turn .inv .1) (sym (tested .joins .ensures) ∙ w .0 .left) (w .1) (c .union .ensures))
+          (c .before .if1 .came),
     )
 
 returns : tie.Need-returns Inv-loop μ-loop
@@ -59,11 +62,11 @@ joined-spec =
     (λ c. search needs)
     (λ c. search needs)
     (λ c. search needs)
+    (λ c. search needs)
+    (λ c. search needs)
+    (λ c. search needs)
+    (λ c. search needs)
     (λ c κs. search needs)
-    (λ c. search needs)
-    (λ c. search needs)
-    (λ c. search needs)
-    (λ c. search needs)
     (λ c κs. search needs)
     (λ c. search needs)
     (λ c. search needs)
