@@ -1,2 +1,3 @@
 pub mod RuleLists
+pub mod Roles
 pub mod ListingLaws
