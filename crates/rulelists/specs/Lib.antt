@@ -1,3 +1,4 @@
 pub mod RuleLists
 pub mod Roles
 pub mod ListingLaws
+pub mod RoleLaws
