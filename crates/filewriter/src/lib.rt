@@ -5,6 +5,7 @@ ghost use mathlib.Core.Path.{_≡_};
 ghost use Prim.Native.Nat.{_≤_, _<_};
 ghost use Rattle.filewriter.specs.FileTable.{keptHead, keptTable, ruleAt, costAt, fileBytes, measuredOf};
 ghost use Rattle.linewriter.specs.Writing.{wrote};
+ghost use Rattle.rulelists.specs.Roles.{rolesTable};
 
 // The bytes of a rule file, its rules, their cost, and the parts that they list.
 pub struct Measured {
@@ -117,12 +118,13 @@ fn write_slot<'a>(
     inside: &'a [u64; 896],
     kinds: &'a [u64; 2],
     permissions: &'a [u64; 512],
+    roles: &'a [u64; 512],
     operations: usize,
     scratch: &'a [u64],
     i: usize,
     out: &mut [u8],
 ) -> usize
-    requires { ⌜ (operations ≤ 16) × (length (now scratch) ≡ 2048) × (i < 512) × (length (ruleAt (now kept) (now distinct) (now having) (now inside) (now kinds) (now permissions) operations (now scratch) i) ≤ length (now out)) ⌝ }
+    requires { ⌜ (operations ≤ 16) × (length (now scratch) ≡ 2048) × (now roles ≡ rolesTable (now scratch)) × (i < 512) × (length (ruleAt (now kept) (now distinct) (now having) (now inside) (now kinds) (now permissions) operations (now scratch) i) ≤ length (now out)) ⌝ }
     ensures { λ r. ⌜ (now (out .exit) ≡ wrote (ruleAt (now (kept .entry)) (now (distinct .entry)) (now (having .entry)) (now (inside .entry)) (now (kinds .entry)) (now (permissions .entry)) operations (now (scratch .entry)) i) (now (out .entry))) × (r ≡ length (ruleAt (now (kept .entry)) (now (distinct .entry)) (now (having .entry)) (now (inside .entry)) (now (kinds .entry)) (now (permissions .entry)) operations (now (scratch .entry)) i)) ⌝ }
 {
     if merging::is_head(scratch, i) {
@@ -136,6 +138,7 @@ fn write_slot<'a>(
             scratch,
             i,
             kept[i],
+            roles[i],
             out,
         );
     }
@@ -183,6 +186,8 @@ fn measure_into<'a>(
     requires { ⌜ (operations ≤ 16) × (length (now scratch) ≡ 2048) × (length (now buffer) ≡ 12288) ⌝ }
     ensures { λ r. ⌜ r ≡ measuredOf (now (kept .entry)) (now (distinct .entry)) (now (having .entry)) (now (inside .entry)) (now (kinds .entry)) (now (permissions .entry)) operations (now (scratch .entry)) ⌝ }
 {
+    let mut roles = [0u64; 512];
+    rulelists::roles_of_groups(scratch, &mut roles);
     let mut bytes: usize = 0;
     let mut rules: usize = 0;
     let mut cost: usize = 0;
@@ -195,6 +200,7 @@ fn measure_into<'a>(
             inside,
             kinds,
             permissions,
+            &roles,
             operations,
             scratch,
             i,
@@ -248,11 +254,12 @@ pub fn write_rules<'a>(
     inside: &'a [u64; 896],
     kinds: &'a [u64; 2],
     permissions: &'a [u64; 512],
+    roles: &'a [u64; 512],
     operations: usize,
     scratch: &'a [u64],
     out: &mut [u8],
 )
-    requires { ⌜ (operations ≤ 16) × (length (now scratch) ≡ 2048) × (length (fileBytes (now kept) (now distinct) (now having) (now inside) (now kinds) (now permissions) operations (now scratch)) ≤ length (now out)) ⌝ }
+    requires { ⌜ (operations ≤ 16) × (length (now scratch) ≡ 2048) × (now roles ≡ rolesTable (now scratch)) × (length (fileBytes (now kept) (now distinct) (now having) (now inside) (now kinds) (now permissions) operations (now scratch)) ≤ length (now out)) ⌝ }
     ensures { λ _. ⌜ now (out .exit) ≡ wrote (fileBytes (now (kept .entry)) (now (distinct .entry)) (now (having .entry)) (now (inside .entry)) (now (kinds .entry)) (now (permissions .entry)) operations (now (scratch .entry))) (now (out .entry)) ⌝ }
 {
     let mut at: usize = 0;
@@ -264,6 +271,7 @@ pub fn write_rules<'a>(
             inside,
             kinds,
             permissions,
+            roles,
             operations,
             scratch,
             i,

@@ -13,29 +13,31 @@ use Rattle.filewriter.proofs.measure_into.Statement.{statement}
 use Rattle.filewriter.proofs.measure_into.Tie as tie
 
 abbrev Inv-loop : tie.InvT-loop
-Inv-loop kept distinct having inside kinds permissions operations scratch buffer₀ bytes₀ rules₀ cost₀ parts₀ i₀ buffer bytes rules cost parts i = (length buffer ≡ 12288) × Counted kept distinct having inside kinds permissions operations scratch bytes rules cost parts i
+Inv-loop kept distinct having inside kinds permissions operations scratch buffer₀ roles bytes₀ rules₀ cost₀ parts₀ i₀ buffer bytes rules cost parts i = (length buffer ≡ 12288) × Counted kept distinct having inside kinds permissions operations scratch bytes rules cost parts i
 
 abbrev μ-loop : tie.MeasureT-loop
-μ-loop kept distinct having inside kinds permissions operations scratch buffer₀ bytes₀ rules₀ cost₀ parts₀ i₀ buffer bytes rules cost parts i = 512 - i
+μ-loop kept distinct having inside kinds permissions operations scratch buffer₀ roles bytes₀ rules₀ cost₀ parts₀ i₀ buffer bytes rules cost parts i = 512 - i
 
 loop-holds : tie.Need-loop-holds Inv-loop μ-loop
-loop-holds c = let a = c .before .before .args in (c .before .before .pre .2, counted-none (a .kept .now) (a .distinct .now) (a .having .now) (a .inside .now) (a .kinds .now) (a .permissions .now) (a .operations) (a .scratch .now))
+loop-holds c = let a = c .before .before .before .before .args in (c .before .before .before .before .pre .2, counted-none (a .kept .now) (a .distinct .now) (a .having .now) (a .inside .now) (a .kinds .now) (a .permissions .now) (a .operations) (a .scratch .now))
 
 write-slot-requires : tie.Need-write-slot-requires Inv-loop μ-loop
 write-slot-requires c κs =
-    let l = c .before .before .loop in
-    let s = c .before .before .before .before .before in
+    let d = c .before .before in
+    let l = d .before .loop in
+    let t = d .before .before in
+    let s = t .before .before .before .before in
     let a = s .args in
     let m = rule-most (a .kept .now) (a .distinct .now) (a .having .now) (a .inside .now) (a .kinds .now) (a .permissions .now) (a .operations) (a .scratch .now) (l .i) in
     let b = l .inv .0 in
-    (s .pre .0, s .pre .1, c .before .loop-test .taken, omega (arith, m, b))
+    (s .pre .0, s .pre .1, t .roles-of-groups .ensures, d .loop-test .taken, omega (arith, m, b))
 
 add-bytes : tie.Need-add-bytes Inv-loop μ-loop
 add-bytes c =
     let w = c .before .before .write-slot .ensures in
-    let d = c .before .before .before .before in
+    let d = c .before .before .before .before .before in
     let l = d .before .loop in
-    let a = d .before .before .before .before .args in
+    let a = d .before .before .before .before .before .before .args in
     let n = l .inv .1 in
     let t = d .loop-test .taken in
     let m = rule-most (a .kept .now) (a .distinct .now) (a .having .now) (a .inside .now) (a .kinds .now) (a .permissions .now) (a .operations) (a .scratch .now) (l .i) in
@@ -45,9 +47,9 @@ add-bytes c =
 
 add-cost : tie.Need-add-cost Inv-loop μ-loop
 add-cost c =
-    let d = c .before .before .before .before .before in
+    let d = c .before .before .before .before .before .before in
     let l = d .before .loop in
-    let a = d .before .before .before .before .args in
+    let a = d .before .before .before .before .before .before .args in
     let n = l .inv .1 in
     let t = d .loop-test .taken in
     let m = cost-low (a .kept .now) (a .distinct .now) (a .having .now) (a .inside .now) (a .kinds .now) (a .scratch .now) (l .i) in
@@ -57,7 +59,7 @@ add-cost c =
 
 add-rules : tie.Need-add-rules Inv-loop μ-loop
 add-rules c =
-    let d = c .before .before .before .before .before .before .before in
+    let d = c .before .before .before .before .before .before .before .before in
     let l = d .before .loop in
     let t = d .loop-test .taken in
     let k = l .inv .1 .rules-low in
@@ -67,7 +69,7 @@ add-rules c =
 
 add-parts : tie.Need-add-parts Inv-loop μ-loop
 add-parts c =
-    let d = c .before .before .before .before .before .before .before .before .before in
+    let d = c .before .before .before .before .before .before .before .before .before .before in
     let l = d .before .loop in
     let t = d .loop-test .taken in
     let k = l .inv .1 .parts-low in
@@ -79,9 +81,9 @@ loop-again : tie.Need-loop-again Inv-loop μ-loop
 loop-again c =
     let p = c .before .before .before .before in
     let w = p .before .before .before .write-slot in
-    let d = p .before .before .before .before .before in
+    let d = p .before .before .before .before .before .before in
     let l = d .before .loop in
-    let a = d .before .before .before .before .args in
+    let a = d .before .before .before .before .before .before .args in
     let t = d .loop-test .taken in
     let m = rule-most (a .kept .now) (a .distinct .now) (a .having .now) (a .inside .now) (a .kinds .now) (a .permissions .now) (a .operations) (a .scratch .now) (l .i) in
     let b = l .inv .0 in (
@@ -89,19 +91,19 @@ loop-again c =
       counted-more (a .kept .now) (a .distinct .now) (a .having .now) (a .inside .now) (a .kinds .now) (a .permissions .now) (a .operations) (a .scratch .now) (l .bytes) (l .rules) (l .cost) (l .parts) (l .i) _ _ _ _ (l .inv .1) t (w .ensures .1) (c .before .before .one-if .ensures ∙ ap (λ (x : Bool). cond x 1 0) (c .before .before .before .is-head .ensures)) (p .cost-slot .ensures) (c .one-if2 .ensures ∙ ap (λ (x : Bool). cond x 1 0) (c .before .is-part .ensures)),
     )
 
-add-t19 : tie.Need-add-t19 Inv-loop μ-loop
-add-t19 c =
+add-t23 : tie.Need-add-t23 Inv-loop μ-loop
+add-t23 c =
     let k = c .before .loop .inv .1 .bytes-low in
     let i = c .before .loop .inv .1 .within in
     omega (arith, k, i)
 
 same-length : tie.Need-same-length Inv-loop μ-loop
-same-length c = c .before .loop .inv .0 ∙ sym (c .before .before .before .before .pre .2)
+same-length c = c .before .loop .inv .0 ∙ sym (c .before .before .before .before .before .before .pre .2)
 
 returns : tie.Need-returns Inv-loop μ-loop
 returns c =
     let l = c .before .loop in
-    let a = c .before .before .before .before .args in
+    let a = c .before .before .before .before .before .before .args in
     let w = l .inv .1 .within in
     let e = c .loop-test .left in
     counted-end (a .kept .now) (a .distinct .now) (a .having .now) (a .inside .now) (a .kinds .now) (a .permissions .now) (a .operations) (a .scratch .now) (l .bytes) (l .rules) (l .cost) (l .parts) (l .i) (l .inv .1) (omega (arith, w, e))
@@ -112,6 +114,7 @@ measure-into-spec =
     (tie.spec
     Inv-loop
     μ-loop
+    (λ c κs. search needs)
     loop-holds
     write-slot-requires
     add-bytes
@@ -126,6 +129,6 @@ measure-into-spec =
     (λ c. search needs)
     (λ c. search needs)
     loop-again
-    add-t19
+    add-t23
     same-length
     returns)
