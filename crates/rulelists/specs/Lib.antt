@@ -1,3 +1,5 @@
 pub mod RuleLists
 pub mod Roles
+pub mod Sizes
 pub mod ListingLaws
+pub mod SizeLaws
