@@ -1,3 +1,4 @@
 pub mod RuleTable
 pub mod SectionLaws
 pub mod WriterLaws
+pub mod SizeLaws
