@@ -19,7 +19,7 @@ abbrev runs : tie.Start Inv-loop μ-loop → ℕ → List ℕ
 runs s = atomBytesAt (s .args .kept)
 
 loop-holds : tie.Need-loop-holds Inv-loop μ-loop
-loop-holds c = let s = c .before .before in atoms-begin (s .args .kept) (c .kept-atoms .result) (now (s .args .out)) (c .kept-atoms .ensures) (s .pre)
+loop-holds c = let s = c .before .before in atoms-begin (s .args .kept) (c .atoms-kept .result) (now (s .args .out)) (c .atoms-kept .ensures) (s .pre)
 
 sub-put-atom : tie.Need-sub-put-atom Inv-loop μ-loop
 sub-put-atom c =
