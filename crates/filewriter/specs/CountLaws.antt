@@ -12,9 +12,11 @@ use Rattle.rulewriter.specs.RuleTable.{ruleBytesIn}
 use Rattle.rulewriter.specs.SectionLaws.{bytes-most}
 use Rattle.linewriter.specs.Writing.{wrote, length-wrote, Runs, runs-end}
 use Rattle.loaded.specs.Record.{tableOf}
+use Rattle.loaded.specs.RecordLaws.{table-get}
 use Rattle.rulelines.specs.ListLaws.{each-more, sum-more, keep-more}
 use Rattle.rulelines.specs.RuleBytes.{atomSet}
 use Rattle.rulelists.specs.ListingLaws.{costs-most}
+use Rattle.rulelists.specs.Roles.{rolesFor, rolesTable}
 use Rattle.sets.specs.LoopLaws.{table-unique}
 use Rattle.sets.specs.MaskLaws.{size-most}
 use Rattle.sets.specs.Tests.{keep, each, only, upTo, sum}
@@ -55,6 +57,13 @@ module _ (links matches known attributes : List ℕ) (users resources operations
       → out ≡ keptTable links matches known attributes users resources operations t
   unfolding keptTable tableOf
   kept-unique out e h = table-unique 512 out (keptHead links matches known attributes users resources operations t) e h
+
+-- ---- the roles that have a part
+
+-- in a table of them, slot by slot
+pub roles-at : (roles t : List ℕ) (i : ℕ) → i < 512 → roles ≡ rolesTable t → getD roles i 0 ≡ rolesFor t i
+unfolding rolesTable
+roles-at roles t i h e = ap (λ (l : List ℕ). getD l i 0) e ∙ table-get 512 (rolesFor t) i h
 
 -- ---- what one slot can take
 

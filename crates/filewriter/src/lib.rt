@@ -5,6 +5,8 @@ ghost use mathlib.Core.Path.{_≡_};
 ghost use Prim.Native.Nat.{_≤_, _<_};
 ghost use Rattle.filewriter.specs.FileTable.{keptHead, keptTable, ruleAt, costAt, fileBytes, measuredOf};
 ghost use Rattle.linewriter.specs.Writing.{wrote};
+ghost use Rattle.rulelists.specs.Roles.{rolesTable};
+use rulelists::Size;
 
 // The bytes of a rule file, its rules, their cost, and the parts that they list.
 pub struct Measured {
@@ -117,12 +119,13 @@ fn write_slot<'a>(
     inside: &'a [u64; 896],
     kinds: &'a [u64; 2],
     permissions: &'a [u64; 512],
+    roles: &'a [u64; 512],
     operations: usize,
     scratch: &'a [u64],
     i: usize,
     out: &mut [u8],
 ) -> usize
-    requires { ⌜ (operations ≤ 16) × (length (now scratch) ≡ 2048) × (i < 512) × (length (ruleAt (now kept) (now distinct) (now having) (now inside) (now kinds) (now permissions) operations (now scratch) i) ≤ length (now out)) ⌝ }
+    requires { ⌜ (operations ≤ 16) × (length (now scratch) ≡ 2048) × (now roles ≡ rolesTable (now scratch)) × (i < 512) × (length (ruleAt (now kept) (now distinct) (now having) (now inside) (now kinds) (now permissions) operations (now scratch) i) ≤ length (now out)) ⌝ }
     ensures { λ r. ⌜ (now (out .exit) ≡ wrote (ruleAt (now (kept .entry)) (now (distinct .entry)) (now (having .entry)) (now (inside .entry)) (now (kinds .entry)) (now (permissions .entry)) operations (now (scratch .entry)) i) (now (out .entry))) × (r ≡ length (ruleAt (now (kept .entry)) (now (distinct .entry)) (now (having .entry)) (now (inside .entry)) (now (kinds .entry)) (now (permissions .entry)) operations (now (scratch .entry)) i)) ⌝ }
 {
     if merging::is_head(scratch, i) {
@@ -136,29 +139,44 @@ fn write_slot<'a>(
             scratch,
             i,
             kept[i],
+            roles[i],
             out,
         );
     }
     0
 }
 
-// What the rule of a slot's group costs; nothing where the slot is no head.
-fn cost_slot<'a>(
+// How long the rule of a slot's group is and what it costs; nothing where the slot is no head.
+fn size_slot<'a>(
     kept: &'a [u64; 512],
     distinct: &'a [u64; 896],
     having: &'a [u64; 896],
     inside: &'a [u64; 896],
     kinds: &'a [u64; 2],
+    permissions: &'a [u64; 512],
+    roles: &'a [u64; 512],
+    operations: usize,
     scratch: &'a [u64],
     i: usize,
-) -> usize
-    requires { ⌜ (length (now scratch) ≡ 2048) × (i < 512) ⌝ }
-    ensures { λ r. ⌜ r ≡ costAt (now (kept .entry)) (now (distinct .entry)) (now (having .entry)) (now (inside .entry)) (now (kinds .entry)) (now (scratch .entry)) i ⌝ }
+) -> Size
+    requires { ⌜ (operations ≤ 16) × (length (now scratch) ≡ 2048) × (i < 512) × (now roles ≡ rolesTable (now scratch)) ⌝ }
+    ensures { λ r. ⌜ (r .bytes ≡ length (ruleAt (now (kept .entry)) (now (distinct .entry)) (now (having .entry)) (now (inside .entry)) (now (kinds .entry)) (now (permissions .entry)) operations (now (scratch .entry)) i)) × (r .cost ≡ costAt (now (kept .entry)) (now (distinct .entry)) (now (having .entry)) (now (inside .entry)) (now (kinds .entry)) (now (scratch .entry)) i) ⌝ }
 {
     if merging::is_head(scratch, i) {
-        return rulelists::rule_cost(distinct, having, inside, kinds, scratch, i, kept[i]);
+        return rulewriter::rule_size(
+            distinct,
+            having,
+            inside,
+            kinds,
+            permissions,
+            operations,
+            scratch,
+            i,
+            kept[i],
+            roles[i],
+        );
     }
-    0
+    Size { bytes: 0, cost: 0 }
 }
 
 fn one_if(b: bool) -> usize
@@ -169,18 +187,19 @@ fn one_if(b: bool) -> usize
 
 // ---- all slots
 
-fn measure_into<'a>(
+// Measures the rule file: its rules are counted, and none is written.
+pub fn measure<'a>(
     kept: &'a [u64; 512],
     distinct: &'a [u64; 896],
     having: &'a [u64; 896],
     inside: &'a [u64; 896],
     kinds: &'a [u64; 2],
     permissions: &'a [u64; 512],
+    roles: &'a [u64; 512],
     operations: usize,
     scratch: &'a [u64],
-    buffer: &mut [u8],
 ) -> Measured
-    requires { ⌜ (operations ≤ 16) × (length (now scratch) ≡ 2048) × (length (now buffer) ≡ 12288) ⌝ }
+    requires { ⌜ (operations ≤ 16) × (length (now scratch) ≡ 2048) × (now roles ≡ rolesTable (now scratch)) ⌝ }
     ensures { λ r. ⌜ r ≡ measuredOf (now (kept .entry)) (now (distinct .entry)) (now (having .entry)) (now (inside .entry)) (now (kinds .entry)) (now (permissions .entry)) operations (now (scratch .entry)) ⌝ }
 {
     let mut bytes: usize = 0;
@@ -188,19 +207,20 @@ fn measure_into<'a>(
     let mut cost: usize = 0;
     let mut parts: usize = 0;
     for i in 0..512 {
-        bytes += write_slot(
+        let size = size_slot(
             kept,
             distinct,
             having,
             inside,
             kinds,
             permissions,
+            roles,
             operations,
             scratch,
             i,
-            buffer,
         );
-        cost += cost_slot(kept, distinct, having, inside, kinds, scratch, i);
+        bytes += size.bytes;
+        cost += size.cost;
         rules += one_if(merging::is_head(scratch, i));
         parts += one_if(merging::is_part(scratch, i));
     }
@@ -212,34 +232,6 @@ fn measure_into<'a>(
     }
 }
 
-// Measures the rule file by writing each rule into a buffer that has room for any.
-pub fn measure<'a>(
-    kept: &'a [u64; 512],
-    distinct: &'a [u64; 896],
-    having: &'a [u64; 896],
-    inside: &'a [u64; 896],
-    kinds: &'a [u64; 2],
-    permissions: &'a [u64; 512],
-    operations: usize,
-    scratch: &'a [u64],
-) -> Measured
-    requires { ⌜ (operations ≤ 16) × (length (now scratch) ≡ 2048) ⌝ }
-    ensures { λ r. ⌜ r ≡ measuredOf (now (kept .entry)) (now (distinct .entry)) (now (having .entry)) (now (inside .entry)) (now (kinds .entry)) (now (permissions .entry)) operations (now (scratch .entry)) ⌝ }
-{
-    let mut buffer = [0u8; 12288];
-    measure_into(
-        kept,
-        distinct,
-        having,
-        inside,
-        kinds,
-        permissions,
-        operations,
-        scratch,
-        &mut buffer,
-    )
-}
-
 // Writes the rule file. A rule is written from the place where the rule before it ended.
 pub fn write_rules<'a>(
     kept: &'a [u64; 512],
@@ -248,11 +240,12 @@ pub fn write_rules<'a>(
     inside: &'a [u64; 896],
     kinds: &'a [u64; 2],
     permissions: &'a [u64; 512],
+    roles: &'a [u64; 512],
     operations: usize,
     scratch: &'a [u64],
     out: &mut [u8],
 )
-    requires { ⌜ (operations ≤ 16) × (length (now scratch) ≡ 2048) × (length (fileBytes (now kept) (now distinct) (now having) (now inside) (now kinds) (now permissions) operations (now scratch)) ≤ length (now out)) ⌝ }
+    requires { ⌜ (operations ≤ 16) × (length (now scratch) ≡ 2048) × (now roles ≡ rolesTable (now scratch)) × (length (fileBytes (now kept) (now distinct) (now having) (now inside) (now kinds) (now permissions) operations (now scratch)) ≤ length (now out)) ⌝ }
     ensures { λ _. ⌜ now (out .exit) ≡ wrote (fileBytes (now (kept .entry)) (now (distinct .entry)) (now (having .entry)) (now (inside .entry)) (now (kinds .entry)) (now (permissions .entry)) operations (now (scratch .entry))) (now (out .entry)) ⌝ }
 {
     let mut at: usize = 0;
@@ -264,6 +257,7 @@ pub fn write_rules<'a>(
             inside,
             kinds,
             permissions,
+            roles,
             operations,
             scratch,
             i,

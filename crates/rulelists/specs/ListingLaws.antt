@@ -3,8 +3,7 @@
 use Prim.Native.Nat.{ℕ, zero, suc, _+_, _*_, _/_, _%_, _≤_, _<_}
 use borrow.Author.Tests.{eq-eqb, ne-eqb, ltb-true, ltb-false}
 use lib.Dec.{eqb, ltb}
-use lib.ListN.{length, getD, take, drop}
-use lib.Seq.{take-at}
+use lib.ListN.{length, getD}
 use mathlib.Core.Bool.{Bool, true, false, cond, _&&_, not}
 use mathlib.Core.List.{List, [], _∷_, map}
 use mathlib.Core.Path.{_≡_, refl, sym, ap, ap₂, _∙_, subst}
@@ -55,7 +54,7 @@ unfolding setPlace
 set-declared kinds i b h k e = rw (ne-eqb i 6 h, ne-eqb i 13 k) e
 
 -- the members on the side of a place
-place-members : (t : List ℕ) (head i : ℕ) → i < 14 → getD t (4 * head + i / 7) 0 ≡ membersOf (wordsAt t head) (placeSide i)
+pub place-members : (t : List ℕ) (head i : ℕ) → i < 14 → getD t (4 * head + i / 7) 0 ≡ membersOf (wordsAt t head) (placeSide i)
 place-members t head i h = test (ltb i 7)
     (λ e. let l = ltb-true i 7 e in let n : 4 * head + i / 7 ≡ 4 * head = omega arith in rw e (ap (λ (k : ℕ). getD t k 0) n))
     (λ e. let l = ltb-false i 7 e in let n : 4 * head + i / 7 ≡ 4 * head + 1 = omega arith in rw e (ap (λ (k : ℕ). getD t k 0) n))
@@ -173,26 +172,7 @@ classes-most permissions operations t head k =
 -- ---- cost
 
 module _ (distinct having inside kinds : List ℕ) (t : List ℕ) (head kept i : ℕ) where
-  -- a conjunct that is not kept costs nothing
-  pub cost-none : bit kept i ≡ false → 0 ≡ placeCostIn distinct having inside kinds t head kept i
-  unfolding placeCostIn
-  cost-none e = rw e refl
-
-  -- one of sets costs their elements
-  pub cost-sets : (list rest : List ℕ) (n r : ℕ) → Is (bit kept i) → Is (setPlace kinds i) → n ≡ length (listedAt distinct having inside t head i) → list ≡ wrote (listedAt distinct having inside t head i) rest
-      → r ≡ sum size (take n list) → r ≡ placeCostIn distinct having inside kinds t head kept i
-  unfolding placeCostIn
-  cost-sets list rest n r b s e q h =
-      h ∙ ap (λ (l : List ℕ). sum size (take n l)) q
-      ∙ ap (sum size) (take-at (listedAt distinct having inside t head i) (drop (length (listedAt distinct having inside t head i)) rest) n (sym e))
-      ∙ rw (b, s) refl
-
-  -- one of single values costs as many as they are
-  pub cost-singles : (n : ℕ) → Is (bit kept i) → setPlace kinds i ≡ false → n ≡ length (listedAt distinct having inside t head i) → n ≡ placeCostIn distinct having inside kinds t head kept i
-  unfolding placeCostIn
-  cost-singles n b s e = e ∙ rw (b, s) refl
-
-  -- and none costs more than 4096
+  -- a conjunct costs no more than 4096
   pub cost-most : placeCostIn distinct having inside kinds t head kept i ≤ 4096
   unfolding placeCostIn
   cost-most = go (bit kept i) (setPlace kinds i) (listedAt distinct having inside t head i) (listed-most distinct having inside t head i)

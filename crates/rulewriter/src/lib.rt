@@ -1,12 +1,17 @@
-// Writes a mined rule. Each function writes at the front of the slice that it is
+// Writes a mined rule, and counts how long it is without writing it. A function that writes does so at the front of the slice that it is
 // lent, answers how many bytes it wrote, and leaves what stands behind them as it was.
 ghost use lib.ListN.{length};
 ghost use mathlib.Core.Path.{_≡_};
 ghost use Prim.Native.Nat.{_≤_, _<_};
 ghost use Rattle.files.specs.RoleFile.{sideBy};
 ghost use Rattle.linewriter.specs.Writing.{wrote};
+ghost use Rattle.rulelines.specs.RuleBytes.{atomSet};
+ghost use Rattle.rulelists.specs.Roles.{rolesFor};
+ghost use Rattle.rulelists.specs.RuleLists.{classesAt, ruleCostIn};
 ghost use Rattle.rulewriter.specs.RuleTable.{keptAs, placeBytesIn, kindBytesIn, conjunctBytesIn, atomBytesAt, atomBytesIn, roleBytesIn, partBytesIn, ruleBytesIn, sectionBytesIn};
+ghost use Rattle.sets.specs.Tests.{upTo, sum};
 ghost use Rattle.words.specs.Flags.{placeSide};
+use rulelists::Size;
 
 // ---- lines
 
@@ -136,14 +141,17 @@ fn put_atom(kept: u64, atom: usize, out: &mut [u8]) -> usize
     0
 }
 
-// The lines 27.
+// The lines 27. Only the atoms that are kept are visited.
 fn put_atoms(kept: u64, out: &mut [u8]) -> usize
     requires { ⌜ length (atomBytesIn kept) ≤ length (now out) ⌝ }
     ensures { λ r. ⌜ (r ≡ length (atomBytesIn kept)) × (now (out .exit) ≡ wrote (atomBytesIn kept) (now (out .entry))) ⌝ }
 {
     let mut at: usize = 0;
-    for j in 0..36 {
+    let mut rest = rulelists::atoms_kept(kept);
+    while 0 < rest {
+        let j = sets::least(rest);
         at += put_atom(kept, j, &mut out[at..]);
+        rest = matches::without_least(rest);
     }
     at
 }
@@ -168,22 +176,25 @@ fn put_role<'a>(
     linewriter::put_classes(list, count, role, out)
 }
 
-// The lines 28.
+// The lines 28. Only the roles that have a part in the group are visited.
 fn put_parts<'a>(
     permissions: &'a [u64; 512],
     operations: usize,
     scratch: &'a [u64],
     head: usize,
+    roles: u64,
     out: &mut [u8],
 ) -> usize
-    requires { ⌜ (operations ≤ 16) × (length (now scratch) ≡ 2048) × (head < 512) ⌝ }
+    requires { ⌜ (operations ≤ 16) × (length (now scratch) ≡ 2048) × (head < 512) × (roles ≡ rolesFor (now scratch) head) ⌝ }
     requires { ⌜ length (partBytesIn (now permissions) operations (now scratch) head) ≤ length (now out) ⌝ }
     ensures { λ r. ⌜ (r ≡ length (partBytesIn (now (permissions .entry)) operations (now (scratch .entry)) head)) × (now (out .exit) ≡ wrote (partBytesIn (now (permissions .entry)) operations (now (scratch .entry)) head) (now (out .entry))) ⌝ }
 {
     let mut at: usize = 0;
     // One list for all roles, whatever it holds.
     let mut list = [0u64; 64];
-    for k in 0..32 {
+    let mut rest = roles;
+    while 0 < rest {
+        let k = sets::least(rest);
         at += put_role(
             permissions,
             operations,
@@ -193,6 +204,7 @@ fn put_parts<'a>(
             &mut list,
             &mut out[at..],
         );
+        rest = matches::without_least(rest);
     }
     at
 }
@@ -210,10 +222,11 @@ fn put_section<'a>(
     scratch: &'a [u64],
     head: usize,
     kept: u64,
+    roles: u64,
     section: usize,
     out: &mut [u8],
 ) -> usize
-    requires { ⌜ (operations ≤ 16) × (length (now scratch) ≡ 2048) × (head < 512) ⌝ }
+    requires { ⌜ (operations ≤ 16) × (length (now scratch) ≡ 2048) × (head < 512) × (roles ≡ rolesFor (now scratch) head) ⌝ }
     requires { ⌜ length (sectionBytesIn (now distinct) (now having) (now inside) (now kinds) (now permissions) operations (now scratch) head kept section) ≤ length (now out) ⌝ }
     ensures { λ r. ⌜ (r ≡ length (sectionBytesIn (now (distinct .entry)) (now (having .entry)) (now (inside .entry)) (now (kinds .entry)) (now (permissions .entry)) operations (now (scratch .entry)) head kept section)) × (now (out .exit) ≡ wrote (sectionBytesIn (now (distinct .entry)) (now (having .entry)) (now (inside .entry)) (now (kinds .entry)) (now (permissions .entry)) operations (now (scratch .entry)) head kept section) (now (out .entry))) ⌝ }
 {
@@ -232,10 +245,11 @@ fn put_section<'a>(
     if section == 3 {
         return put_atoms(kept, out);
     }
-    put_parts(permissions, operations, scratch, head, out)
+    put_parts(permissions, operations, scratch, head, roles, out)
 }
 
-// Writes the rule of the group with this head, of whose 50 places these are kept, section by section; answers how many bytes it has.
+// Writes the rule of the group with this head, of whose 50 places these are kept and in which these roles have parts, section by section;
+// answers how many bytes it has.
 pub fn write_rule<'a>(
     distinct: &'a [u64; 896],
     having: &'a [u64; 896],
@@ -246,9 +260,10 @@ pub fn write_rule<'a>(
     scratch: &'a [u64],
     head: usize,
     kept: u64,
+    roles: u64,
     out: &mut [u8],
 ) -> usize
-    requires { ⌜ (operations ≤ 16) × (length (now scratch) ≡ 2048) × (head < 512) ⌝ }
+    requires { ⌜ (operations ≤ 16) × (length (now scratch) ≡ 2048) × (head < 512) × (roles ≡ rolesFor (now scratch) head) ⌝ }
     requires { ⌜ length (ruleBytesIn (now distinct) (now having) (now inside) (now kinds) (now permissions) operations (now scratch) head kept) ≤ length (now out) ⌝ }
     ensures { λ r. ⌜ (r ≡ length (ruleBytesIn (now (distinct .entry)) (now (having .entry)) (now (inside .entry)) (now (kinds .entry)) (now (permissions .entry)) operations (now (scratch .entry)) head kept)) × (now (out .exit) ≡ wrote (ruleBytesIn (now (distinct .entry)) (now (having .entry)) (now (inside .entry)) (now (kinds .entry)) (now (permissions .entry)) operations (now (scratch .entry)) head kept) (now (out .entry))) ⌝ }
 {
@@ -264,9 +279,60 @@ pub fn write_rule<'a>(
             scratch,
             head,
             kept,
+            roles,
             i,
             &mut out[at..],
         );
     }
     at
+}
+
+// ---- its size
+
+// How many parts the rule lists. Only the roles that have a part in the group are looked at.
+fn count_parts<'a>(
+    permissions: &'a [u64; 512],
+    operations: usize,
+    scratch: &'a [u64],
+    head: usize,
+    roles: u64,
+) -> usize
+    requires { ⌜ (operations ≤ 16) × (length (now scratch) ≡ 2048) × (head < 512) × (roles ≡ rolesFor (now scratch) head) ⌝ }
+    ensures { λ r. ⌜ r ≡ sum (λ k. length (classesAt (now (permissions .entry)) operations (now (scratch .entry)) head k)) (upTo 32) ⌝ }
+{
+    let mut n: usize = 0;
+    let mut rest = roles;
+    while 0 < rest {
+        let role = sets::least(rest);
+        n += rulelists::count_classes(permissions, operations, scratch, head, role);
+        rest = matches::without_least(rest);
+    }
+    n
+}
+
+// How many bytes the rule has that write_rule writes, and what it costs. One byte opens the rule, three have its operations; a line of an
+// atom has 3, one of a part 4.
+pub fn rule_size<'a>(
+    distinct: &'a [u64; 896],
+    having: &'a [u64; 896],
+    inside: &'a [u64; 896],
+    kinds: &'a [u64; 2],
+    permissions: &'a [u64; 512],
+    operations: usize,
+    scratch: &'a [u64],
+    head: usize,
+    kept: u64,
+    roles: u64,
+) -> Size
+    requires { ⌜ (operations ≤ 16) × (length (now scratch) ≡ 2048) × (head < 512) × (roles ≡ rolesFor (now scratch) head) ⌝ }
+    ensures { λ r. ⌜ (r .bytes ≡ length (ruleBytesIn (now (distinct .entry)) (now (having .entry)) (now (inside .entry)) (now (kinds .entry)) (now (permissions .entry)) operations (now (scratch .entry)) head kept)) × (r .cost ≡ ruleCostIn (now (distinct .entry)) (now (having .entry)) (now (inside .entry)) (now (kinds .entry)) (now (scratch .entry)) head kept) ⌝ }
+{
+    let conjuncts = rulelists::conjuncts_size(distinct, having, inside, kinds, scratch, head, kept);
+    let ops = sets::count(scratch[4 * head + 2]);
+    let atoms = sets::count(rulelists::atoms_kept(kept));
+    let parts = count_parts(permissions, operations, scratch, head, roles);
+    Size {
+        bytes: 4 + conjuncts.bytes + 3 * atoms + 4 * parts,
+        cost: conjuncts.cost + ops + atoms,
+    }
 }

@@ -11,16 +11,16 @@ use Rattle.filewriter.proofs.write_rules.Statement.{statement}
 use Rattle.filewriter.proofs.write_rules.Tie as tie
 
 abbrev Inv-loop : tie.InvT-loop
-Inv-loop kept distinct having inside kinds permissions operations scratch out₀ at₀ i₀ out at i = (i ≤ 512) × Runs (ruleAt kept distinct having inside kinds permissions operations scratch) 512 out₀ out at i
+Inv-loop kept distinct having inside kinds permissions roles operations scratch out₀ at₀ i₀ out at i = (i ≤ 512) × Runs (ruleAt kept distinct having inside kinds permissions operations scratch) 512 out₀ out at i
 
 abbrev μ-loop : tie.MeasureT-loop
-μ-loop kept distinct having inside kinds permissions operations scratch out₀ at₀ i₀ out at i = 512 - i
+μ-loop kept distinct having inside kinds permissions roles operations scratch out₀ at₀ i₀ out at i = 512 - i
 
 loop-holds : tie.Need-loop-holds Inv-loop μ-loop
 loop-holds c =
     let s = c .before .before in
     let a = s .args in
-    let r = file-room (a .kept .now) (a .distinct .now) (a .having .now) (a .inside .now) (a .kinds .now) (a .permissions .now) (a .operations) (a .scratch .now) (now (a .out)) (s .pre .2) in
+    let r = file-room (a .kept .now) (a .distinct .now) (a .having .now) (a .inside .now) (a .kinds .now) (a .permissions .now) (a .operations) (a .scratch .now) (now (a .out)) (s .pre .3) in
     (search needs, runs-begin (ruleAt (a .kept .now) (a .distinct .now) (a .having .now) (a .inside .now) (a .kinds .now) (a .permissions .now) (a .operations) (a .scratch .now)) 512 (now (a .out)) (omega (arith, r)))
 
 write-slot-requires : tie.Need-write-slot-requires Inv-loop μ-loop
@@ -29,7 +29,7 @@ write-slot-requires c κs =
     let s = c .before .before .before .before .before in
     let a = s .args in
     let t = c .before .loop-test .taken in
-    (s .pre .0, s .pre .1, t, runs-room (ruleAt (a .kept .now) (a .distinct .now) (a .having .now) (a .inside .now) (a .kinds .now) (a .permissions .now) (a .operations) (a .scratch .now)) 512 (now (a .out)) (l .out) (l .at) (l .i) t (l .inv .1))
+    (s .pre .0, s .pre .1, s .pre .2, t, runs-room (ruleAt (a .kept .now) (a .distinct .now) (a .having .now) (a .inside .now) (a .kinds .now) (a .permissions .now) (a .operations) (a .scratch .now)) 512 (now (a .out)) (l .out) (l .at) (l .i) t (l .inv .1))
 
 add-at : tie.Need-add-at Inv-loop μ-loop
 add-at c =
@@ -58,7 +58,7 @@ slice-write-out c =
     let a = s .args in
     let i = l .inv .0 in
     let e = c .loop-test .left in
-    file-ended (a .kept .now) (a .distinct .now) (a .having .now) (a .inside .now) (a .kinds .now) (a .permissions .now) (a .operations) (a .scratch .now) (now (a .out)) (l .out) (l .at) (l .i) (l .inv .1) (omega (arith, i, e)) (s .pre .2) .0
+    file-ended (a .kept .now) (a .distinct .now) (a .having .now) (a .inside .now) (a .kinds .now) (a .permissions .now) (a .operations) (a .scratch .now) (now (a .out)) (l .out) (l .at) (l .i) (l .inv .1) (omega (arith, i, e)) (s .pre .3) .0
 
 same-length : tie.Need-same-length Inv-loop μ-loop
 same-length c =
@@ -67,7 +67,7 @@ same-length c =
     let a = s .args in
     let i = l .inv .0 in
     let e = c .loop-test .left in
-    file-ended (a .kept .now) (a .distinct .now) (a .having .now) (a .inside .now) (a .kinds .now) (a .permissions .now) (a .operations) (a .scratch .now) (now (a .out)) (l .out) (l .at) (l .i) (l .inv .1) (omega (arith, i, e)) (s .pre .2) .2
+    file-ended (a .kept .now) (a .distinct .now) (a .having .now) (a .inside .now) (a .kinds .now) (a .permissions .now) (a .operations) (a .scratch .now) (now (a .out)) (l .out) (l .at) (l .i) (l .inv .1) (omega (arith, i, e)) (s .pre .3) .2
 
 returns : tie.Need-returns Inv-loop μ-loop
 returns c =
@@ -76,7 +76,7 @@ returns c =
     let a = s .args in
     let i = l .inv .0 in
     let e = c .loop-test .left in
-    file-ended (a .kept .now) (a .distinct .now) (a .having .now) (a .inside .now) (a .kinds .now) (a .permissions .now) (a .operations) (a .scratch .now) (now (a .out)) (l .out) (l .at) (l .i) (l .inv .1) (omega (arith, i, e)) (s .pre .2) .1
+    file-ended (a .kept .now) (a .distinct .now) (a .having .now) (a .inside .now) (a .kinds .now) (a .permissions .now) (a .operations) (a .scratch .now) (now (a .out)) (l .out) (l .at) (l .i) (l .inv .1) (omega (arith, i, e)) (s .pre .3) .1
 
 pub write-rules-spec : {M : Type 1} → statement M
 write-rules-spec =

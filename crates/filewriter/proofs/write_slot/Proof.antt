@@ -9,31 +9,32 @@ use lib.ListN.{length}
 use Rattle.filewriter.specs.CountLaws.{slot-head, slot-none, nothing-wrote}
 use Rattle.filewriter.specs.FileTable.{ruleAt}
 use Rattle.linewriter.specs.Writing.{wrote, length-wrote}
+use Rattle.rulelists.specs.RoleLaws.{roles-at}
 use Rattle.filewriter.proofs.write_slot.Statement.{statement}
 use Rattle.filewriter.proofs.write_slot.Tie as tie
 
 write-rule-requires : tie.Need-write-rule-requires
 write-rule-requires c κs =
-    let h = c .before .before in
+    let h = c .before .before .before in
     let s = h .before .before .before .before in
     let a = s .args in
     let l = ap length (slot-head (a .kept .now) (a .distinct .now) (a .having .now) (a .inside .now) (a .kinds .now) (a .permissions .now) (a .operations) (a .scratch .now) (a .i) (sym (h .before .is-head .ensures) ∙ h .if1 .taken)) in
-    let r = s .pre .3 in
-    ((s .pre .0, s .pre .1, s .pre .2), omega (arith, l, r))
+    let r = s .pre .4 in
+    ((s .pre .0, s .pre .1, s .pre .3, roles-at (a .scratch .now) (a .roles .now) (a .i) (s .pre .3) (s .pre .2)), omega (arith, l, r))
 
 same-length : tie.Need-same-length
 same-length c =
     let w = c .before .before in
-    let h = w .before .before .before in
+    let h = w .before .before .before .before in
     let s = h .before .before .before .before in
     let a = s .args in
     let e = slot-head (a .kept .now) (a .distinct .now) (a .having .now) (a .inside .now) (a .kinds .now) (a .permissions .now) (a .operations) (a .scratch .now) (a .i) (sym (h .before .is-head .ensures) ∙ h .if1 .taken) in
-    ap length (w .write-rule .ensures .1 ∙ ap (λ (b : List ℕ). wrote b (now (a .out))) e) ∙ length-wrote (ruleAt (a .kept .now) (a .distinct .now) (a .having .now) (a .inside .now) (a .kinds .now) (a .permissions .now) (a .operations) (a .scratch .now) (a .i)) (now (a .out)) (s .pre .3)
+    ap length (w .write-rule .ensures .1 ∙ ap (λ (b : List ℕ). wrote b (now (a .out))) e) ∙ length-wrote (ruleAt (a .kept .now) (a .distinct .now) (a .having .now) (a .inside .now) (a .kinds .now) (a .permissions .now) (a .operations) (a .scratch .now) (a .i)) (now (a .out)) (s .pre .4)
 
 returns : tie.Need-returns
 returns c =
     let w = c .before .before in
-    let h = w .before .before .before in
+    let h = w .before .before .before .before in
     let a = h .before .before .before .before .args in
     let e = slot-head (a .kept .now) (a .distinct .now) (a .having .now) (a .inside .now) (a .kinds .now) (a .permissions .now) (a .operations) (a .scratch .now) (a .i) (sym (h .before .is-head .ensures) ∙ h .if1 .taken) in
     (w .write-rule .ensures .1 ∙ ap (λ (b : List ℕ). wrote b (now (a .out))) e, w .write-rule .ensures .0 ∙ ap length e)
@@ -50,6 +51,8 @@ write-slot-spec =
     tie.close
     (tie.spec
     (λ c κs. search needs)
+    (λ c. search needs)
+    (λ c. search needs)
     (λ c. search needs)
     (λ c. search needs)
     write-rule-requires

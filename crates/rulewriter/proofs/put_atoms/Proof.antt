@@ -1,50 +1,75 @@
--- The invariant: the lines of the atoms before j are written. Assumes nothing.
-use Prim.Native.Nat.{ℕ, _-_, _≤_}
+-- The invariant: the lines of all atoms are written but for those that are left. What is left falls. Assumes nothing.
+use Prim.Native.Nat.{ℕ}
 use denote.Ref.{now}
 use mathlib.Core.List.{List}
 use native.Mathlib.Omega.{arith}
-use Rattle.linewriter.specs.Writing.{Runs, runs-begin, runs-room, runs-within, runs-more, runs-end}
 use Rattle.rulewriter.specs.RuleTable.{atomBytesAt, atomBytesIn}
+use Rattle.rulewriter.specs.VisitLaws.{Visits, atoms-begin, visits-at, visits-low, visits-room, visits-within, visits-fewer, visits-more, visits-end}
 use borrow.Author.Needs.{needs}
 use Rattle.rulewriter.proofs.put_atoms.Statement.{statement}
 use Rattle.rulewriter.proofs.put_atoms.Tie as tie
 
 abbrev Inv-loop : tie.InvT-loop
-Inv-loop kept out₀ at₀ j₀ out at j = (j ≤ 36) × Runs (atomBytesAt kept) 36 out₀ out at j
+Inv-loop kept out₀ at₀ rest₀ out at rest = Visits (atomBytesAt kept) 36 out₀ out at rest
 
 abbrev μ-loop : tie.MeasureT-loop
-μ-loop kept out₀ at₀ j₀ out at j = 36 - j
+μ-loop kept out₀ at₀ rest₀ out at rest = rest
 
 abbrev runs : tie.Start Inv-loop μ-loop → ℕ → List ℕ
-runs s = let a = s .args in atomBytesAt (a .kept)
+runs s = atomBytesAt (s .args .kept)
 
 loop-holds : tie.Need-loop-holds Inv-loop μ-loop
-unfolding atomBytesIn
-loop-holds c = let s = c .before in (search needs, runs-begin (runs s) 36 (now (s .args .out)) (s .pre))
+loop-holds c = let s = c .before .before in atoms-begin (s .args .kept) (c .atoms-kept .result) (now (s .args .out)) (c .atoms-kept .ensures) (s .pre)
+
+sub-put-atom : tie.Need-sub-put-atom Inv-loop μ-loop
+sub-put-atom c =
+    let d = c .before in
+    let turn = d .before .loop in
+    let s = d .before .before .before .before in
+    visits-at (runs s) 36 (omega arith) (now (s .args .out)) (turn .out) (turn .at) (turn .rest) (turn .inv)
+
+part-put-atom-start : tie.Need-part-put-atom-start Inv-loop μ-loop
+part-put-atom-start c =
+    let d = c .before in
+    let turn = d .before .loop in
+    let s = d .before .before .before .before in
+    visits-at (runs s) 36 (omega arith) (now (s .args .out)) (turn .out) (turn .at) (turn .rest) (turn .inv)
 
 put-atom-requires : tie.Need-put-atom-requires Inv-loop μ-loop
 put-atom-requires c κs =
-    let d = c .before in
+    let l = c .before in
+    let d = l .before in
     let turn = d .before .loop in
-    let s = d .before .before .before in
-    (search needs, runs-room (runs s) 36 (now (s .args .out)) (turn .out) (turn .at) (turn .j) (d .loop-test .taken) (turn .inv .1))
+    let s = d .before .before .before .before in
+    let low = visits-low (runs s) 36 (omega arith) (now (s .args .out)) (turn .out) (turn .at) (turn .rest) (l .least .result) (turn .inv) (d .loop-test .taken) (l .least .ensures) in
+    (low, visits-room (runs s) 36 (omega arith) (now (s .args .out)) (turn .out) (turn .at) (turn .rest) (l .least .result) (turn .inv) (d .loop-test .taken) (l .least .ensures))
 
 add-at : tie.Need-add-at Inv-loop μ-loop
 add-at c =
-    let d = c .before .before .before .before in
+    let l = c .before .before .before .before in
+    let d = l .before in
     let turn = d .before .loop in
-    let s = d .before .before .before in
-    let w = runs-within (runs s) 36 (now (s .args .out)) (turn .out) (turn .at) (turn .j) (d .loop-test .taken) (turn .inv .1) in
+    let s = d .before .before .before .before in
+    let w = visits-within (runs s) 36 (omega arith) (now (s .args .out)) (turn .out) (turn .at) (turn .rest) (l .least .result) (turn .inv) (d .loop-test .taken) (l .least .ensures) in
     let e = c .before .before .put-atom .ensures .0 in
-    omega (arith, s .good)
+    omega (arith, w, e, s .good)
+
+loop-less : tie.Need-loop-less Inv-loop μ-loop
+loop-less c =
+    let l = c .before .before .before .before .before in
+    let d = l .before in
+    let turn = d .before .loop in
+    let s = d .before .before .before .before in
+    visits-fewer (runs s) 36 (omega arith) (now (s .args .out)) (turn .out) (turn .at) (turn .rest) (l .least .result) (turn .inv) (d .loop-test .taken) (l .least .ensures) (c .without-least .result) (c .without-least .ensures)
 
 loop-again : tie.Need-loop-again Inv-loop μ-loop
 loop-again c =
-    let d = c .before .before .before .before in
+    let l = c .before .before .before .before .before in
+    let d = l .before in
     let turn = d .before .loop in
-    let s = d .before .before .before in
-    let p = c .before .before .put-atom in
-    (search needs, runs-more (runs s) 36 (now (s .args .out)) (turn .out) (turn .at) (turn .j) (d .loop-test .taken) (turn .inv .1) _ (p .result) (p .ensures .1) (p .ensures .0))
+    let s = d .before .before .before .before in
+    let p = c .before .before .before .put-atom in
+    visits-more (runs s) 36 (omega arith) (now (s .args .out)) (turn .out) (turn .at) (turn .rest) (l .least .result) (turn .inv) (d .loop-test .taken) (l .least .ensures) (c .without-least .result) (c .without-least .ensures) _ (p .result) (p .ensures .1) (p .ensures .0)
 
 same-length : tie.Need-same-length Inv-loop μ-loop
 same-length c = c .before .loop .inv .1 .long
@@ -53,8 +78,8 @@ returns : tie.Need-returns Inv-loop μ-loop
 unfolding atomBytesIn
 returns c =
     let turn = c .before .loop in
-    let s = c .before .before .before in
-    runs-end (runs s) 36 (now (s .args .out)) (turn .out) (turn .at) (turn .j) (omega arith) (turn .inv .1)
+    let s = c .before .before .before .before in
+    visits-end (runs s) 36 (omega arith) (now (s .args .out)) (turn .out) (turn .at) (turn .rest) (c .loop-test .left) (turn .inv)
 
 pub put-atoms-spec : {M : Type 1} → statement M
 put-atoms-spec =
@@ -62,14 +87,16 @@ put-atoms-spec =
     (tie.spec
     Inv-loop
     μ-loop
+    (λ c κs. search needs)
     loop-holds
-    (λ c. search needs)
-    (λ c. search needs)
+    (λ c κs. search needs)
+    sub-put-atom
+    part-put-atom-start
     (λ c. search needs)
     put-atom-requires
     add-at
-    (λ c. search needs)
-    (λ c. search needs)
+    (λ c κs. search needs)
+    loop-less
     loop-again
     same-length
     returns)

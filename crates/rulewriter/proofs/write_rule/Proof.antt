@@ -12,10 +12,10 @@ use Rattle.rulewriter.proofs.write_rule.Statement.{statement}
 use Rattle.rulewriter.proofs.write_rule.Tie as tie
 
 abbrev Inv-loop : tie.InvT-loop
-Inv-loop distinct having inside kinds permissions operations scratch head kept out₀ at₀ i₀ out at i = (i ≤ 5) × Runs (sectionBytesIn distinct having inside kinds permissions operations scratch head kept) 5 out₀ out at i
+Inv-loop distinct having inside kinds permissions operations scratch head kept roles out₀ at₀ i₀ out at i = (i ≤ 5) × Runs (sectionBytesIn distinct having inside kinds permissions operations scratch head kept) 5 out₀ out at i
 
 abbrev μ-loop : tie.MeasureT-loop
-μ-loop distinct having inside kinds permissions operations scratch head kept out₀ at₀ i₀ out at i = 5 - i
+μ-loop distinct having inside kinds permissions operations scratch head kept roles out₀ at₀ i₀ out at i = 5 - i
 
 abbrev runs : tie.Start Inv-loop μ-loop → ℕ → List ℕ
 runs s = let a = s .args in sectionBytesIn (a .distinct .now) (a .having .now) (a .inside .now) (a .kinds .now) (a .permissions .now) (a .operations) (a .scratch .now) (a .head) (a .kept)

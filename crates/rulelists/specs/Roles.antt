@@ -1,0 +1,17 @@
+-- The roles that have a part in a group, so that writing and measuring visit no others.
+-- Assumes nothing.
+use Prim.Native.Nat.{ℕ}
+use lib.Dec.{eqb}
+use mathlib.Core.Bool.{not}
+use mathlib.Core.List.{List}
+use Rattle.loaded.specs.Record.{tableOf}
+use Rattle.sets.specs.Sets.{maskOf}
+use Rattle.rulelists.specs.RuleLists.{memberSet}
+
+-- the roles that have a part in the group
+unfoldable pub rolesFor : List ℕ → ℕ → ℕ
+rolesFor t head = maskOf 32 (λ k. not (eqb (memberSet t head k) 0))
+
+-- slot by slot
+unfoldable pub rolesTable : List ℕ → List ℕ
+rolesTable t = tableOf 512 (rolesFor t)
