@@ -79,6 +79,8 @@ fn mine_tables<'a>(
         scratch,
         &mut kept,
     );
+    let mut grouped = [0u64; 512];
+    rulelists::roles_of_groups(scratch, &mut grouped);
     let m = filewriter::measure(
         &kept,
         distinct,
@@ -86,6 +88,7 @@ fn mine_tables<'a>(
         inside,
         kinds,
         permissions,
+        &grouped,
         operations,
         scratch,
     );
@@ -99,6 +102,7 @@ fn mine_tables<'a>(
         inside,
         kinds,
         permissions,
+        &grouped,
         operations,
         scratch,
         out,

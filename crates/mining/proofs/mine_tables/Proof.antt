@@ -19,21 +19,24 @@ kept-places-requires c κs =
     let s = g .before .before .before .before in
     (s .pre .0, s .pre .1, g .merge .ensures .0)
 
+roles-of-groups-requires : tie.Need-roles-of-groups-requires
+roles-of-groups-requires c κs = c .before .before .before .before .before .before .before .merge .ensures .0
+
 measure-requires : tie.Need-measure-requires
 measure-requires c κs =
-    let g = c .before .before .before .before .before .before .before in
+    let g = c .before .before .before .before .before .before .before .before .before .before .before in
     let s = g .before .before .before .before in
-    (s .pre .2, g .merge .ensures .0)
+    (s .pre .2, g .merge .ensures .0, c .before .before .before .roles-of-groups .ensures)
 
 same-length : tie.Need-same-length
 same-length c =
-    let g = c .before .before .before .before .before .before .before .before .before .before in
+    let g = c .before .before .before .before .before .before .before .before .before .before .before .before .before .before in
     g .merge .ensures .0 ∙ sym (g .before .before .before .before .pre .6)
 
 returns : tie.Need-returns
 returns c F Z T file n h q =
     let m = c .before .before in
-    let k = m .before .before .before in
+    let k = m .before .before .before .before .before .before .before in
     let g = k .before .before .before .before .before in
     let a = g .before .before .before .before .args in
     let w = g .merge .ensures .1 F Z (T .merging-by) in
@@ -43,32 +46,32 @@ returns c F Z T file n h q =
 
 write-rules-requires : tie.Need-write-rules-requires
 write-rules-requires c κs =
-    let d = c .before .before .before in
+    let d = c .before .before .before .before in
     let m = d .before .before in
-    let g = m .before .before .before .before .before .before .before .before in
+    let g = m .before .before .before .before .before .before .before .before .before .before .before .before in
     let s = g .before .before .before .before in
     let e = measured-long _ _ _ _ _ _ _ _ (m .measure .result) (m .measure .ensures) in
     let l = ltb-false (length (now (s .args .out))) (m .measure .result .bytes) (sym (d .before .lacks-room .ensures) ∙ d .if1 .left) in
-    (s .pre .2, g .merge .ensures .0, omega (arith, l, e))
+    (s .pre .2, g .merge .ensures .0, m .before .before .before .before .roles-of-groups .ensures, omega (arith, l, e))
 
 same-length-2 : tie.Need-same-length-2
 same-length-2 c =
-    let g = c .before .before .before .before .before .before .before .before .before .before .before .before .before .before .before .before in
+    let g = c .before .before .before .before .before .before .before .before .before .before .before .before .before .before .before .before .before .before .before .before .before in
     g .merge .ensures .0 ∙ sym (g .before .before .before .before .pre .6)
 
 same-length-3 : tie.Need-same-length-3
 same-length-3 c =
-    let d = c .before .before .before .before .before .before in
+    let d = c .before .before .before .before .before .before .before in
     let m = d .before .before in
-    let s = m .before .before .before .before .before .before .before .before .before .before .before .before in
+    let s = m .before .before .before .before .before .before .before .before .before .before .before .before .before .before .before .before in
     let l = ltb-false (length (now (s .args .out))) (m .measure .result .bytes) (sym (d .before .lacks-room .ensures) ∙ d .if1 .left) in
     wrote-long _ _ _ _ _ _ _ _ (m .measure .result) (m .measure .ensures) _ _ (c .before .before .write-rules .ensures) (omega (arith, l))
 
 returns-2 : tie.Need-returns-2
 returns-2 c F Z T file n h q =
-    let d = c .before .before .before .before .before .before in
+    let d = c .before .before .before .before .before .before .before in
     let m = d .before .before in
-    let k = m .before .before .before in
+    let k = m .before .before .before .before .before .before .before in
     let g = k .before .before .before .before .before in
     let a = g .before .before .before .before .args in
     let w = g .merge .ensures .1 F Z (T .merging-by) in
@@ -83,6 +86,7 @@ mine-tables-spec =
     (tie.spec
     merge-requires
     kept-places-requires
+    roles-of-groups-requires
     measure-requires
     (λ c κs. search needs)
     same-length
