@@ -1,11 +1,12 @@
 -- Who has the smallest value, found in the same pass as the value itself.
 -- Assumes nothing.
 use Prim.Native.Nat.{ℕ, _^_, _<_}
-use borrow.Author.Tests.{eqb-true, eq-eqb, ne-eqb}
-use lib.Dec.{eqb}
+use borrow.Author.Tests.{eqb-true, eq-eqb, ne-eqb, ltb-true}
+use lib.Dec.{eqb, ltb}
 use lib.ListN.{getD}
-use mathlib.Core.Bool.{Bool, true, false, _&&_, _||_, not, and-false}
+use mathlib.Core.Bool.{Bool, true, false, cond, _&&_, _||_, not, and-false}
 use mathlib.Core.List.{List}
+use mathlib.Core.Logic.{inl, inr}
 use mathlib.Core.Path.{_≡_, refl, sym, ap, ap₂, _∙_, subst}
 use native.Mathlib.Omega.{arith}
 use Rattle.distinct.specs.Filling.{havingOf}
@@ -13,8 +14,9 @@ use Rattle.matches.specs.Matches.{lessOne}
 use Rattle.matches.specs.MemberLaws.{bit-less}
 use Rattle.sets.specs.MaskLaws.{and-true, or-false, mask-lt, mask-unique, mask-same}
 use Rattle.sets.specs.Sets.{bit, bit-none, maskOf, bit-mask}
+use Rattle.sets.specs.Sorted.{numbers}
 use Rattle.sets.specs.Tests.{Is, and-l, and-r, or-r, test, fails, not-out}
-use Rattle.values.specs.ValueLaws.{SmallestSoFar}
+use Rattle.values.specs.ValueLaws.{SmallestSoFar, smallest-turn}
 
 module _ (vals : List ℕ) (members : ℕ) where
   -- those who have the value, of the members who are not left to be looked at
@@ -59,7 +61,7 @@ module _ (vals : List ℕ) (members : ℕ) where
     known x lx = ap (λ (k : ℕ). bit k x) i ∙ bit-mask 64 (λ x. (bit members x && not (bit rest x)) && eqb (getD vals x 0) v) x lx
 
     -- a smaller value: nobody looked at before has it
-    pub who-less : (v′ m′ : ℕ) → v′ ≡ getD vals y 0 → v′ < v → m′ ≡ maskOf 64 (λ k. bit 0 k || eqb k y) → m′ ≡ whoSoFar rest′ v′
+    who-less : (v′ m′ : ℕ) → v′ ≡ getD vals y 0 → v′ < v → m′ ≡ maskOf 64 (λ k. bit 0 k || eqb k y) → m′ ≡ whoSoFar rest′ v′
     who-less v′ m′ d c q =
         let o = one-bit 0 y m′ q in
         who-turn rest y rest′ v′ m′ h (s .part y b) e (o .0)
@@ -71,7 +73,7 @@ module _ (vals : List ℕ) (members : ℕ) where
         omega arith))
 
     -- the same value: one more has it
-    pub who-equal : (m′ : ℕ) → getD vals y 0 ≡ v → m′ ≡ maskOf 64 (λ k. bit m k || eqb k y) → m′ ≡ whoSoFar rest′ v
+    who-equal : (m′ : ℕ) → getD vals y 0 ≡ v → m′ ≡ maskOf 64 (λ k. bit m k || eqb k y) → m′ ≡ whoSoFar rest′ v
     who-equal m′ d q =
         let o = one-bit m y m′ q in
         who-turn rest y rest′ v m′ h (s .part y b) e (o .0)
@@ -79,11 +81,41 @@ module _ (vals : List ℕ) (members : ℕ) where
         (λ x lx z. o .1 x lx ∙ ap (λ (c : Bool). bit m x || c) z ∙ or-false (bit m x) ∙ known x lx)
 
     -- another value: they stay
-    pub who-other : (m′ : ℕ) → (getD vals y 0 ≡ v → ⊥) → m′ ≡ m → m′ ≡ whoSoFar rest′ v
+    who-other : (m′ : ℕ) → (getD vals y 0 ≡ v → ⊥) → m′ ≡ m → m′ ≡ whoSoFar rest′ v
     who-other m′ d q =
         q ∙ who-turn rest y rest′ v m h (s .part y b) e (subst (λ (k : ℕ). k < 2 ^ 64) (sym i) (mask-lt 64 (λ x. (bit members x && not (bit rest x)) && eqb (getD vals x 0) v)))
         (known y l ∙ ap (λ (c : Bool). (bit members y && not c) && eqb (getD vals y 0) v) b ∙ ap (λ (c : Bool). c && eqb (getD vals y 0) v) (and-false (bit members y)) ∙ sym (ne-eqb (getD vals y 0) v d))
         (λ x lx z. known x lx)
+
+    -- the smaller of the two values, and who has it
+    pub who-smaller : (one v′ m′ : ℕ) → one ≡ maskOf 64 (λ k. bit 0 k || eqb k y) → v′ ≡ cond (ltb (getD vals y 0) v) (getD vals y 0) v
+        → m′ ≡ maskOf 64 (λ k. bit (cond (ltb (getD vals y 0) v) 0 m) k || bit (cond (ltb v (getD vals y 0)) 0 one) k)
+        → SmallestSoFar vals members rest′ v′ × (m′ ≡ whoSoFar rest′ v′)
+    who-smaller one v′ m′ o d q = go (ltb (getD vals y 0) v) refl (ltb v (getD vals y 0)) refl d q
+      where
+        one-more : (n : ℕ) → maskOf 64 (λ k. bit n k || bit one k) ≡ maskOf 64 (λ k. bit n k || eqb k y)
+        one-more n = mask-same 64 (λ k. bit n k || bit one k) (λ k. bit n k || eqb k y) (λ x lx. ap (λ (c : Bool). bit n x || c) (one-bit 0 y one o .1 x lx ∙ ap (λ (c : Bool). c || eqb x y) (bit-none x)))
+
+        go : (a : Bool) → ltb (getD vals y 0) v ≡ a → (b : Bool) → ltb v (getD vals y 0) ≡ b → v′ ≡ cond a (getD vals y 0) v → m′ ≡ maskOf 64 (λ k. bit (cond a 0 m) k || bit (cond b 0 one) k)
+            → SmallestSoFar vals members rest′ v′ × (m′ ≡ whoSoFar rest′ v′)
+        go true za true zb d q = let i = ltb-true (getD vals y 0) v za in let j = ltb-true v (getD vals y 0) zb in absurd (omega arith)
+        go true za false zb d q =
+            let i = ltb-true (getD vals y 0) v za in
+            (smallest-turn vals members rest v y rest′ v′ h l b s e (omega arith) (omega arith) (inr d), who-less v′ m′ d (omega arith) (q ∙ one-more 0))
+        go false za true zb d q =
+            let j = ltb-true v (getD vals y 0) zb in (
+              smallest-turn vals members rest v y rest′ v′ h l b s e (omega arith) (omega arith) (inl d),
+              who-other m′ (λ z. omega arith) (q ∙ nobody-more) ∙ ap (whoSoFar rest′) (sym d),
+            )
+          where
+            nobody-more : maskOf 64 (λ k. bit m k || bit 0 k) ≡ m
+            nobody-more = sym (mask-unique 64 m (λ k. bit m k || bit 0 k) (subst (λ (k : ℕ). k < 2 ^ 64) (sym i) (mask-lt 64 (λ x. (bit members x && not (bit rest x)) && eqb (getD vals x 0) v)))
+                (λ x lx. sym (ap (λ (c : Bool). bit m x || c) (bit-none x) ∙ or-false (bit m x))))
+        go false za false zb d q =
+            let j = numbers .equal (getD vals y 0) v za zb in (
+              smallest-turn vals members rest v y rest′ v′ h l b s e (omega arith) (omega arith) (inl d),
+              who-equal m′ j (q ∙ one-more m) ∙ ap (whoSoFar rest′) (sym d),
+            )
 
   -- all looked at
   pub who-end : (rest v m : ℕ) → rest ≡ 0 → m ≡ whoSoFar rest v → m ≡ havingOf vals members v
