@@ -1,7 +1,8 @@
 pub mod Distinct
 pub mod Filling
+pub mod Entering
 pub mod ListedLaws
 pub mod MeansLaws
-pub mod SmallestLaws
+pub mod EnteringLaws
 pub mod FillLaws
 pub mod InsideLaws
