@@ -88,7 +88,7 @@ pub mark-out : {w m : ℕ} (old y : ℕ) → w ≡ maskOf 64 (λ k. bit 0 k || e
 mark-out {w} old y e f = f ∙ mask-same 64 (λ k. bit old k && not (bit w k)) (λ k. bit old k && not (eqb k y)) (λ k l. ap (λ (b : Bool). bit old k && not b) (ap (λ (x : ℕ). bit x k) e ∙ bit-mask 64 (λ k. bit 0 k || eqb k y) k l ∙ ap (λ (b : Bool). b || eqb k y) (bit-none k)))
 
 -- slot j is marked no more, and all others are what they were
-unmarked-at : (marks : List ℕ) (j k : ℕ) → length marks ≡ 8 → j < 512 → marked (unmarked marks j) k ≡ (marked marks k && not (eqb k j))
+pub unmarked-at : (marks : List ℕ) (j k : ℕ) → length marks ≡ 8 → j < 512 → marked (unmarked marks j) k ≡ (marked marks k && not (eqb k j))
 unmarked-at marks j k long l = test (eqb (k / 64) (j / 64)) (λ e. here (eqb-true (k / 64) (j / 64) e)) (λ e. there (eqb-false (k / 64) (j / 64) e))
   where
     word : ℕ

@@ -3,6 +3,7 @@ pub mod Traced
 pub mod Progress
 pub mod StoreLaws
 pub mod HeadLaws
+pub mod OpenLaws
 pub mod MetLaws
 pub mod SearchLaws
 pub mod PairLaws

@@ -4,14 +4,14 @@ use Prim.Native.Nat.{ℕ, _+_, _*_, _-_, _/_, _%_, _^_, _≤_, _<_, max, min}
 use borrow.Author.Tests.{eqb-true, eqb-false, eq-eqb, ne-eqb, ltb-true, ltb-false, lt-ltb, le-ltb}
 use lib.Dec.{eqb, ltb}
 use lib.ListN.{getD}
-use mathlib.Core.Bool.{Bool, true, false, _&&_, not, and-true, and-false, and-comm}
+use mathlib.Core.Bool.{Bool, true, false, cond, _&&_, not, and-true, and-false, and-comm}
 use mathlib.Core.List.{List}
 use mathlib.Core.Logic.{_⊎_, inl, inr}
 use mathlib.Core.Path.{_≡_, refl, sym, ap, ap₂, _∙_}
 use native.Mathlib.Omega.{arith}
 use Rattle.matches.specs.Matches.{lessOne}
 use Rattle.matches.specs.MemberLaws.{least-in, bit-less}
-use Rattle.merging.specs.Steps.{joinedLevel, pairAt, partnerLevel, partnerAt, NoneIn, FirstIn, Partner, Finds, nearAt, marked, nearHead, Marked}
+use Rattle.merging.specs.Steps.{joinedLevel, pairAt, partnerLevel, partnerAt, NoneIn, FirstIn, Partner, Finds, nearAt, marked, nearHead, Open}
 use Rattle.pairing.specs.Levels.{pairLevel}
 use Rattle.pairing.specs.Pairing.{reaches, mayJoin}
 use Rattle.sets.specs.Lowest.{lowestFrom, lowestFrom-misses}
@@ -265,20 +265,31 @@ module _ (links matches known attributes : List ℕ) (users resources operations
     pub head : k < 512 → (from ≤ k) × Is (isHeadAt t k)
     pub most : k ≤ 512
 
-  module _ (M : Marked marks t) {W : Words} (g : W ≡ wordsAt t c) where
-    far-refused : (k : ℕ) → k < 512 → nearHead marks t W k ≡ false → partnerAt links matches known attributes users resources operations t c k ≡ false
+  module _ (M : Open marks t c) {W : Words} (g : W ≡ wordsAt t c) where
+    -- a head that is not near cannot be joined
+    far-head : (k : ℕ) → nearAt t W k ≡ false → partnerAt links matches known attributes users resources operations t c k ≡ false
     unfolding partnerAt
-    far-refused k h e = test (isHeadAt t k)
-        (λ z. ap (λ (b : Bool). isHeadAt t c && (isHeadAt t k && b)) (far-partner links matches known attributes users resources operations t c k (ap (λ (X : Words). reaches X (wordsAt t k) && reaches (wordsAt t k) X) (sym g) ∙ sym (ap (λ (b : Bool). b && nearAt t W k) (M .right k h ∙ z)) ∙ e))
-        ∙ ap (λ (b : Bool). isHeadAt t c && b) (and-false (isHeadAt t k)) ∙ and-false (isHeadAt t c))
-        (λ z. ap (λ (b : Bool). isHeadAt t c && (b && ltb (partnerLevel links matches known attributes users resources operations t c k) 4)) z ∙ and-false (isHeadAt t c))
+    far-head k e =
+        ap (λ (b : Bool). isHeadAt t c && (isHeadAt t k && b)) (far-partner links matches known attributes users resources operations t c k (ap (λ (X : Words). reaches X (wordsAt t k) && reaches (wordsAt t k) X) (sym g) ∙ e))
+        ∙ ap (λ (b : Bool). isHeadAt t c && b) (and-false (isHeadAt t k)) ∙ and-false (isHeadAt t c)
+
+    -- nor a slot that is no head, nor one that is not open, nor c itself
+    far-refused : (k : ℕ) → k < 512 → nearHead marks t W k ≡ false → partnerAt links matches known attributes users resources operations t c k ≡ false
+    unfolding partnerAt partnerLevel
+    far-refused k h e = test (marked marks k)
+        (λ m. far-head k (sym (ap (λ (b : Bool). b && nearAt t W k) m) ∙ e))
+        (λ m. test (eqb k c)
+        (λ z. ap (λ (b : Bool). isHeadAt t c && (isHeadAt t k && ltb (cond b 4 (joinedLevel links matches known attributes users resources operations t (min c k) (max c k))) 4)) z ∙ ap (λ (b : Bool). isHeadAt t c && b) (and-false (isHeadAt t k)) ∙ and-false (isHeadAt t c))
+        (λ z. test (isHeadAt t k)
+        (λ q. far-head k (ap (λ (b : Bool). reaches W (wordsAt t k) && b) (ap (reaches (wordsAt t k)) g ∙ M .far k h (eqb-false k c z) q m) ∙ and-false (reaches W (wordsAt t k))))
+        (λ q. ap (λ (b : Bool). isHeadAt t c && (b && ltb (partnerLevel links matches known attributes users resources operations t c k) 4)) q ∙ and-false (isHeadAt t c))))
 
     -- the next near head
     pub looking : {a k : ℕ} → from ≤ a → a ≤ 512 → NoneIn (partnerAt links matches known attributes users resources operations t c) from a → FirstIn (nearHead marks t W) a 512 k → Looking k
     looking {a} {k} f l none (inl (e, h)) = record { none = λ n p q. test (ltb n a) (λ z. none n p (ltb-true n a z)) (λ z. far-refused n (omega arith) (h n (ltb-false n a z) (omega arith))); head = λ b. absurd (omega arith); most = omega arith }
     looking {a} {k} f l none (inr (x, y, z, h)) = record {
       none = λ n p q. test (ltb n a) (λ d. none n p (ltb-true n a d)) (λ d. far-refused n (omega arith) (h n (ltb-false n a d) q));
-      head = λ b. (omega arith, sym (M .right k y) ∙ and-l (marked marks k) (nearAt t W k) z);
+      head = λ b. (omega arith, M .heads k y (and-l (marked marks k) (nearAt t W k) z));
       most = omega arith;
     }
 

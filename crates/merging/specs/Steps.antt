@@ -112,6 +112,12 @@ pub record Marked (marks t : List ℕ) : Type 0 where
   pub long : length marks ≡ 8
   pub right : (k : ℕ) → k < 512 → marked marks k ≡ isHeadAt t k
 
+-- heads are marked, and among them all that reach the group of slot c
+pub record Open (marks t : List ℕ) (c : ℕ) : Type 0 where
+  pub long : length marks ≡ 8
+  pub heads : (k : ℕ) → k < 512 → Is (marked marks k) → Is (isHeadAt t k)
+  pub far : (k : ℕ) → k < 512 → (k ≡ c → ⊥) → Is (isHeadAt t k) → marked marks k ≡ false → reaches (wordsAt t k) (wordsAt t c) ≡ false
+
 -- ---- a join
 
 -- four words stored in slot i

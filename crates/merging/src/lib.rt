@@ -3,15 +3,18 @@
 // a slot that is no head may name an earlier slot of its group instead, so that a join writes no more than two slots.
 ghost use lib.ListN.{length, getD};
 ghost use mathlib.Core.Bool.{_&&_};
+ghost use mathlib.Core.List.{List};
+ghost use mathlib.Core.Logic.{_⊎_};
 ghost use mathlib.Core.Path.{_≡_};
 ghost use Prim.Native.Nat.{ℕ, _+_, _*_, _/_, _%_, _^_, _≤_, _<_, max, min};
 ghost use Rattle.admit.specs.AdmitLaws.{Sized};
 ghost use Rattle.merging.specs.Progress.{Settled};
-ghost use Rattle.merging.specs.Steps.{Paired, Tables, joinedLevel, partnerLevel, FirstIn, Finds, nearAt, nearHead, marked, GroupMet, Marked, unmarked, stored, headTaken, TakenIn, Joined, Resolved, headCount, slotIn, slotWords, FilledWith, FilledTo};
+ghost use Rattle.merging.specs.Steps.{Paired, Tables, joinedLevel, partnerLevel, FirstIn, Finds, nearAt, nearHead, marked, GroupMet, Marked, Open, unmarked, stored, headTaken, TakenIn, Joined, Resolved, headCount, slotIn, slotWords, FilledWith, FilledTo};
 ghost use Rattle.matches.specs.Matches.{both, Met};
-ghost use Rattle.pairing.specs.Pairing.{wordsIn};
+ghost use Rattle.pairing.specs.Pairing.{wordsIn, reaches};
 ghost use Rattle.policy.specs.Policy.{Policy};
 ghost use Rattle.sets.specs.Sets.{bit, maskOf};
+ghost use Rattle.sets.specs.Tests.{Is};
 ghost use Rattle.slotgroups.specs.Scratch.{usersAt, resourcesAt, restAt, levelIn, headIn, restOf, wordsAt, isPartAt, isHeadAt, Merged};
 ghost use Rattle.slotgroups.specs.Slots.{slotMerges};
 use pairing::Group;
@@ -220,10 +223,10 @@ fn next_near(scratch: &[u64], heads: &[u64; 8], g: Group, from: usize) -> usize
     512
 }
 
-// The first slot from a slot on that may be joined with slot c. Heads alone are looked at, and of these only the near ones.
+// The first slot from a slot on that may be joined with slot c. Only ready heads are looked at, and of these only the near ones.
 fn first_partner<'a>(
     scratch: &[u64],
-    heads: &[u64; 8],
+    ready: &[u64; 8],
     links: &'a [u64; 2304],
     matches: &'a [u64; 896],
     met_users: &'a [u64; 6],
@@ -236,13 +239,13 @@ fn first_partner<'a>(
     c: usize,
     from: usize,
 ) -> Found
-    requires { ⌜ (users ≤ 64) × (resources ≤ 64) × (operations ≤ 64) × (getD (now attributes) 0 0 ≤ 6) × (getD (now attributes) 1 0 ≤ 6) × (c < 512) × (from ≤ 512) × (length (now scratch) ≡ 2048) × Marked (now heads) (now scratch) × GroupMet (now matches) (now scratch) c (now «met_users») (now «met_resources») ⌝ }
+    requires { ⌜ (users ≤ 64) × (resources ≤ 64) × (operations ≤ 64) × (getD (now attributes) 0 0 ≤ 6) × (getD (now attributes) 1 0 ≤ 6) × (c < 512) × (from ≤ 512) × (length (now scratch) ≡ 2048) × Open (now ready) (now scratch) c × GroupMet (now matches) (now scratch) c (now «met_users») (now «met_resources») ⌝ }
     ensures { λ r. ⌜ Finds (now (links .entry)) (now (matches .entry)) (now (known .entry)) (now (attributes .entry)) users resources operations (now (scratch .entry)) c from (r .slot) (r .level) ⌝ }
 {
     // Most slots are no heads.
     if is_head(scratch, c) {
         let g = group_at(scratch, c);
-        let mut k = next_near(scratch, heads, g, from);
+        let mut k = next_near(scratch, ready, g, from);
         while k < 512 {
             let level = level_beside(
                 scratch,
@@ -264,7 +267,7 @@ fn first_partner<'a>(
                     level: level,
                 };
             }
-            k = next_near(scratch, heads, g, k + 1);
+            k = next_near(scratch, ready, g, k + 1);
         }
     }
     Found {
@@ -382,6 +385,57 @@ fn unmark(heads: &mut [u64; 8], j: usize)
     ensures { λ _. ⌜ now (heads .exit) ≡ unmarked (now (heads .entry)) j ⌝ }
 {
     heads[j / 64] = sets::without(heads[j / 64], sets::with(0, j % 64));
+}
+
+// ---- which heads are open
+
+// Of these slots of a word of marks those whose group reaches a group.
+fn reaching(scratch: &[u64], slots: u64, word: usize, g: Group) -> u64
+    requires { ⌜ (word < 8) × (length (now scratch) ≡ 2048) ⌝ }
+    ensures { λ m. ⌜ m ≡ maskOf 64 (λ k. bit slots k && reaches (wordsAt (now (scratch .entry)) (64 * word + k)) (wordsIn g)) ⌝ }
+{
+    let mut m: u64 = 0;
+    let mut rest = slots;
+    while 0 < rest {
+        let k = sets::least(rest);
+        if pairing::reaches(group_at(scratch, 64 * word + k), g) {
+            m = sets::with(m, k);
+        }
+        rest = matches::without_least(rest);
+    }
+    m
+}
+
+// Into a slice, as above.
+fn fill_open(scratch: &[u64], heads: &[u64; 8], c: usize, ready: &mut [u64])
+    requires { ⌜ (c < 512) × (length (now scratch) ≡ 2048) × (length (now ready) ≡ 8) × Marked (now heads) (now scratch) ⌝ }
+    ensures { λ _. ⌜ Open (now (ready .exit)) (now (scratch .entry)) c ⌝ }
+{
+    let g = group_at(scratch, c);
+    for word in 0..8 {
+        ready[word] = reaching(scratch, heads[word], word, g);
+    }
+}
+
+// Marks the heads that reach slot c's group, whatever the table held: no other can be joined with it.
+fn mark_open(scratch: &[u64], heads: &[u64; 8], c: usize, ready: &mut [u64; 8])
+    requires { ⌜ (c < 512) × (length (now scratch) ≡ 2048) × Marked (now heads) (now scratch) ⌝ }
+    ensures { λ _. ⌜ Open (now (ready .exit)) (now (scratch .entry)) c ⌝ }
+{
+    fill_open(scratch, heads, c, ready);
+}
+
+// The same after the group of slot j was joined to that of slot i, where the heads that were ready for one of them are marked. Its words were
+// g. With more users and resources, but no more operations, it is not reached by a group that did not reach it before: then only j goes.
+fn mark_again(scratch: &[u64], heads: &[u64; 8], g: Group, i: usize, j: usize, ready: &mut [u64; 8])
+    requires { ⌜ (i < j) × (j < 512) × (length (now scratch) ≡ 2048) × Marked (now heads) (now scratch) ⌝ }
+    ensures { λ _. ⌜ ((t : List ℕ) (c level : ℕ) → Joined t (now (scratch .entry)) i j level → Is (isHeadAt t i) → (c ≡ i) ⊎ (c ≡ j) → wordsIn g ≡ wordsAt t c → Open (now (ready .entry)) t c → Open (now (ready .exit)) (now (scratch .entry)) i) ⌝ }
+{
+    if scratch[4 * i + 2] == g.operations {
+        unmark(ready, j);
+        return;
+    }
+    mark_open(scratch, heads, i, ready);
 }
 
 // Whether a part stands in the slot: the part of role k / 16 with the lowest operation k % 16.
@@ -541,9 +595,11 @@ fn settle_head<'a>(
         &mut people,
         &mut things,
     );
+    let mut ready = [0u64; 8];
+    mark_open(scratch, heads, c, &mut ready);
     let mut other = first_partner(
         scratch,
-        heads,
+        &ready,
         links,
         matches,
         &people,
@@ -566,13 +622,15 @@ fn settle_head<'a>(
         );
         let i = lower(c, other.slot);
         let j = higher(c, other.slot);
+        let g = group_at(scratch, c);
         join(scratch, i, j, other.level);
         unmark(heads, j);
+        mark_again(scratch, heads, g, i, j, &mut ready);
         merges += 1;
         c = i;
         other = first_partner(
             scratch,
-            heads,
+            &ready,
             links,
             matches,
             &people,

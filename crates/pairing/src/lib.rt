@@ -165,7 +165,7 @@ fn corners_free(links: &[u64; 2304], g: Group, h: Group) -> bool
 }
 
 // Whether a group has no operation that the other lacks, or else has the other's users and resources.
-fn reaches(g: Group, h: Group) -> bool
+pub fn reaches(g: Group, h: Group) -> bool
     ensures { λ s. ⌜ s ≡ reaches (wordsIn g) (wordsIn h) ⌝ }
 {
     if sets::without(g.operations, h.operations) == 0 {
