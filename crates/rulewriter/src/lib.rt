@@ -301,11 +301,11 @@ fn count_parts<'a>(
     ensures { λ r. ⌜ r ≡ sum (λ k. length (classesAt (now (permissions .entry)) operations (now (scratch .entry)) head k)) (upTo 32) ⌝ }
 {
     let mut n: usize = 0;
-    let mut rest = roles;
-    while 0 < rest {
-        let role = sets::least(rest);
+    let mut left = roles;
+    while 0 < left {
+        let role = sets::least(left);
         n += rulelists::count_classes(permissions, operations, scratch, head, role);
-        rest = matches::without_least(rest);
+        left = matches::without_least(left);
     }
     n
 }
