@@ -1,6 +1,6 @@
 -- What the code admits is what the definitions obey.
 -- Assumes nothing.
-use Prim.Native.Nat.{ℕ, zero, suc, _+_, _*_, _%_, _≤_, _<_}
+use Prim.Native.Nat.{ℕ, zero, suc, _+_, _*_, _%_, _<_}
 use borrow.Author.Tests.{ltb-true, lt-ltb, le-ltb, le-leb, leb-true}
 use lib.Dec.{eqb, ltb, leb}
 use lib.ListN.{length, getD, set}
@@ -9,16 +9,18 @@ use mathlib.Core.Path.{_≡_, refl, sym, ap, ap₂, _∙_}
 use native.Mathlib.Omega.{arith}
 use Rattle.admit.specs.Admit.{belowOf, firstOf, declaringOf, laterOf, kindCode, valueCode, admitOf}
 use Rattle.commands.specs.DecodeLaws.{meaning}
+use Rattle.commands.specs.declared.Command.{Command}
+use Rattle.commands.specs.declared.Command.the-variants.{Sizes, Declare, Give, Assign, Permit, Line, End}
 use Rattle.files.specs.Answer.{Refusal, numberOf, Answer, unless, andThen, outOfPlace, beyond, wrongKind, refused, accepted}
 use Rattle.files.specs.RoleFile.{Phase, Loading, blank, sideBy, withKind, withValue, withAssigned, withPermitted, withLine, isNothing, isDeclaring, enter, takeKind, takeValue, takeAssignment, takePermission, takeLine, takeSizes, obeyRole, nothing, declaring, telling}
-use Rattle.loaded.specs.Record.{slotSide, knownTable, attributeTable, kindTable}
+use Rattle.loaded.specs.Record.{slotSide, knownTable, attributeTable, kindTable, Sized}
 use Rattle.loaded.specs.RecordLaws.{table-get}
 use Rattle.policy.specs.Policy.{Policy, kindOf}
 use Rattle.policy.specs.Rules.{Which, user, resource}
-use Rattle.sets.specs.Sets.{bit, maskOf, bit-mask}
-use Rattle.sets.specs.Tests.{Is, test, same, iff, isSome}
-use Rattle.commands.specs.declared.Command.{Command}
-use Rattle.commands.specs.declared.Command.the-variants.{Sizes, Declare, Give, Assign, Permit, Line, End}
+use Rattle.sets.specs.SetLaws.{bit-mask}
+use Rattle.sets.specs.Sets.{bit, maskOf}
+use Rattle.sets.specs.TestLaws.{test, same}
+use Rattle.sets.specs.Tests.{iff, isSome}
 
 -- 0 for an acceptance, else the refusal's number
 abbrev pub codeOf : {A : Type 0} → Answer A → ℕ
@@ -29,16 +31,6 @@ abbrev pub phaseCode : Phase → ℕ
 phaseCode nothing = 0
 phaseCode declaring = 1
 phaseCode telling = 2
-
--- the sizes that a record has room for; assignments, permissions and lines are within the declared ones
-pub record Sized (F : Policy) : Type 0 where
-  pub many : (w : Which) → F .table w .count ≤ 64
-  pub declared : (w : Which) → length (F .table w .kinds) ≤ 6
-  pub operable : F .operations ≤ 16
-  pub few : F .roles ≤ 32
-  pub lined : (i j : ℕ) → Is (F .line i j) → (i < F .roles) × (j < F .roles)
-  pub assigned-to : (k u : ℕ) → Is (F .assigned k u) → (k < F .roles) × (u < F .table user .count)
-  pub permits : (k r o : ℕ) → Is (F .permitted k r o) → (k < F .roles) × (r < F .table resource .count) × (o < F .operations)
 
 -- ---- codes of answers
 

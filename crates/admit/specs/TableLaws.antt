@@ -8,8 +8,7 @@ use mathlib.Core.Bool.{false, _&&_}
 use mathlib.Core.Logic.{_⊎_, inl, inr}
 use mathlib.Core.Path.{_≡_, sym, ap, ap₂, _∙_}
 use native.Mathlib.Omega.{arith}
-use Rattle.admit.specs.AdmitLaws.{Sized}
-use Rattle.loaded.specs.Record.{permissionTable, recordWith, recordOf}
+use Rattle.loaded.specs.Record.{Sized, permissionTable, recordWith, recordOf}
 use Rattle.loaded.specs.RecordLaws.{table-get}
 use Rattle.policy.specs.PartLaws.{alike-out, alike-in}
 use Rattle.policy.specs.Policy.{Policy, senior, held, sideOf, settingOf, rolesIn}
@@ -17,8 +16,10 @@ use Rattle.policy.specs.PolicyLaws.{granted}
 use Rattle.policy.specs.Roles.{alike, rolesGrant}
 use Rattle.policy.specs.Rules.{Triple, user, resource}
 use Rattle.sets.specs.MaskLaws.{mask-same}
-use Rattle.sets.specs.Sets.{bit, maskOf, bit-mask}
-use Rattle.sets.specs.Tests.{Is, and-r, or-out, test, fails, same, any, any-out, upTo, upTo-out, any-ext}
+use Rattle.sets.specs.Sets.{bit, maskOf}
+use Rattle.sets.specs.SetLaws.{bit-mask}
+use Rattle.sets.specs.Tests.{Is, any, upTo}
+use Rattle.sets.specs.TestLaws.{and-r, or-out, test, fails, same, any-out, upTo-out, any-ext}
 
 -- equality either way round
 pub eqb-turned : (x y : ℕ) → eqb x y ≡ eqb y x

@@ -8,6 +8,9 @@ ghost use Rattle.sets.specs.Tests.{iff};
 ghost use Rattle.admit.specs.Admit.{belowOf, firstOf, declaringOf, laterOf, kindCode, valueCode, admitOf};
 use commands::Command;
 use loaded::RoleFile;
+use loaded::ByAttribute;
+use loaded::BySide;
+use loaded::CountBySide;
 
 // The verdict v where x is below the limit, else 5.
 fn below(x: usize, limit: usize, v: usize) -> usize
@@ -38,7 +41,7 @@ fn later(phase: usize, v: usize) -> usize
 }
 
 // 5 where an attribute cannot be declared, else 0.
-fn admit_kind(side: usize, kind: usize, attributes: &[usize; 2]) -> usize
+fn admit_kind(side: usize, kind: usize, attributes: &CountBySide) -> usize
     ensures { λ r. ⌜ r ≡ kindCode side kind (now (attributes .entry)) ⌝ }
 {
     if 2 <= side {
@@ -74,9 +77,9 @@ fn admit_value<'a>(
     who: usize,
     users: usize,
     resources: usize,
-    attributes: &'a [usize; 2],
-    kinds: &'a [u64; 2],
-    known: &'a [u64; 12],
+    attributes: &'a CountBySide,
+    kinds: &'a BySide,
+    known: &'a ByAttribute,
 ) -> usize
     requires { ⌜ (getD (now attributes) 0 0 ≤ 6) × (getD (now attributes) 1 0 ≤ 6) ⌝ }
     ensures { λ r. ⌜ r ≡ valueCode set side attribute who users resources (now (attributes .entry)) (now (kinds .entry)) (now (known .entry)) ⌝ }
@@ -108,9 +111,9 @@ pub fn admit<'a>(
     resources: usize,
     operations: usize,
     roles: usize,
-    attributes: &'a [usize; 2],
-    kinds: &'a [u64; 2],
-    known: &'a [u64; 12],
+    attributes: &'a CountBySide,
+    kinds: &'a BySide,
+    known: &'a ByAttribute,
 ) -> usize
     requires { ⌜ (getD (now attributes) 0 0 ≤ 6) × (getD (now attributes) 1 0 ≤ 6) ⌝ }
     ensures { λ r. ⌜ r ≡ admitOf c phase users resources operations roles (now (attributes .entry)) (now (kinds .entry)) (now (known .entry)) ⌝ }

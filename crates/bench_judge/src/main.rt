@@ -2,14 +2,15 @@
 // prints a checksum of the verdicts. The two bytes behind these are the length of the role file. The plain Rust program of bench/judge
 // does the same, and the two are measured against each other; beside the proofs it judges example A of 01, a hundred times.
 ghost use mathlib.Core.Path.{_≡_};
+ghost use Rattle.files.specs.Answer.{told};
 ghost use Rattle.files.specs.Calls.{judge};
-ghost use Rattle.judging.specs.Judgement.{judgementOf};
+ghost use Rattle.judging.specs.Judgement.{verdictTold, judgementNumbers};
 ghost use Rattle.bench_judge.specs.Checksum.{weightOf, sampleOf, total};
 use judging::Judgement;
 
 // The verdict's number and values, added up.
 fn weight(judgement: Judgement) -> u64
-    ensures { λ r. ⌜ r ≡ weightOf judgement ⌝ }
+    ensures { λ r. ⌜ r ≡ weightOf (judgementNumbers judgement) ⌝ }
 {
     match judgement {
         Judgement::Sound => 0,
@@ -26,13 +27,13 @@ fn weight(judgement: Judgement) -> u64
 
 // Judges once, and adds the turn.
 fn sample(file: &[u8], rules: &[u8], turn: usize) -> u64
-    ensures { λ r. ⌜ r ≡ sampleOf (judgementOf (judge 2 (now (file .entry)) (now (rules .entry)))) turn ⌝ }
+    ensures { λ r. ⌜ r ≡ sampleOf (told verdictTold (judge 2 (now (file .entry)) (now (rules .entry)))) turn ⌝ }
 {
     std::num::wrapping_add_u64(weight(judging::judge(file, rules)), turn as u64)
 }
 
 fn checksum(file: &[u8], rules: &[u8], turns: usize) -> u64
-    ensures { λ r. ⌜ r ≡ total (sampleOf (judgementOf (judge 2 (now (file .entry)) (now (rules .entry))))) turns ⌝ }
+    ensures { λ r. ⌜ r ≡ total (sampleOf (told verdictTold (judge 2 (now (file .entry)) (now (rules .entry))))) turns ⌝ }
 {
     let mut sum: u64 = 0;
     for turn in 0..turns {

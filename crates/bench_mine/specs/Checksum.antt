@@ -1,19 +1,20 @@
 -- The checksum of what mining answers.
 -- Assumes nothing.
 use Prim.Native.Nat.{ℕ, zero, suc, _+_, _%_, _^_}
-use Rattle.mining.specs.declared.Mined.{Mined}
-use Rattle.mining.specs.declared.Mined.the-variants.{Refused, Written}
+use mathlib.Core.List.{List, [], _∷_}
+use Rattle.sets.specs.Tests.{sum}
 
 abbrev pub plus : ℕ → ℕ → ℕ
 plus a b = (a + b) % 2 ^ 64
 
--- the length, the counts and the cost; a refusal's number
-unfoldable pub weightOf : Mined → ℕ
-weightOf (Refused n) = n
-weightOf (Written length parts rules merges cost) = plus (plus length cost) (plus parts (plus rules merges))
+-- the numbers of an answer: the length, the counts and the cost behind the 0 added up, or a refusal's number
+unfoldable pub weightOf : List ℕ → ℕ
+weightOf [] = 0
+weightOf (n ∷ []) = n
+weightOf (n ∷ v ∷ vs) = sum (λ x. x) (v ∷ vs) % 2 ^ 64
 
-abbrev pub sampleOf : Mined → ℕ → ℕ
-sampleOf m t = plus (weightOf m) t
+abbrev pub sampleOf : List ℕ → ℕ → ℕ
+sampleOf numbers t = plus (weightOf numbers) t
 
 -- the sum over the turns below n
 abbrev pub total : (ℕ → ℕ) → ℕ → ℕ

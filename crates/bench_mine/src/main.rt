@@ -3,14 +3,15 @@
 // of 01, a hundred times.
 ghost use lib.ListN.{length};
 ghost use mathlib.Core.Path.{_≡_};
-ghost use Rattle.files.specs.Calls.{mineAnswer};
-ghost use Rattle.mining.specs.Mined.{minedOf};
+ghost use Rattle.files.specs.Answer.{told};
+ghost use Rattle.files.specs.Calls.{countValues, mineAnswer};
+ghost use Rattle.mining.specs.Mined.{minedNumbers};
 ghost use Rattle.bench_mine.specs.Checksum.{weightOf, sampleOf, total};
 use mining::Mined;
 
 // The length, the counts and the cost added up, or the number of the refusal.
 fn weight(mined: Mined) -> u64
-    ensures { λ r. ⌜ r ≡ weightOf mined ⌝ }
+    ensures { λ r. ⌜ r ≡ weightOf (minedNumbers mined) ⌝ }
 {
     match mined {
         Mined::Refused(n) => n as u64,
@@ -30,13 +31,13 @@ fn weight(mined: Mined) -> u64
 
 // Mines once, and adds the turn.
 fn sample(file: &[u8], scratch: &mut [u64], out: &mut [u8], turn: usize) -> u64
-    ensures { λ r. ⌜ r ≡ sampleOf (minedOf (mineAnswer 2 (now (file .entry)) (length (now (scratch .entry))) (length (now (out .entry))))) turn ⌝ }
+    ensures { λ r. ⌜ r ≡ sampleOf (told countValues (mineAnswer 2 (now (file .entry)) (length (now (scratch .entry))) (length (now (out .entry))))) turn ⌝ }
 {
     std::num::wrapping_add_u64(weight(mining::mine(file, scratch, out)), turn as u64)
 }
 
 fn checksum(file: &[u8], scratch: &mut [u64], out: &mut [u8], turns: usize) -> u64
-    ensures { λ r. ⌜ r ≡ total (sampleOf (minedOf (mineAnswer 2 (now (file .entry)) (length (now (scratch .entry))) (length (now (out .entry)))))) turns ⌝ }
+    ensures { λ r. ⌜ r ≡ total (sampleOf (told countValues (mineAnswer 2 (now (file .entry)) (length (now (scratch .entry))) (length (now (out .entry)))))) turns ⌝ }
 {
     let mut sum: u64 = 0;
     for turn in 0..turns {

@@ -4,7 +4,7 @@ use Prim.Native.Nat.{ℕ, zero, suc, _+_, _*_}
 use lib.Dec.{eqb, ltb}
 use lib.ListN.{length, getD}
 use mathlib.Core.Bool.{true, false, cond}
-use mathlib.Core.List.{List}
+use mathlib.Core.List.{List, [], _∷_}
 use Rattle.commands.specs.declared.Command.{Command}
 use Rattle.commands.specs.declared.Command.the-variants.{Sizes, Declare, Give, Assign, Permit, Line, End}
 use Rattle.commands.specs.declared.Decoded.{Decoded}
@@ -35,3 +35,11 @@ decodedOf l =
     cond (eqb (length l) 0) Short
     (cond (eqb (widthOf (numberAt 1 l 0)) 0) Unknown
     (cond (ltb (length l) (widthOf (numberAt 1 l 0))) Short (Whole (commandBy (numberAt 1 l 0) l) (widthOf (numberAt 1 l 0)))))
+
+abbrev pub totalOf : List ℕ → ℕ
+totalOf [] = 0
+totalOf (w ∷ ws) = w + totalOf ws
+
+abbrev pub numbersAt : List ℕ → List ℕ → ℕ → List ℕ
+numbersAt [] l i = []
+numbersAt (w ∷ ws) l i = numberAt w l i ∷ numbersAt ws l (i + w)

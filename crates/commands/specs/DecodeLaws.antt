@@ -9,16 +9,17 @@ use mathlib.Core.List.{List, [], _∷_}
 use mathlib.Core.Option.{Option, none, some, Option·map}
 use mathlib.Core.Path.{_≡_, refl, sym, ap, ap₂, _∙_}
 use native.Mathlib.Omega.{arith}
-use Rattle.commands.specs.Decode.{numberAt, widthOf, commandBy, decodedOf}
-use Rattle.files.specs.Answer.{Answer, andThen, cutOff, unknownCommand, refused}
-use Rattle.files.specs.Bytes.{number, oneMore, operands, follow, turn, decode, readOn}
-use Rattle.files.specs.RoleFile.{RoleCommand, roleWidths, roleCommand, Loading, isEnd, obeyRole, roleFormat, sizes, declare, give, assign, permit, line, end}
-use Rattle.files.specs.RuleFile.{widthsOr}
-use Rattle.sets.specs.Tests.{test}
+use Rattle.commands.specs.Decode.{numberAt, widthOf, commandBy, decodedOf, totalOf, numbersAt}
 use Rattle.commands.specs.declared.Command.{Command}
 use Rattle.commands.specs.declared.Command.the-variants.{Sizes, Declare, Give, Assign, Permit, Line, End}
 use Rattle.commands.specs.declared.Decoded.{Decoded}
 use Rattle.commands.specs.declared.Decoded.the-variants.{Whole, Unknown, Short}
+use Rattle.files.specs.Answer.{Answer, andThen, cutOff, unknownCommand, refused}
+use Rattle.files.specs.BytesLaws.{follow}
+use Rattle.files.specs.Bytes.{number, oneMore, operands, turn, decode, readOn}
+use Rattle.files.specs.RoleFile.{RoleCommand, roleWidths, roleCommand, Loading, isEnd, obeyRole, roleFormat, sizes, declare, give, assign, permit, line, end}
+use Rattle.files.specs.RuleFile.{widthsOr}
+use Rattle.sets.specs.TestLaws.{test}
 
 -- ---- numbers and operands by place
 
@@ -41,14 +42,6 @@ number-short (suc w) i l h k =
     (λ e. let p = ltb-true i (length l) e in
     ap (number (suc w)) (drop-cons i l p) ∙ ap (Option·map (λ (p : ℕ × List ℕ). (getD l i 0 + 256 * p .0, p .1))) (number-short w (suc i) l (omega arith) (omega arith)))
     (λ e. ap (number (suc w)) (drop-of-length-le l {i = i} (ltb-false i (length l) e)))
-
-abbrev pub totalOf : List ℕ → ℕ
-totalOf [] = 0
-totalOf (w ∷ ws) = w + totalOf ws
-
-abbrev pub numbersAt : List ℕ → List ℕ → ℕ → List ℕ
-numbersAt [] l i = []
-numbersAt (w ∷ ws) l i = numberAt w l i ∷ numbersAt ws l (i + w)
 
 pub operands-at : (ws : List ℕ) (i : ℕ) (l : List ℕ) → i + totalOf ws ≤ length l → operands ws (drop i l) ≡ some (numbersAt ws l i, drop (i + totalOf ws) l)
 operands-at [] i l h = let e : i ≡ i + 0 = omega arith in ap (λ (k : ℕ). some ([], drop k l)) e
@@ -134,7 +127,7 @@ first-byte b bs = omega arith
 
 -- one turn of reading, by what was decoded at the front
 module _ (n : ℕ) (s : Loading) where
-  read-unknown : (b : ℕ) (bs : List ℕ) → widthOf b ≡ 0 → readOn (roleFormat 2) (suc n) s (b ∷ bs) ≡ refused unknownCommand
+  read-unknown : (b : ℕ) (bs : List ℕ) → widthOf b ≡ 0 → readOn (roleFormat 2) (suc n) false s (b ∷ bs) ≡ refused unknownCommand
   unfolding roleFormat
   read-unknown b bs e = go (roleWidths b) (span-width b ∙ e)
     where
@@ -142,7 +135,7 @@ module _ (n : ℕ) (s : Loading) where
       go none k = refl
       go (some ws) k = absurd (omega arith)
 
-  read-short : (b : ℕ) (bs : List ℕ) → (widthOf b ≡ 0 → ⊥) → suc (length bs) < widthOf b → readOn (roleFormat 2) (suc n) s (b ∷ bs) ≡ refused cutOff
+  read-short : (b : ℕ) (bs : List ℕ) → (widthOf b ≡ 0 → ⊥) → suc (length bs) < widthOf b → readOn (roleFormat 2) (suc n) false s (b ∷ bs) ≡ refused cutOff
   unfolding roleFormat
   read-short b bs e h = go (roleWidths b) (span-width b)
     where
@@ -151,12 +144,12 @@ module _ (n : ℕ) (s : Loading) where
       go (some ws) k = ap (turn (roleFormat 2) (readOn (roleFormat 2) n) s b) (operands-short ws 1 (b ∷ bs) (omega arith) (omega arith))
 
   read-whole : (b : ℕ) (bs : List ℕ) → (widthOf b ≡ 0 → ⊥) → widthOf b ≤ suc (length bs)
-      → readOn (roleFormat 2) (suc n) s (b ∷ bs) ≡ andThen (obeyRole 2 s (meaning (commandBy b (b ∷ bs)))) (follow (roleFormat 2) (isEnd (meaning (commandBy b (b ∷ bs)))) (readOn (roleFormat 2) n) (drop (widthOf b) (b ∷ bs)))
+      → readOn (roleFormat 2) (suc n) false s (b ∷ bs) ≡ andThen (obeyRole 2 s (meaning (commandBy b (b ∷ bs)))) (follow (roleFormat 2) (isEnd (meaning (commandBy b (b ∷ bs)))) n (drop (widthOf b) (b ∷ bs)))
   unfolding roleFormat
   read-whole b bs e h = go (roleWidths b) (span-width b) (meaning-by b (b ∷ bs))
     where
       on : RoleCommand → List ℕ → Answer Loading
-      on c rest = andThen (obeyRole 2 s c) (follow (roleFormat 2) (isEnd c) (readOn (roleFormat 2) n) rest)
+      on c rest = andThen (obeyRole 2 s c) (follow (roleFormat 2) (isEnd c) n rest)
 
       go : (o : Option (List ℕ)) → spanOf o ≡ widthOf b → roleCommand b (numbersAt (widthsOr o) (b ∷ bs) 1) ≡ meaning (commandBy b (b ∷ bs))
           → decode (roleFormat 2) (readOn (roleFormat 2) n) s b bs o ≡ on (meaning (commandBy b (b ∷ bs))) (drop (widthOf b) (b ∷ bs))
@@ -169,22 +162,22 @@ module _ (n : ℕ) (s : Loading) where
   unfolding decodedOf
   decoded-cons b bs = rw (ne-eqb (suc (length bs)) 0 (omega arith), first-byte b bs) refl
 
-  pub turn-short : (l : List ℕ) → decodedOf l ≡ Short → readOn (roleFormat 2) (suc n) s l ≡ refused cutOff
+  pub turn-short : (l : List ℕ) → decodedOf l ≡ Short → readOn (roleFormat 2) (suc n) false s l ≡ refused cutOff
   unfolding roleFormat
   turn-short [] e = refl
   turn-short (b ∷ bs) e = go (eqb (widthOf b) 0) refl (ltb (suc (length bs)) (widthOf b)) refl (sym (decoded-cons b bs) ∙ e)
     where
-      go : (x : Bool) → eqb (widthOf b) 0 ≡ x → (y : Bool) → ltb (suc (length bs)) (widthOf b) ≡ y → cond x Unknown (cond y Short (Whole (commandBy b (b ∷ bs)) (widthOf b))) ≡ Short → readOn (roleFormat 2) (suc n) s (b ∷ bs) ≡ refused cutOff
+      go : (x : Bool) → eqb (widthOf b) 0 ≡ x → (y : Bool) → ltb (suc (length bs)) (widthOf b) ≡ y → cond x Unknown (cond y Short (Whole (commandBy b (b ∷ bs)) (widthOf b))) ≡ Short → readOn (roleFormat 2) (suc n) false s (b ∷ bs) ≡ refused cutOff
       go true p y q k = let d = ap tagOf k in absurd (omega arith)
       go false p true q k = read-short b bs (eqb-false (widthOf b) 0 p) (ltb-true (suc (length bs)) (widthOf b) q)
       go false p false q k = let d = ap tagOf k in absurd (omega arith)
 
-  pub turn-unknown : (l : List ℕ) → decodedOf l ≡ Unknown → readOn (roleFormat 2) (suc n) s l ≡ refused unknownCommand
+  pub turn-unknown : (l : List ℕ) → decodedOf l ≡ Unknown → readOn (roleFormat 2) (suc n) false s l ≡ refused unknownCommand
   unfolding decodedOf
   turn-unknown [] e = let d = ap tagOf e in absurd (omega arith)
   turn-unknown (b ∷ bs) e = go (eqb (widthOf b) 0) refl (ltb (suc (length bs)) (widthOf b)) (sym (decoded-cons b bs) ∙ e)
     where
-      go : (x : Bool) → eqb (widthOf b) 0 ≡ x → (y : Bool) → cond x Unknown (cond y Short (Whole (commandBy b (b ∷ bs)) (widthOf b))) ≡ Unknown → readOn (roleFormat 2) (suc n) s (b ∷ bs) ≡ refused unknownCommand
+      go : (x : Bool) → eqb (widthOf b) 0 ≡ x → (y : Bool) → cond x Unknown (cond y Short (Whole (commandBy b (b ∷ bs)) (widthOf b))) ≡ Unknown → readOn (roleFormat 2) (suc n) false s (b ∷ bs) ≡ refused unknownCommand
       go true p y k = read-unknown b bs (eqb-true (widthOf b) 0 p)
       go false p true k = let d = ap tagOf k in absurd (omega arith)
       go false p false k = let d = ap tagOf k in absurd (omega arith)
@@ -193,7 +186,7 @@ module _ (n : ℕ) (s : Loading) where
   pub record Front (l : List ℕ) (c : Command) (w : ℕ) : Type 0 where
     pub some-bytes : 0 < w
     pub inside : w ≤ length l
-    pub turned : readOn (roleFormat 2) (suc n) s l ≡ andThen (obeyRole 2 s (meaning c)) (follow (roleFormat 2) (isEnd (meaning c)) (readOn (roleFormat 2) n) (drop w l))
+    pub turned : readOn (roleFormat 2) (suc n) false s l ≡ andThen (obeyRole 2 s (meaning c)) (follow (roleFormat 2) (isEnd (meaning c)) n (drop w l))
 
   pub turn-whole : (l : List ℕ) (c : Command) (w : ℕ) → decodedOf l ≡ Whole c w → Front l c w
   unfolding decodedOf
@@ -201,7 +194,7 @@ module _ (n : ℕ) (s : Loading) where
   turn-whole (b ∷ bs) c w e = go (eqb (widthOf b) 0) refl (ltb (suc (length bs)) (widthOf b)) refl (sym (decoded-cons b bs) ∙ e)
     where
       found : (d : Command) (v : ℕ) → d ≡ c → v ≡ w → (0 < v) → v ≤ suc (length bs)
-          → readOn (roleFormat 2) (suc n) s (b ∷ bs) ≡ andThen (obeyRole 2 s (meaning d)) (follow (roleFormat 2) (isEnd (meaning d)) (readOn (roleFormat 2) n) (drop v (b ∷ bs))) → Front (b ∷ bs) c w
+          → readOn (roleFormat 2) (suc n) false s (b ∷ bs) ≡ andThen (obeyRole 2 s (meaning d)) (follow (roleFormat 2) (isEnd (meaning d)) n (drop v (b ∷ bs))) → Front (b ∷ bs) c w
       found d v p q h k t = record { some-bytes = omega arith; inside = omega arith; turned = rw (← p, ← q) t }
 
       go : (x : Bool) → eqb (widthOf b) 0 ≡ x → (y : Bool) → ltb (suc (length bs)) (widthOf b) ≡ y → cond x Unknown (cond y Short (Whole (commandBy b (b ∷ bs)) (widthOf b))) ≡ Whole c w → Front (b ∷ bs) c w

@@ -10,16 +10,17 @@ use mathlib.Core.Option.{Option, none, some}
 use mathlib.Core.Path.{_≡_, refl, sym, ap, ap₂, _∙_}
 use native.Mathlib.Omega.{arith}
 use Rattle.conjuncts.specs.Summary.{placeSide, placeAttribute, placeOf, valuesFor, metFor, metTable, askedPlaces, isAtom, atomPlaces}
-use Rattle.files.specs.LineLaws.{side-same}
+use Rattle.files.specs.LineLaws.{operationsOr, side-same}
 use Rattle.files.specs.RoleFile.{sideBy, sameSide}
-use Rattle.files.specs.RuleFile.{RuleCommand, isOperations, Lines, listed, operationsOr, operationsIn, valuesIn, opens, value, operations, link, part, ends}
+use Rattle.files.specs.RuleFile.{RuleCommand, isOperations, Lines, listed, operationsIn, valuesIn, opens, value, operations, link, part, ends}
 use Rattle.loaded.specs.Record.{tableOf}
 use Rattle.loaded.specs.RecordLaws.{table-get, table-ext, table-set}
 use Rattle.policy.specs.Covering.{fits}
 use Rattle.policy.specs.Rules.{own, Side, Which, Setting, admits, meets, user, resource}
 use Rattle.sets.specs.MaskLaws.{or-false, bit-maskOf, mask-same, mask-wide, mask-none}
 use Rattle.sets.specs.Sets.{bit, maskOf}
-use Rattle.sets.specs.Tests.{Is, and-in, and-l, and-r, or-l, or-r, never, test, fails, iff, iff-in, any, each, only}
+use Rattle.sets.specs.Tests.{Is, iff, any, each, only}
+use Rattle.sets.specs.TestLaws.{and-in, and-l, and-r, or-l, or-r, never, test, fails, iff-in}
 
 -- ---- lists with one more behind
 

@@ -8,8 +8,7 @@ use mathlib.Core.List.{List}
 use Rattle.files.specs.RuleFile.{RuleCommand, Lines, valuesIn, opens, value, operations, link, part, ends}
 use Rattle.loaded.specs.Record.{tableOf}
 use Rattle.policy.specs.Rules.{own, Which, Setting, meets, user, resource}
-use Rattle.sets.specs.LoopLaws.{narrowing}
-use Rattle.sets.specs.Sets.{bit, maskOf}
+use Rattle.sets.specs.Sets.{narrowing, bit, maskOf}
 use Rattle.sets.specs.Tests.{any}
 
 -- the attributes of both sides in one row of 14 places: the six of a side, and behind them its 255

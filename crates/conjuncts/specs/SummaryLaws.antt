@@ -8,10 +8,11 @@ use mathlib.Core.List.{List, [], _∷_, _++_, List·Memᴰ·head, List·Memᴰ·
 use mathlib.Core.Path.{_≡_, refl, sym, ap, ap₂, _∙_}
 use Rattle.files.specs.RuleFile.{Lines, valuesIn, conjunctsIn}
 use Rattle.policy.specs.Rules.{Which, by, Setting, meets, attrsOf, holds, conjunct}
-use Rattle.sets.specs.LoopLaws.{narrowing}
+use Rattle.sets.specs.Sets.{narrowing, bit}
 use Rattle.sets.specs.MaskLaws.{and-true, mask-unique}
-use Rattle.sets.specs.Sets.{bit, bit-none}
-use Rattle.sets.specs.Tests.{imp, _∈_, all, all-in, each, only, upTo}
+use Rattle.sets.specs.SetLaws.{bit-none}
+use Rattle.sets.specs.Tests.{imp, _isIn_, all, each, only, upTo}
+use Rattle.sets.specs.TestLaws.{all-in}
 use Rattle.conjuncts.specs.Summary.{linkedWith}
 
 -- tests of the members of a list, by its parts
@@ -23,11 +24,11 @@ all-only : {A : Type 0} (f : A → Bool) (b : Bool) (x : A) → all f (only b x)
 all-only f true x = and-true (f x)
 all-only f false x = refl
 
-all-each : {A : Type 0} (f : A → Bool) (g : ℕ → List A) (h : ℕ → Bool) (l : List ℕ) → ((a : ℕ) → a ∈ l → all f (g a) ≡ h a) → all f (each g l) ≡ all h l
+all-each : {A : Type 0} (f : A → Bool) (g : ℕ → List A) (h : ℕ → Bool) (l : List ℕ) → ((a : ℕ) → a isIn l → all f (g a) ≡ h a) → all f (each g l) ≡ all h l
 all-each f g h [] e = refl
 all-each f g h (x ∷ xs) e = all-append f (g x) (each g xs) ∙ ap₂ _&&_ (e x (List·Memᴰ·head refl)) (all-each f g h xs (λ a m. e a (List·Memᴰ·tail m)))
 
-pub all-same : (f g : ℕ → Bool) (l : List ℕ) → ((a : ℕ) → a ∈ l → f a ≡ g a) → all f l ≡ all g l
+pub all-same : (f g : ℕ → Bool) (l : List ℕ) → ((a : ℕ) → a isIn l → f a ≡ g a) → all f l ≡ all g l
 all-same f g [] h = refl
 all-same f g (x ∷ xs) h = ap₂ _&&_ (h x (List·Memᴰ·head refl)) (all-same f g xs (λ a m. h a (List·Memᴰ·tail m)))
 

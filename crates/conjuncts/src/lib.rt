@@ -4,23 +4,26 @@
 ghost use mathlib.Core.Path.{_≡_};
 ghost use Prim.Native.Nat.{_≤_, _<_};
 ghost use Rattle.conjuncts.specs.Summary.{metByAll, linkedWith};
+use loaded::ByPlace;
+use loaded::Links;
+use loaded::RoleFile;
 
 // Who of a side meets every conjunct.
-pub fn met_by_all(met: &[u64; 14], asked: u64, side: usize, count: usize) -> u64
+pub fn met_by_all(met: &ByPlace, asked: u64, side: usize, count: usize) -> u64
     requires { ⌜ (side < 2) × (count ≤ 64) ⌝ }
     ensures { λ r. ⌜ r ≡ metByAll (now (met .entry)) asked side count ⌝ }
 {
     let mut m = sets::below(count);
     for i in 0..7 {
-        if sets::has(asked, 7 * side + i) {
-            m = sets::meet(m, met[7 * side + i]);
+        if sets::has(asked, RoleFile::CONJUNCTS * side + i) {
+            m = sets::meet(m, met[RoleFile::CONJUNCTS * side + i]);
         }
     }
     m
 }
 
 // Which of some resources every atom joins with a user.
-pub fn linked_with(links: &[u64; 2304], atoms: u64, user: usize, among: u64) -> u64
+pub fn linked_with(links: &Links, atoms: u64, user: usize, among: u64) -> u64
     requires { ⌜ user < 64 ⌝ }
     ensures { λ r. ⌜ r ≡ linkedWith (now (links .entry)) atoms user among ⌝ }
 {
@@ -29,9 +32,9 @@ pub fn linked_with(links: &[u64; 2304], atoms: u64, user: usize, among: u64) -> 
         return among;
     }
     let mut m = among;
-    for i in 0..36 {
+    for i in 0..RoleFile::ATOMS {
         if sets::has(atoms, i) {
-            m = sets::meet(m, links[64 * i + user]);
+            m = sets::meet(m, links[RoleFile::MEMBERS * i + user]);
         }
     }
     m

@@ -16,25 +16,27 @@ use Rattle.distinct.specs.MeansLaws.{bit-everybody, distinct-word, havin
 use Rattle.loaded.specs.Record.{tableOf}
 use Rattle.loaded.specs.RecordLaws.{table-ext}
 use Rattle.policy.specs.Thinning.{strictly}
-use Rattle.sets.specs.LoopLaws.{joining}
+use Rattle.sets.specs.Sets.{joining, bit, subset, maskOf}
 use Rattle.sets.specs.MaskLaws.{mask-same}
-use Rattle.sets.specs.Sets.{bit, subset, bit-none, subset-self, maskOf}
-use Rattle.sets.specs.Sorted.{Rising, Before, none-left, and-then}
-use Rattle.sets.specs.Tests.{Is, and-in, and-l, and-r, or-r, or-out, never, test, fails, same, _∈_, any, any-in, any-out, upTo, upTo-in, upTo-out, getD-in, not-in, not-out}
+use Rattle.sets.specs.SetLaws.{bit-none, subset-self}
+use Rattle.sets.specs.Sorted.{Rising, none-left, and-then}
+use Rattle.sets.specs.SortedLaws.{Before}
+use Rattle.sets.specs.Tests.{Is, _isIn_, any, upTo}
+use Rattle.sets.specs.TestLaws.{and-in, and-l, and-r, or-r, or-out, never, test, fails, same, any-in, any-out, upTo-in, upTo-out, getD-in, not-in, not-out}
 use Rattle.values.specs.ValueLaws.{among-in, among-out, among-rising}
 use Rattle.values.specs.Values.{valuesAt, listsLeast}
 
 -- in an ascending list a smaller member stands before
-before-at : {l : List ℕ} → Rising (Before ltb) l → {w : ℕ} → w ∈ l → (k : ℕ) → k < length l → w < getD l k 0 → (j : ℕ) × (j < k) × (getD l j 0 ≡ w)
+before-at : {l : List ℕ} → Rising (Before ltb) l → {w : ℕ} → w isIn l → (k : ℕ) → k < length l → w < getD l k 0 → (j : ℕ) × (j < k) × (getD l j 0 ≡ w)
 before-at none-left m k h p = absurd (List·Memᴰ·not-nil m)
 before-at (and-then {x = x} {xs = xs} q r) {w} m zero h p = absurd (go (List·Memᴰ·cases-cons m))
   where
-    go : (w ≡ x) ⊎ (w ∈ xs) → ⊥
+    go : (w ≡ x) ⊎ (w isIn xs) → ⊥
     go (inl e) = omega arith
     go (inr n) = let l = ltb-true x w (q w n) in omega arith
 before-at (and-then {x = x} {xs = xs} q r) {w} m (suc k) h p = go (List·Memᴰ·cases-cons m) (λ n. before-at r n k (omega arith) p)
   where
-    go : (w ≡ x) ⊎ (w ∈ xs) → (w ∈ xs → (j : ℕ) × (j < k) × (getD xs j 0 ≡ w)) → (j : ℕ) × (j < suc k) × (getD (x ∷ xs) j 0 ≡ w)
+    go : (w ≡ x) ⊎ (w isIn xs) → (w isIn xs → (j : ℕ) × (j < k) × (getD xs j 0 ≡ w)) → (j : ℕ) × (j < suc k) × (getD (x ∷ xs) j 0 ≡ w)
     go (inl e) f = (0, omega arith, sym e)
     go (inr n) f = let t = f n in (suc (t .0), (let l = t .1 in omega arith), t .2)
 

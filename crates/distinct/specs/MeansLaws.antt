@@ -14,9 +14,11 @@ use Rattle.loaded.specs.Record.{tableOf}
 use Rattle.loaded.specs.RecordLaws.{table-get}
 use Rattle.policy.specs.Thinning.{strictly}
 use Rattle.sets.specs.MaskLaws.{and-true, mask-lt, empty-law}
-use Rattle.sets.specs.Sets.{bit, subset, bit-none, maskOf, bit-mask}
-use Rattle.sets.specs.Sorted.{keep-rising, rising-ext, numbers}
-use Rattle.sets.specs.Tests.{Is, and-in, and-l, and-r, never, fails, same, imp, imp-in, imp-out, _∈_, all, any, all-out, all-in, any-in, any-out, any-ext, keep, keep-in, keep-out, from, upTo, upTo-in, upTo-out, not-in, not-out}
+use Rattle.sets.specs.Sets.{bit, subset, maskOf}
+use Rattle.sets.specs.SetLaws.{bit-none, bit-mask}
+use Rattle.sets.specs.SortedLaws.{keep-rising, rising-ext, numbers}
+use Rattle.sets.specs.Tests.{Is, imp, _isIn_, all, any, keep, from, upTo}
+use Rattle.sets.specs.TestLaws.{and-in, and-l, and-r, never, fails, same, imp-in, imp-out, all-out, all-in, any-in, any-out, any-ext, keep-in, keep-out, upTo-in, upTo-out, not-in, not-out}
 use Rattle.values.specs.ListLaws.{listed-length}
 use Rattle.values.specs.ValueLaws.{among-in, among-out, among-rising, listed-keep}
 use Rattle.values.specs.Values.{valuesAt, listsLeast, valuesAmong, leastAmong, stays, listedOf}
@@ -68,7 +70,7 @@ module _ (vals : List ℕ) (members : ℕ) where
   kept-among : (q : ℕ → Bool) → keep (λ v. hasOne v && q v) (valuesAmong vals everybody) ≡ keep q (valuesAmong vals members)
   kept-among q = rising-ext (numbers .apart) (keep-rising (λ v. hasOne v && q v) (among-rising vals everybody)) (keep-rising q (among-rising vals members)) there back
     where
-      there : (v : ℕ) → v ∈ keep (λ v. hasOne v && q v) (valuesAmong vals everybody) → v ∈ keep q (valuesAmong vals members)
+      there : (v : ℕ) → v isIn keep (λ v. hasOne v && q v) (valuesAmong vals everybody) → v isIn keep q (valuesAmong vals members)
       there v m =
           let t = keep-out (λ v. hasOne v && q v) (valuesAmong vals everybody) m in
           let o = any-out (λ x. bit members x && eqb (getD vals x 0) v) (upTo 64) (and-l (hasOne v) (q v) (t .1)) in
@@ -76,7 +78,7 @@ module _ (vals : List ℕ) (members : ℕ) where
           (rw (← eqb-true (getD vals (o .0) 0) v (and-r (bit members (o .0)) _ (o .2))) (among-in vals members (o .0) (upTo-out 64 (o .1)) (and-l (bit members (o .0)) _ (o .2))))
           (and-r (hasOne v) (q v) (t .1))
 
-      back : (v : ℕ) → v ∈ keep q (valuesAmong vals members) → v ∈ keep (λ v. hasOne v && q v) (valuesAmong vals everybody)
+      back : (v : ℕ) → v isIn keep q (valuesAmong vals members) → v isIn keep (λ v. hasOne v && q v) (valuesAmong vals everybody)
       back v m =
           let t = keep-out q (valuesAmong vals members) m in
           let o = among-out vals members (t .0) in

@@ -10,8 +10,7 @@ use mathlib.Core.List.{List, []}
 use mathlib.Core.Option.{Option, none, some}
 use mathlib.Core.Path.{_≡_, refl, sym, ap, ap₂, _∙_, subst}
 use native.Mathlib.Omega.{arith}
-use Rattle.commands.specs.Decode.{numberAt}
-use Rattle.commands.specs.DecodeLaws.{totalOf, numbersAt}
+use Rattle.commands.specs.Decode.{numberAt, totalOf, numbersAt}
 use Rattle.explain.specs.Headings.{asLine, lineOf, inRule, noted, headOn, headingOf}
 use Rattle.files.specs.RuleFile.{ruleWidths}
 use Rattle.rulecommands.specs.Raw.{takenBy, rawBy, rawOf}

@@ -10,6 +10,10 @@ use programs::say_count;
 use programs::say_number;
 use rulecommands::Atom;
 use rulecommands::RuleCommand;
+use loaded::ByRole;
+use loaded::ByRoleOperation;
+use loaded::BySide;
+use loaded::CountBySide;
 
 // ---- sets
 
@@ -265,10 +269,10 @@ pub fn tell_rules<'a>(
     resources: usize,
     operations: usize,
     roles: usize,
-    attributes: &'a [usize; 2],
-    kinds: &'a [u64; 2],
-    holders: &'a [u64; 32],
-    permissions: &'a [u64; 512],
+    attributes: &'a CountBySide,
+    kinds: &'a BySide,
+    holders: &'a ByRole,
+    permissions: &'a ByRoleOperation,
 )
     requires { ⌜ (roles ≤ 32) × (operations ≤ 16) ⌝ }
 {

@@ -3,28 +3,20 @@
 use Prim.Native.Nat.{ℕ, zero, suc, _≤_}
 use borrow.Author.Tests.{ne-eqb}
 use lib.ListN.{length, drop, set, length-set}
-use mathlib.Core.Bool.{Bool}
 use mathlib.Core.List.{List, [], _∷_, _++_}
 use mathlib.Core.Path.{_≡_, refl, ap, _∙_}
 use native.Mathlib.Nat.{not-suc-le-zero, le-of-suc-le-suc}
-use Rattle.fichtengarn.specs.Numbers.{returned, stored, nothing, rulesTold, verdictTold, readNumbers}
+use Rattle.fichtengarn.specs.Numbers.{returned, stored, nothing, rulesTold, readNumbers}
 use Rattle.files.specs.Answer.{numberOf, Answer, told, refused, accepted}
 use Rattle.files.specs.BytesLaws.{number-positive}
-use Rattle.files.specs.Calls.{Counts, Verdict, countValues, yesNo}
 use Rattle.files.specs.RuleFile.{Lines}
-use Rattle.judging.specs.Judgement.{judgementOf, judgementNumbers, judgement-numbers}
-use Rattle.mining.specs.Mined.{minedOf, minedNumbers, mined-numbers}
 use Rattle.policy.specs.Policy.{Policy}
 use Rattle.rolefile.specs.Reading.{refusal, loadedOf}
-use Rattle.rolequestion.specs.Reply.{replyOf, replyNumbers, reply-numbers}
 use Rattle.rulefile.specs.BothFiles.{nothingRead, bothOf}
-use Rattle.judging.specs.declared.Judgement.{Judgement}
-use Rattle.mining.specs.declared.Mined.{Mined}
 use Rattle.rolefile.specs.declared.Loaded.{Loaded}
-use Rattle.rolequestion.specs.declared.Reply.{Reply}
 use Rattle.rulefile.specs.declared.BothFiles.{BothFiles}
 
--- ---- the numbers of each answer
+-- ---- the numbers of what was read
 
 pub roles-code : (l : Loaded) (a : Answer Policy) → l ≡ loadedOf a → l .code ≡ returned (told nothing a)
 unfolding loadedOf refusal
@@ -38,15 +30,6 @@ both-told b a p = ap (λ (m : BothFiles). readNumbers (m .code) (m .rules)) p �
     of : (a : Answer (Policy × List Lines)) → readNumbers (bothOf a .code) (bothOf a .rules) ≡ told rulesTold a
     of (refused e) = rw (ne-eqb (numberOf e) 0 (number-positive e)) refl
     of (accepted r) = refl
-
-pub reply-told : (r : Reply) (a : Answer Bool) → r ≡ replyOf a → replyNumbers r ≡ told yesNo a
-reply-told r a p = ap replyNumbers p ∙ reply-numbers a
-
-pub judgement-told : (j : Judgement) (a : Answer Verdict) → j ≡ judgementOf a → judgementNumbers j ≡ told verdictTold a
-judgement-told j a p = ap judgementNumbers p ∙ judgement-numbers a
-
-pub mined-told : (m : Mined) (a : Answer Counts) → m ≡ minedOf a → minedNumbers m ≡ told countValues a
-mined-told m a p = ap minedNumbers p ∙ mined-numbers a
 
 -- ---- values stored one after the other
 

@@ -6,7 +6,6 @@ use lib.Dec.{eqb}
 use lib.ListN.{length, getD, drop}
 use mathlib.Core.Bool.{cond}
 use mathlib.Core.List.{List, [], _∷_, _++_}
-use Rattle.files.specs.Calls.{Verdict, verdictNumber, verdictValues}
 use Rattle.files.specs.RuleFile.{Lines}
 use Rattle.policy.specs.Policy.{Policy}
 
@@ -18,15 +17,12 @@ returned told = getD told 0 0
 abbrev pub stored : List ℕ → List ℕ → List ℕ
 stored told former = drop 1 told ++ drop (length (drop 1 told)) former
 
--- the values of an answer that has none, of rules that were read, how many they are, and of a verdict, its number first
+-- the values of an answer that has none; and of rules that were read: how many they are
 abbrev pub nothing : {A : Type 0} → A → List ℕ
 nothing a = []
 
 abbrev pub rulesTold : Policy × List Lines → List ℕ
 rulesTold p = length (p .1) ∷ []
-
-abbrev pub verdictTold : Verdict → List ℕ
-verdictTold v = verdictNumber v ∷ verdictValues v
 
 -- what was read, as the code has it: 0 and the number of rules, or a refusal's number alone
 abbrev pub readNumbers : ℕ → ℕ → List ℕ

@@ -3,7 +3,7 @@
 use Prim.Native.Nat.{ℕ, zero, suc, _+_, _*_, _/_, _%_}
 use lib.Dec.{eqb, ltb}
 use lib.ListN.{length}
-use mathlib.Core.Bool.{Bool, true, false, _&&_, _||_}
+use mathlib.Core.Bool.{Bool, true, false, cond, _&&_, _||_}
 use mathlib.Core.List.{List, [], _∷_, _++_}
 use mathlib.Core.Option.{Option, none, some, Option·map}
 use Rattle.files.specs.Answer.{Refusal, Answer, andThen, refused, accepted}
@@ -56,31 +56,27 @@ pub record Format (Command State : Type 0) : Type 0 where
   pub short : Refusal
 
 module _ {Command State : Type 0} (T : Format Command State) where
-  -- the first test by command: "a byte after the end". Nothing stands behind the end
-  abbrev pub close : List ℕ → State → Answer State
-  close [] s = accepted s
-  close (b ∷ bs) s = refused (T .late)
-
-  -- reading on with `go` where the command was not the end
-  abbrev pub follow : Bool → (State → List ℕ → Answer State) → List ℕ → State → Answer State
-  follow true go bs s = close bs s
-  follow false go bs s = go s bs
-
-  -- the command with these operands, and then what stands behind it
-  abbrev pub turn : (State → List ℕ → Answer State) → State → ℕ → Option (List ℕ × List ℕ) → Answer State
+  -- cut off, or the command's own refusals; then reading goes on behind it, with `go`
+  abbrev pub turn : (Bool → State → List ℕ → Answer State) → State → ℕ → Option (List ℕ × List ℕ) → Answer State
   turn go s b none = refused (T .short)
-  turn go s b (some p) = andThen (T .obey s (T .command b (p .0))) (follow (T .ends (T .command b (p .0))) go (p .1))
+  turn go s b (some p) = let c = T .command b (p .0) in andThen (T .obey s c) (λ s′. go (T .ends c) s′ (p .1))
 
-  -- the next: unknown, cut off, then its own refusals
-  abbrev pub decode : (State → List ℕ → Answer State) → State → ℕ → List ℕ → Option (List ℕ) → Answer State
+  -- an unknown command, or its turn
+  abbrev pub decode : (Bool → State → List ℕ → Answer State) → State → ℕ → List ℕ → Option (List ℕ) → Answer State
   decode go s b bs none = refused (T .unknown)
   decode go s b bs (some ws) = turn go s b (operands ws bs)
 
-  -- n is more than the number of commands
-  abbrev pub readOn : ℕ → State → List ℕ → Answer State
-  readOn zero s bs = refused (T .short)
-  readOn (suc n) s [] = refused (T .short)
-  readOn (suc n) s (b ∷ bs) = decode (readOn n) s b bs (T .widths b)
+  -- behind the end nothing may stand
+  abbrev pub behind : State → List ℕ → Answer State
+  behind s [] = accepted s
+  behind s (b ∷ bs) = refused (T .late)
+
+  -- by command, and in this order: a byte after the end, cut off before the end, an unknown command, and what decode says. `over`: the
+  -- end was read. n is more than the number of commands
+  abbrev pub readOn : ℕ → Bool → State → List ℕ → Answer State
+  readOn zero over s bs = cond over (behind s bs) (refused (T .short))
+  readOn (suc n) over s [] = cond over (behind s []) (refused (T .short))
+  readOn (suc n) over s (b ∷ bs) = cond over (behind s (b ∷ bs)) (decode (readOn n) s b bs (T .widths b))
 
   abbrev pub read : State → List ℕ → Answer State
-  read s bs = readOn (suc (length bs)) s bs
+  read s bs = readOn (suc (length bs)) false s bs

@@ -26,7 +26,8 @@ use Rattle.policy.specs.Roles.{Roles, rolesGrant}
 use Rattle.policy.specs.RuleLaws.{same-in, same-out}
 use Rattle.policy.specs.Rules.{Setting, grants, Triple, Same, sameBlock, user, resource}
 use Rattle.policy.specs.SeniorLaws.{reach-out, reach-in}
-use Rattle.sets.specs.Tests.{Is, and-l, and-r, test, iff, iff-in, iff-out, _∈_, each, each-in, each-out, upTo, upTo-in, upTo-out, map-in, map-out, getD-in, isSome}
+use Rattle.sets.specs.Tests.{Is, iff, _isIn_, each, upTo, isSome}
+use Rattle.sets.specs.TestLaws.{and-l, and-r, test, iff-in, iff-out, each-in, each-out, upTo-in, upTo-out, map-in, map-out, getD-in}
 
 -- ---- answers
 
@@ -56,7 +57,7 @@ length-append : (s t : List ℕ) → length (s ++ t) ≡ length s + length t
 length-append [] t = omega arith
 length-append (x ∷ xs) t = let e = length-append xs t in omega arith
 
-first-none : {A : Type 0} (f : A → Bool) (l : List A) → ((x : A) → x ∈ l → f x ≡ false) → first f l ≡ none
+first-none : {A : Type 0} (f : A → Bool) (l : List A) → ((x : A) → x isIn l → f x ≡ false) → first f l ≡ none
 first-none f [] h = refl
 first-none f (x ∷ xs) h = rw (h x (List·Memᴰ·head refl)) (first-none f xs (λ y m. h y (List·Memᴰ·tail m)))
 
@@ -168,7 +169,7 @@ module _ (W : ℕ) where
 
 -- ---- the questions and the judge, of mined bytes
 
-triple-out : (P : Setting) (t : ℕ × ℕ × ℕ) → t ∈ triples P → Triple P (t .0) (t .1) (t .2)
+triple-out : (P : Setting) (t : ℕ × ℕ × ℕ) → t isIn triples P → Triple P (t .0) (t .1) (t .2)
 unfolding triples
 triple-out P t m =
     let a = each-out (λ u. each (λ r. map (λ o. (u, r, o)) (upTo (P .slots))) (upTo (P .side resource .count))) (upTo (P .side user .count)) m in
@@ -179,16 +180,16 @@ triple-out P t m =
 not-so : (b : Bool) → Is b → not b ≡ false
 not-so b h = rw h
 
-first-none-out : {A : Type 0} (f : A → Bool) (l : List A) → isSome (first f l) ≡ false → (x : A) → x ∈ l → f x ≡ false
+first-none-out : {A : Type 0} (f : A → Bool) (l : List A) → isSome (first f l) ≡ false → (x : A) → x isIn l → f x ≡ false
 first-none-out f [] h x m = absurd (List·Memᴰ·not-nil m)
 first-none-out f (y ∷ ys) h x m = go (f y) refl h (List·Memᴰ·cases-cons m) (first-none-out f ys)
   where
-    go : (b : Bool) → f y ≡ b → isSome (cond b (some y) (first f ys)) ≡ false → (x ≡ y) ⊎ (x ∈ ys) → (isSome (first f ys) ≡ false → (x : _) → x ∈ ys → f x ≡ false) → f x ≡ false
+    go : (b : Bool) → f y ≡ b → isSome (cond b (some y) (first f ys)) ≡ false → (x ≡ y) ⊎ (x isIn ys) → (isSome (first f ys) ≡ false → (x : _) → x isIn ys → f x ≡ false) → f x ≡ false
     go true e q k r = absurd (false≢true (sym q))
     go false e q (inl d) r = rw d e
     go false e q (inr n) r = r q x n
 
-triple-in : (P : Setting) (u r o : ℕ) → Triple P u r o → (u, r, o) ∈ triples P
+triple-in : (P : Setting) (u r o : ℕ) → Triple P u r o → (u, r, o) isIn triples P
 unfolding triples
 triple-in P u r o t =
     each-in (λ u. each (λ r. map (λ o. (u, r, o)) (upTo (P .slots))) (upTo (P .side resource .count))) (upTo-in (t .user))

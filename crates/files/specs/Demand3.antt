@@ -9,13 +9,13 @@ use Rattle.files.specs.Answer.{accepted}
 use Rattle.files.specs.Calls.{Counts, rulesGrant, partsGrant}
 use Rattle.files.specs.RuleFile.{Lines, ruleIn, listings, linesOf, readRules}
 use Rattle.policy.specs.Covering.{cover, levelOf}
-use Rattle.policy.specs.GroupLaws.{lowPart}
+use Rattle.policy.specs.Merging.{lowPart}
 use Rattle.policy.specs.Mined.{partCount, minedGroups, mergeCount, ruleOf}
 use Rattle.policy.specs.Roles.{Roles, rolesGrant}
 use Rattle.policy.specs.Rules.{Setting, Rule, grants, ruleLevel, ofSection, Triple, Same, struck}
 use Rattle.policy.specs.Thinning.{thinned, ruleCost}
 use Rattle.sets.specs.Sorted.{Ascending}
-use Rattle.sets.specs.Tests.{Is, _∈_, sum}
+use Rattle.sets.specs.Tests.{Is, _isIn_, sum}
 
 -- W bytes for a set of operations; P and R are the policy and the roles that the role file states
 pub record Demand3 (W : ℕ) (P : Setting) (R : Roles) (bytes : List ℕ) (c : Counts) : Type 0 where
@@ -27,23 +27,23 @@ pub record Demand3 (W : ℕ) (P : Setting) (R : Roles) (bytes : List ℕ) (c : C
   -- every part is listed under exactly one rule
   pub once : (p : ℕ) → p < partCount P R → listings P R rules p ≡ 1
   -- and a rule grants exactly what its parts do
-  pub exact : (ls : Lines) → ls ∈ rules → Same P (grants P (ruleIn P ls)) (partsGrant P R ls)
+  pub exact : (ls : Lines) → ls isIn rules → Same P (grants P (ruleIn P ls)) (partsGrant P R ls)
   -- each is a rule of 01's section
-  pub proper : (ls : Lines) → ls ∈ rules → Is (ofSection P (ruleIn P ls))
+  pub proper : (ls : Lines) → ls isIn rules → Is (ofSection P (ruleIn P ls))
   -- no rule of a lower level could grant the same
-  pub lowest : (ls : Lines) → ls ∈ rules → (ρ : Rule) → Is (ofSection P ρ) → ruleLevel P ρ < ruleLevel P (ruleIn P ls)
+  pub lowest : (ls : Lines) → ls isIn rules → (ρ : Rule) → Is (ofSection P ρ) → ruleLevel P ρ < ruleLevel P (ruleIn P ls)
       → Same P (grants P ρ) (grants P (ruleIn P ls)) → ⊥
   -- for no two written rules could a single rule, of a level no higher than the higher of theirs, grant exactly what both grant together
   pub apart : (i j : ℕ) → i < j → j < length rules → (ρ : Rule) → Is (ofSection P ρ)
       → ruleLevel P ρ ≤ max (ruleLevel P (ruleIn P (getD rules i []))) (ruleLevel P (ruleIn P (getD rules j [])))
       → Same P (grants P ρ) (λ u r o. grants P (ruleIn P (getD rules i [])) u r o || grants P (ruleIn P (getD rules j [])) u r o) → ⊥
   -- striking any one conjunct or atom would change its rule's grants
-  pub needed : (ls : Lines) → ls ∈ rules → (i : ℕ) → i < length (ruleIn P ls .conds)
+  pub needed : (ls : Lines) → ls isIn rules → (i : ℕ) → i < length (ruleIn P ls .conds)
       → Same P (grants P (struck i (ruleIn P ls))) (grants P (ruleIn P ls)) → ⊥
   -- every rule is the covering rule of its parts at its level, thinned; its level is that of its parts' union
-  pub covering : (ls : Lines) → ls ∈ rules → ruleIn P ls
+  pub covering : (ls : Lines) → ls isIn rules → ruleIn P ls
       ≡ thinned P (partsGrant P R ls) (cover P (partsGrant P R ls) (ruleLevel P (ruleIn P ls)))
-  pub levelled : (ls : Lines) → ls ∈ rules → ruleLevel P (ruleIn P ls) ≡ levelOf P (partsGrant P R ls)
+  pub levelled : (ls : Lines) → ls isIn rules → ruleLevel P (ruleIn P ls) ≡ levelOf P (partsGrant P R ls)
   -- the rules are those of the groups that merging leaves, in their order, and list the groups' parts
   pub grouped : rules ≡ map (λ g. linesOf P R (ruleOf P R g) g) (minedGroups P R)
   pub ordered : Ascending (lowPart (partCount P R)) (minedGroups P R)

@@ -10,12 +10,12 @@ use Rattle.files.specs.Answer.{accepted}
 use Rattle.files.specs.Calls.{Counts, rulesGrant, partsGrant, minedLines}
 use Rattle.files.specs.Demand3.{Demand3}
 use Rattle.files.specs.LineLaws.{Sayable, rule-back}
-use Rattle.files.specs.ReadBack.{Writable, read-back}
+use Rattle.files.specs.ReadBackLaws.{Writable, read-back}
 use Rattle.files.specs.RuleFile.{Lines, ruleIn, listings, linesOf, encodeAll, readRules}
 use Rattle.files.specs.WriteLaws.{parts-back, listings-times, Encodable, writable}
 use Rattle.policy.specs.Covering.{cover, levelOf}
 use Rattle.policy.specs.MergeLaws.{Every}
-use Rattle.policy.specs.Merging.{merges, union}
+use Rattle.policy.specs.Merging.{union}
 use Rattle.policy.specs.Mined.{partCount, partBlock, minedGroups, mergeCount, groupBlock, ruleOf}
 use Rattle.policy.specs.MinedLaws.{MinedRules}
 use Rattle.policy.specs.OrderLaws.{Numbered, written-asc, written-values}
@@ -26,7 +26,8 @@ use Rattle.policy.specs.Thinning.{thinned, ruleCost}
 use Rattle.policy.specs.WrittenLaws.{written-had, written-ops-lt, written-ops-some, written-allowed, written-formed, written-of-section}
 use Rattle.sets.specs.Lowest.{lowest}
 use Rattle.sets.specs.Sets.{size}
-use Rattle.sets.specs.Tests.{Is, and-l, same, _∈_, all, any, any-out, map-out, getD-in, any-ext, sum}
+use Rattle.sets.specs.Tests.{Is, _isIn_, all, any, sum}
+use Rattle.sets.specs.TestLaws.{and-l, same, any-out, map-out, getD-in, any-ext}
 
 length-map : {A B : Type 0} (f : A → B) (l : List A) → length (map f l) ≡ length l
 length-map f [] = refl
@@ -41,7 +42,7 @@ any-map : {A B : Type 0} (f : A → B) (g : B → Bool) (l : List A) → any g (
 any-map f g [] = refl
 any-map f g (x ∷ xs) = ap (λ (b : Bool). g (f x) || b) (any-map f g xs)
 
-sum-map-same : {A B : Type 0} (f : A → B) (h : B → ℕ) (k : A → ℕ) (l : List A) → ((x : A) → x ∈ l → h (f x) ≡ k x) → sum h (map f l) ≡ sum k l
+sum-map-same : {A B : Type 0} (f : A → B) (h : B → ℕ) (k : A → ℕ) (l : List A) → ((x : A) → x isIn l → h (f x) ≡ k x) → sum h (map f l) ≡ sum k l
 sum-map-same f h k [] e = refl
 sum-map-same f h k (x ∷ xs) e = ap₂ _+_ (e x (List·Memᴰ·head refl)) (sum-map-same f h k xs (λ y m. e y (List·Memᴰ·tail m)))
 
@@ -54,7 +55,7 @@ module _ (W : ℕ) (P : Setting) (R : Roles) (L : Lawful P) (M : MinedRules P R)
   numbered-sides w = let h = E .numbered w in omega arith
 
   -- what a writer asks holds of every group's rule
-  sayable : (g : List ℕ) → g ∈ minedGroups P R → Sayable P R (ruleOf P R g) g
+  sayable : (g : List ℕ) → g isIn minedGroups P R → Sayable P R (ruleOf P R g) g
   unfolding ruleOf groupBlock union
   sayable g m = record {
     ascending = written-asc P numbered-sides (groupBlock P R g);
@@ -75,14 +76,14 @@ module _ (W : ℕ) (P : Setting) (R : Roles) (L : Lawful P) (M : MinedRules P R)
       subst (Writable W P R) (sym (t .2)) (writable W P R E (ruleOf P R (t .0)) (t .0) (sayable (t .0) (t .1)))
 
   -- a group's lines say its rule, and its parts
-  says-rule : (g : List ℕ) → g ∈ minedGroups P R → ruleIn P (linesOf P R (ruleOf P R g) g) ≡ ruleOf P R g
+  says-rule : (g : List ℕ) → g isIn minedGroups P R → ruleIn P (linesOf P R (ruleOf P R g) g) ≡ ruleOf P R g
   says-rule g m = rule-back P R (ruleOf P R g) g (sayable g m) numbered-sides
 
-  says-parts : (g : List ℕ) → g ∈ minedGroups P R → partsGrant P R (linesOf P R (ruleOf P R g) g) ≡ groupBlock P R g
+  says-parts : (g : List ℕ) → g isIn minedGroups P R → partsGrant P R (linesOf P R (ruleOf P R g) g) ≡ groupBlock P R g
   says-parts g m = parts-back P R (ruleOf P R g) g (M .members g m)
 
   -- what holds of each group's lines holds of all lines mined
-  each-mined : (Q : Lines → Type 0) → ((g : List ℕ) → g ∈ minedGroups P R → Q (linesOf P R (ruleOf P R g) g)) → Every Q (minedLines P R)
+  each-mined : (Q : Lines → Type 0) → ((g : List ℕ) → g isIn minedGroups P R → Q (linesOf P R (ruleOf P R g) g)) → Every Q (minedLines P R)
   unfolding minedLines
   each-mined Q h ls m = let t = map-out (λ g. linesOf P R (ruleOf P R g) g) (minedGroups P R) m in subst Q (sym (t .2)) (h (t .0) (t .1))
 
@@ -134,7 +135,7 @@ module _ (W : ℕ) (P : Setting) (R : Roles) (L : Lawful P) (M : MinedRules P R)
       listed-once : (p : ℕ) → p < partCount P R → listings P R (minedLines P R) p ≡ 1
       listed-once p l = listings-times P R (ruleOf P R) (minedGroups P R) (M .members) p l (M .once p l)
 
-      of-section : (g : List ℕ) → g ∈ minedGroups P R → Is (ofSection P (ruleOf P R g))
+      of-section : (g : List ℕ) → g isIn minedGroups P R → Is (ofSection P (ruleOf P R g))
       of-section g m = written-of-section P L (groupBlock P R g) (M .fitting g m) (M .filled g m)
 
       grouped-so : minedLines P R ≡ map (λ g. linesOf P R (ruleOf P R g) g) (minedGroups P R)

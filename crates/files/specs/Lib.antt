@@ -4,7 +4,7 @@ pub mod RoleFile
 pub mod RuleFile
 pub mod Calls
 pub mod BytesLaws
-pub mod ReadBack
+pub mod ReadBackLaws
 pub mod LineLaws
 pub mod WriteLaws
 pub mod SoundLaws

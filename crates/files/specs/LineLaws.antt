@@ -9,17 +9,19 @@ use mathlib.Core.List.{List, [], _∷_, _++_, List·Memᴰ·head, List·Memᴰ·
 use mathlib.Core.Logic.{_⊎_, inl, inr}
 use mathlib.Core.Path.{_≡_, refl, sym, ap, ap₂, _∙_}
 use native.Mathlib.Omega.{arith}
-use Rattle.files.specs.ReadBack.{lines-strict}
+use Rattle.files.specs.ReadBackLaws.{lines-strict}
 use Rattle.files.specs.RoleFile.{sameSide}
-use Rattle.files.specs.RuleFile.{RuleCommand, valueByte, precedes, isOperations, isPartLine, Lines, listed, linkOf, operationsOr, operationsIn, namesPart, valuesIn, conjunctsIn, ruleIn, condLines, allLines, linesOf, opens, value, operations, link, part, ends}
+use Rattle.files.specs.RuleFile.{RuleCommand, valueByte, precedes, isOperations, isPartLine, Lines, listed, linkOf, ifOperations, operationsIn, namesPart, valuesIn, conjunctsIn, ruleIn, condLines, allLines, linesOf, opens, value, operations, link, part, ends}
 use Rattle.policy.specs.MergeLaws.{Every}
 use Rattle.policy.specs.Mined.{partCount, partAt}
 use Rattle.policy.specs.OrderLaws.{key, Numbered, attrs-rising, attrs-below, Ordinary}
 use Rattle.policy.specs.Roles.{Roles, classOf}
 use Rattle.policy.specs.Rules.{Which, by, Setting, Cond, Rule, attrsOf, ownAt, allowed, at, wellFormed, user, resource, conjunct, atom}
 use Rattle.policy.specs.WrittenLaws.{AllHad}
-use Rattle.sets.specs.Sorted.{Rising, Ascending, Before, sort-in, sort-out, sort-rising, rising-ext, append-rising, each-rising, only-rising, numbers, asc-unique, none-left, and-then}
-use Rattle.sets.specs.Tests.{Is, and-in, and-l, and-r, or-out, test, iff, iff-in, iff-out, _∈_, each, each-in, each-out, only, only-in, only-out, elem-out, map-in, map-out}
+use Rattle.sets.specs.Sorted.{Rising, Ascending, none-left, and-then}
+use Rattle.sets.specs.SortedLaws.{Before, sort-in, sort-out, sort-rising, rising-ext, append-rising, each-rising, only-rising, numbers, asc-unique}
+use Rattle.sets.specs.Tests.{Is, iff, _isIn_, each, only}
+use Rattle.sets.specs.TestLaws.{and-in, and-l, and-r, or-out, test, iff-in, iff-out, each-in, each-out, only-in, only-out, elem-out, map-in, map-out}
 
 pub same-side : (w x : Which) → Is (sameSide w x) → w ≡ x
 same-side user user h = refl
@@ -33,10 +35,10 @@ side-same resource = refl
 
 -- ---- what one line lists
 
-listed-in : (w : Which) (set : Bool) (a v : ℕ) → v ∈ listed w set a (value w set a v)
+listed-in : (w : Which) (set : Bool) (a v : ℕ) → v isIn listed w set a (value w set a v)
 listed-in w set a v = only-in v (and-in (side-same w) (and-in (iff-in set set refl) (eq-eqb a a refl)))
 
-listed-out : (w : Which) (set : Bool) (a : ℕ) (c : RuleCommand) {v : ℕ} → v ∈ listed w set a c → c ≡ value w set a v
+listed-out : (w : Which) (set : Bool) (a : ℕ) (c : RuleCommand) {v : ℕ} → v isIn listed w set a c → c ≡ value w set a v
 listed-out w set a opens m = absurd (List·Memᴰ·not-nil m)
 listed-out w set a (value x s b u) {v} m = go (only-out (sameSide w x && (iff set s && eqb a b)) m)
   where
@@ -52,7 +54,7 @@ listed-out w set a (link x b) m = absurd (List·Memᴰ·not-nil m)
 listed-out w set a (part k n) m = absurd (List·Memᴰ·not-nil m)
 listed-out w set a ends m = absurd (List·Memᴰ·not-nil m)
 
-linked-out : (c : RuleCommand) {d : Cond} → d ∈ linkOf c → (a b : ℕ) × (c ≡ link a b) × (d ≡ atom a b)
+linked-out : (c : RuleCommand) {d : Cond} → d isIn linkOf c → (a b : ℕ) × (c ≡ link a b) × (d ≡ atom a b)
 linked-out opens m = absurd (List·Memᴰ·not-nil m)
 linked-out (value w set a v) m = absurd (List·Memᴰ·not-nil m)
 linked-out (operations n) m = absurd (List·Memᴰ·not-nil m)
@@ -89,6 +91,10 @@ is-operations (link a b) h = absurd (false≢true h)
 is-operations (part k n) h = absurd (false≢true h)
 is-operations ends h = absurd (false≢true h)
 
+-- the operand of a 26, or what it is without this command
+abbrev pub operationsOr : RuleCommand → ℕ → ℕ
+operationsOr c n = ifOperations (λ m. m) n c
+
 other-line : (c : RuleCommand) (n : ℕ) → isOperations c ≡ false → operationsOr c n ≡ n
 other-line opens n h = refl
 other-line (value w set a v) n h = refl
@@ -97,14 +103,14 @@ other-line (link a b) n h = refl
 other-line (part k m) n h = refl
 other-line ends n h = refl
 
-operations-in : (m : ℕ) (ls : Lines) → operations m ∈ ls → ((n : ℕ) → operations n ∈ ls → n ≡ m) → operationsIn ls ≡ m
+operations-in : (m : ℕ) (ls : Lines) → operations m isIn ls → ((n : ℕ) → operations n isIn ls → n ≡ m) → operationsIn ls ≡ m
 operations-in m [] k h = absurd (List·Memᴰ·not-nil k)
 operations-in m (c ∷ ls) k h = test (isOperations c) here (λ q. other-line c (operationsIn ls) q ∙ operations-in m ls (later q (List·Memᴰ·cases-cons k)) (λ n i. h n (List·Memᴰ·tail i)))
   where
     here : Is (isOperations c) → operationsOr c (operationsIn ls) ≡ m
     here p = let t = is-operations c p in rw (t .1) (h (t .0) (List·Memᴰ·head (sym (t .1))))
 
-    later : isOperations c ≡ false → (operations m ≡ c) ⊎ (operations m ∈ ls) → operations m ∈ ls
+    later : isOperations c ≡ false → (operations m ≡ c) ⊎ (operations m isIn ls) → operations m isIn ls
     later q (inl e) = absurd (false≢true (sym q ∙ ap isOperations (sym e)))
     later q (inr i) = i
 
@@ -157,7 +163,7 @@ module _ (P : Setting) (R : Roles) where
     pub operable : 0 < ρ .ops
     pub bounded : ρ .ops < 2 ^ P .slots
     pub members : Every (λ p. p < partCount P R) g
-    pub some-part : (p : ℕ) × (p ∈ g)
+    pub some-part : (p : ℕ) × (p isIn g)
 
   -- the line of part number p
   abbrev pub partLine : ℕ → RuleCommand
@@ -165,31 +171,31 @@ module _ (P : Setting) (R : Roles) where
 
   -- where a line comes from
   pub data LineOf (ρ : Rule) (g : List ℕ) (c : RuleCommand) : Type 0 where
-    of-value : (w : Which) (a : ℕ) (vs : List ℕ) (v : ℕ) → conjunct w a vs ∈ ρ .conds → v ∈ vs → c ≡ value w (P .side w .isSet a) a v → LineOf ρ g c
-    of-link : (a b : ℕ) → atom a b ∈ ρ .conds → c ≡ link a b → LineOf ρ g c
+    of-value : (w : Which) (a : ℕ) (vs : List ℕ) (v : ℕ) → conjunct w a vs isIn ρ .conds → v isIn vs → c ≡ value w (P .side w .isSet a) a v → LineOf ρ g c
+    of-link : (a b : ℕ) → atom a b isIn ρ .conds → c ≡ link a b → LineOf ρ g c
     of-operations : c ≡ operations (ρ .ops) → LineOf ρ g c
-    of-part : (p : ℕ) → p ∈ g → c ≡ partLine p → LineOf ρ g c
+    of-part : (p : ℕ) → p isIn g → c ≡ partLine p → LineOf ρ g c
 
   module _ (ρ : Rule) (g : List ℕ) where
-    cond-line : (d : Cond) → d ∈ ρ .conds → {c : RuleCommand} → c ∈ condLines P d → LineOf ρ g c
+    cond-line : (d : Cond) → d isIn ρ .conds → {c : RuleCommand} → c isIn condLines P d → LineOf ρ g c
     unfolding condLines
     cond-line (conjunct w a vs) m k = let t = map-out (value w (P .side w .isSet a) a) vs k in of-value w a vs (t .0) m (t .1) (t .2)
     cond-line (atom a b) m (List·Memᴰ·head e) = of-link a b m e
     cond-line (atom a b) m (List·Memᴰ·tail k) = absurd (List·Memᴰ·not-nil k)
 
-    pub line-out : {c : RuleCommand} → c ∈ linesOf P R ρ g → LineOf ρ g c
+    pub line-out : {c : RuleCommand} → c isIn linesOf P R ρ g → LineOf ρ g c
     unfolding linesOf allLines
     line-out {c} m = go (List·Memᴰ·append-cases (each (condLines P) (ρ .conds)) (sort-out precedes (allLines P R ρ g) m))
       where
-        rest : (c ≡ operations (ρ .ops)) ⊎ (c ∈ map partLine g) → LineOf ρ g c
+        rest : (c ≡ operations (ρ .ops)) ⊎ (c isIn map partLine g) → LineOf ρ g c
         rest (inl e) = of-operations e
         rest (inr k) = let t = map-out partLine g k in of-part (t .0) (t .1) (t .2)
 
-        go : (c ∈ each (condLines P) (ρ .conds)) ⊎ (c ∈ (operations (ρ .ops) ∷ map partLine g)) → LineOf ρ g c
+        go : (c isIn each (condLines P) (ρ .conds)) ⊎ (c isIn (operations (ρ .ops) ∷ map partLine g)) → LineOf ρ g c
         go (inl k) = let t = each-out (condLines P) (ρ .conds) k in cond-line (t .0) (t .1) (t .2)
         go (inr k) = rest (List·Memᴰ·cases-cons k)
 
-    pub line-in : {c : RuleCommand} → LineOf ρ g c → c ∈ linesOf P R ρ g
+    pub line-in : {c : RuleCommand} → LineOf ρ g c → c isIn linesOf P R ρ g
     unfolding linesOf allLines condLines
     line-in (of-value w a vs v m k e) = rw e (sort-in precedes lines-strict (Memᴰ·append-left _ (each-in (condLines P) m (map-in (value w (P .side w .isSet a) a) k))))
     line-in (of-link a b m e) = rw e (sort-in precedes lines-strict (Memᴰ·append-left _ (each-in (condLines P) m (List·Memᴰ·head refl))))
@@ -208,7 +214,7 @@ module _ (P : Setting) (R : Roles) where
     operations-line (of-part p m e) h = absurd (false≢true (ap isOperations (sym e) ∙ h))
 
     -- a line that lists a value comes from a conjunct
-    value-line : (w : Which) (a v : ℕ) → LineOf ρ g (value w (P .side w .isSet a) a v) → (vs : List ℕ) × (conjunct w a vs ∈ ρ .conds) × (v ∈ vs)
+    value-line : (w : Which) (a v : ℕ) → LineOf ρ g (value w (P .side w .isSet a) a v) → (vs : List ℕ) × (conjunct w a vs isIn ρ .conds) × (v isIn vs)
     value-line w a v (of-value x b vs u m k e) =
         let p : w ≡ x = cc in
         let q : a ≡ b = cc in
@@ -218,13 +224,13 @@ module _ (P : Setting) (R : Roles) where
     value-line w a v (of-operations e) = absurd (false≢true (ap isValue (sym e)))
     value-line w a v (of-part p m e) = absurd (false≢true (ap isValue (sym e)))
 
-    link-line : (a b : ℕ) → LineOf ρ g (link a b) → atom a b ∈ ρ .conds
+    link-line : (a b : ℕ) → LineOf ρ g (link a b) → atom a b isIn ρ .conds
     link-line a b (of-value w x vs v m k e) = absurd (false≢true (ap isValue e))
     link-line a b (of-link x y m e) = let p : a ≡ x = cc in let q : b ≡ y = cc in rw (p, q) m
     link-line a b (of-operations e) = absurd (false≢true (ap isOperations e))
     link-line a b (of-part p m e) = absurd (false≢true (ap isPartLine e))
 
-    pub part-line : (k m : ℕ) → LineOf ρ g (part k m) → (p : ℕ) × (p ∈ g) × (k ≡ partAt P R p .role) × (m ≡ classOf P R (partAt P R p))
+    pub part-line : (k m : ℕ) → LineOf ρ g (part k m) → (p : ℕ) × (p isIn g) × (k ≡ partAt P R p .role) × (m ≡ classOf P R (partAt P R p))
     part-line k m (of-value w x vs v i j e) = absurd (false≢true (ap isValue e))
     part-line k m (of-link x y i e) = absurd (false≢true (ap isPartLine (sym e)))
     part-line k m (of-operations e) = absurd (false≢true (ap isOperations e))
@@ -232,13 +238,13 @@ module _ (P : Setting) (R : Roles) where
 
     -- ---- the lines say the rule
 
-    values-out-line : (w : Which) (a v : ℕ) → v ∈ valuesIn P (linesOf P R ρ g) w a → (vs : List ℕ) × (conjunct w a vs ∈ ρ .conds) × (v ∈ vs)
+    values-out-line : (w : Which) (a v : ℕ) → v isIn valuesIn P (linesOf P R ρ g) w a → (vs : List ℕ) × (conjunct w a vs isIn ρ .conds) × (v isIn vs)
     unfolding valuesIn
     values-out-line w a v m =
         let t = each-out (listed w (P .side w .isSet a) a) (linesOf P R ρ g) m in
         value-line w a v (line-out (rw (listed-out w (P .side w .isSet a) a (t .0) (t .2)) at (t .1)))
 
-    values-in-line : (w : Which) (a : ℕ) (vs : List ℕ) (v : ℕ) → conjunct w a vs ∈ ρ .conds → v ∈ vs → v ∈ valuesIn P (linesOf P R ρ g) w a
+    values-in-line : (w : Which) (a : ℕ) (vs : List ℕ) (v : ℕ) → conjunct w a vs isIn ρ .conds → v isIn vs → v isIn valuesIn P (linesOf P R ρ g) w a
     unfolding valuesIn
     values-in-line w a vs v m k = each-in (listed w (P .side w .isSet a) a) (line-in (of-value w a vs v m k refl)) (listed-in w (P .side w .isSet a) a v)
 
@@ -260,11 +266,11 @@ module _ (P : Setting) (R : Roles) where
 
     module _ (S : Sayable ρ g) where
       -- one attribute, one conjunct
-      one-conjunct : (w : Which) (a : ℕ) (vs us : List ℕ) → conjunct w a vs ∈ ρ .conds → conjunct w a us ∈ ρ .conds → vs ≡ us
+      one-conjunct : (w : Which) (a : ℕ) (vs us : List ℕ) → conjunct w a vs isIn ρ .conds → conjunct w a us isIn ρ .conds → vs ≡ us
       unfolding key
       one-conjunct w a vs us m k = let e = asc-unique key (S .ascending) m k refl in cc
 
-      values-back : (w : Which) (a : ℕ) (vs : List ℕ) → conjunct w a vs ∈ ρ .conds → valuesIn P (linesOf P R ρ g) w a ≡ vs
+      values-back : (w : Which) (a : ℕ) (vs : List ℕ) → conjunct w a vs isIn ρ .conds → valuesIn P (linesOf P R ρ g) w a ≡ vs
       values-back w a vs m =
           rising-ext (numbers .apart) (values-line-rising w a) (S .ordinary (conjunct w a vs) m)
           (λ v k. let t = values-out-line w a v k in rw (one-conjunct w a vs (t .0) m (t .1)) (t .2))
@@ -282,7 +288,7 @@ module _ (P : Setting) (R : Roles) where
           (attrs-rising (P .side w) (N w) true)
 
       -- a conjunct that the lines say is one of the rule's
-      conjuncts-in-out : (w : Which) {c : Cond} → c ∈ conjunctsIn P (linesOf P R ρ g) w → (a : ℕ) × (vs : List ℕ) × (a ∈ attrsOf (P .side w) true) × (c ≡ conjunct w a vs) × (conjunct w a vs ∈ ρ .conds)
+      conjuncts-in-out : (w : Which) {c : Cond} → c isIn conjunctsIn P (linesOf P R ρ g) w → (a : ℕ) × (vs : List ℕ) × (a isIn attrsOf (P .side w) true) × (c ≡ conjunct w a vs) × (conjunct w a vs isIn ρ .conds)
       unfolding conjunctsIn
       conjuncts-in-out w m =
           let t = each-out (λ a. only (ltb 0 (length (valuesIn P (linesOf P R ρ g) w a))) (conjunct w a (valuesIn P (linesOf P R ρ g) w a))) (attrsOf (P .side w) true) m in
@@ -292,30 +298,30 @@ module _ (P : Setting) (R : Roles) where
           let s = values-out-line w a (v .0) (v .1) in
           (a, s .0, t .1, k .1 ∙ ap (conjunct w a) (values-back w a (s .0) (s .1)), s .1)
         where
-          first-member : (l : List ℕ) → 0 < length l → (v : ℕ) × (v ∈ l)
+          first-member : (l : List ℕ) → 0 < length l → (v : ℕ) × (v isIn l)
           first-member [] h = absurd (omega arith)
           first-member (v ∷ l) h = (v, List·Memᴰ·head refl)
 
-      conjuncts-in-in : (w : Which) (a : ℕ) (vs : List ℕ) → conjunct w a vs ∈ ρ .conds → conjunct w a vs ∈ conjunctsIn P (linesOf P R ρ g) w
+      conjuncts-in-in : (w : Which) (a : ℕ) (vs : List ℕ) → conjunct w a vs isIn ρ .conds → conjunct w a vs isIn conjunctsIn P (linesOf P R ρ g) w
       unfolding conjunctsIn allowed wellFormed
       conjuncts-in-in w a vs m =
           let e = values-back w a vs m in
-          let k : a ∈ attrsOf (P .side w) true = elem-out a (attrsOf (P .side w) true) (rw (own-3 w) at (S .permitted (conjunct w a vs) m)) in
+          let k : a isIn attrsOf (P .side w) true = elem-out a (attrsOf (P .side w) true) (rw (own-3 w) at (S .permitted (conjunct w a vs) m)) in
           each-in (λ a. only (ltb 0 (length (valuesIn P (linesOf P R ρ g) w a))) (conjunct w a (valuesIn P (linesOf P R ρ g) w a))) k
           (rw e (only-in (conjunct w a vs) (S .formed (conjunct w a vs) m)))
 
       -- the atoms of the lines, and theirs of the rule
-      links-out : {c : Cond} → c ∈ each linkOf (linesOf P R ρ g) → (a b : ℕ) × (c ≡ atom a b) × (atom a b ∈ ρ .conds)
+      links-out : {c : Cond} → c isIn each linkOf (linesOf P R ρ g) → (a b : ℕ) × (c ≡ atom a b) × (atom a b isIn ρ .conds)
       links-out m =
           let t = each-out linkOf (linesOf P R ρ g) m in
           let s = linked-out (t .0) (t .2) in
           (s .0, s .1, s .3, link-line (s .0) (s .1) (line-out (rw (s .2) at (t .1))))
 
-      links-in : (a b : ℕ) → atom a b ∈ ρ .conds → atom a b ∈ each linkOf (linesOf P R ρ g)
+      links-in : (a b : ℕ) → atom a b isIn ρ .conds → atom a b isIn each linkOf (linesOf P R ρ g)
       links-in a b m = each-in linkOf (line-in (of-link a b m refl)) (List·Memᴰ·head refl)
 
       module _ (N : (w : Which) → Numbered (P .side w)) where
-        atom-below : (a b : ℕ) → atom a b ∈ ρ .conds → b < 256
+        atom-below : (a b : ℕ) → atom a b isIn ρ .conds → b < 256
         unfolding allowed
         atom-below a b m = let h = ltb-true b (P .side resource .attrs) (and-r (ltb a (P .side user .attrs)) (ltb b (P .side resource .attrs)) (S .permitted (atom a b) m)) in let n = N resource in omega arith
 
@@ -331,7 +337,7 @@ module _ (P : Setting) (R : Roles) where
             link-rising (part k m) = none-left
             link-rising ends = none-left
 
-            ordered : (c d : RuleCommand) → c ∈ linesOf P R ρ g → d ∈ linesOf P R ρ g → Is (precedes c d) → (x y : Cond) → x ∈ linkOf c → y ∈ linkOf d → key x < key y
+            ordered : (c d : RuleCommand) → c isIn linesOf P R ρ g → d isIn linesOf P R ρ g → Is (precedes c d) → (x y : Cond) → x isIn linkOf c → y isIn linkOf d → key x < key y
             ordered c d mc md h x y mx my =
                 let s = linked-out c mx in
                 let t = linked-out d my in
@@ -356,7 +362,7 @@ module _ (P : Setting) (R : Roles) where
             base user = omega arith
             base resource = omega arith
 
-            before-links : (w : Which) (x y : Cond) → x ∈ conjunctsIn P (linesOf P R ρ g) w → y ∈ each linkOf (linesOf P R ρ g) → key x < key y
+            before-links : (w : Which) (x y : Cond) → x isIn conjunctsIn P (linesOf P R ρ g) w → y isIn each linkOf (linesOf P R ρ g) → key x < key y
             before-links w x y m k =
                 let s = conjuncts-in-out w m in
                 let t = links-out k in
@@ -366,26 +372,26 @@ module _ (P : Setting) (R : Roles) where
                 let b = base w in
                 omega arith
 
-            last : (x y : Cond) → (x ∈ conjunctsIn P (linesOf P R ρ g) user) ⊎ (x ∈ conjunctsIn P (linesOf P R ρ g) resource) → y ∈ each linkOf (linesOf P R ρ g) → key x < key y
+            last : (x y : Cond) → (x isIn conjunctsIn P (linesOf P R ρ g) user) ⊎ (x isIn conjunctsIn P (linesOf P R ρ g) resource) → y isIn each linkOf (linesOf P R ρ g) → key x < key y
             last x y (inl m) k = before-links user x y m k
             last x y (inr m) k = before-links resource x y m k
 
-        conds-out : (c : Cond) → c ∈ ruleIn P (linesOf P R ρ g) .conds → c ∈ ρ .conds
+        conds-out : (c : Cond) → c isIn ruleIn P (linesOf P R ρ g) .conds → c isIn ρ .conds
         unfolding ruleIn
         conds-out c m = go (List·Memᴰ·append-cases (conjunctsIn P (linesOf P R ρ g) user ++ conjunctsIn P (linesOf P R ρ g) resource) m)
           where
-            side : (w : Which) → c ∈ conjunctsIn P (linesOf P R ρ g) w → c ∈ ρ .conds
+            side : (w : Which) → c isIn conjunctsIn P (linesOf P R ρ g) w → c isIn ρ .conds
             side w k = let t = conjuncts-in-out w k in rw (t .3) (t .4)
 
-            sides : (c ∈ conjunctsIn P (linesOf P R ρ g) user) ⊎ (c ∈ conjunctsIn P (linesOf P R ρ g) resource) → c ∈ ρ .conds
+            sides : (c isIn conjunctsIn P (linesOf P R ρ g) user) ⊎ (c isIn conjunctsIn P (linesOf P R ρ g) resource) → c isIn ρ .conds
             sides (inl k) = side user k
             sides (inr k) = side resource k
 
-            go : (c ∈ (conjunctsIn P (linesOf P R ρ g) user ++ conjunctsIn P (linesOf P R ρ g) resource)) ⊎ (c ∈ each linkOf (linesOf P R ρ g)) → c ∈ ρ .conds
+            go : (c isIn (conjunctsIn P (linesOf P R ρ g) user ++ conjunctsIn P (linesOf P R ρ g) resource)) ⊎ (c isIn each linkOf (linesOf P R ρ g)) → c isIn ρ .conds
             go (inl k) = sides (List·Memᴰ·append-cases (conjunctsIn P (linesOf P R ρ g) user) k)
             go (inr k) = let t = links-out k in rw (t .2) (t .3)
 
-        conds-in : (c : Cond) → c ∈ ρ .conds → c ∈ ruleIn P (linesOf P R ρ g) .conds
+        conds-in : (c : Cond) → c isIn ρ .conds → c isIn ruleIn P (linesOf P R ρ g) .conds
         unfolding ruleIn
         conds-in (conjunct user a vs) m = Memᴰ·append-left _ (Memᴰ·append-left _ (conjuncts-in-in user a vs m))
         conds-in (conjunct resource a vs) m = Memᴰ·append-left _ (Memᴰ·append-right (conjunctsIn P (linesOf P R ρ g) user) (conjuncts-in-in resource a vs m))

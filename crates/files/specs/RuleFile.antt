@@ -2,7 +2,7 @@
 -- Assumes nothing.
 use Prim.Native.Nat.{ℕ, _^_}
 use lib.Dec.{eqb, ltb}
-use lib.ListN.{length, getD, set}
+use lib.ListN.{length, getD}
 use mathlib.Core.Bool.{Bool, true, false, cond, _&&_, not}
 use mathlib.Core.List.{List, [], _∷_, _++_, map}
 use mathlib.Core.Option.{Option, none, some}
@@ -63,25 +63,58 @@ ruleCommand b xs =
     (cond (eqb b 0x27) (link (getD xs 0 0) (getD xs 1 0))
     (cond (eqb b 0x28) (part (getD xs 0 0) (getD xs 1 0)) ends)))))))
 
+-- Something of one sort of command, and a default `d` for all others.
+module _ {A : Type 0} where
+  abbrev pub ifValue : (Which → Bool → ℕ → ℕ → A) → A → RuleCommand → A
+  ifValue f d opens = d
+  ifValue f d (value w set a v) = f w set a v
+  ifValue f d (operations m) = d
+  ifValue f d (link a b) = d
+  ifValue f d (part k m) = d
+  ifValue f d ends = d
+
+  abbrev pub ifOperations : (ℕ → A) → A → RuleCommand → A
+  ifOperations f d opens = d
+  ifOperations f d (value w set a v) = d
+  ifOperations f d (operations m) = f m
+  ifOperations f d (link a b) = d
+  ifOperations f d (part k m) = d
+  ifOperations f d ends = d
+
+  abbrev pub ifLink : (ℕ → ℕ → A) → A → RuleCommand → A
+  ifLink f d opens = d
+  ifLink f d (value w set a v) = d
+  ifLink f d (operations m) = d
+  ifLink f d (link a b) = f a b
+  ifLink f d (part k m) = d
+  ifLink f d ends = d
+
+  abbrev pub ifPart : (ℕ → ℕ → A) → A → RuleCommand → A
+  ifPart f d opens = d
+  ifPart f d (value w set a v) = d
+  ifPart f d (operations m) = d
+  ifPart f d (link a b) = d
+  ifPart f d (part k m) = f k m
+  ifPart f d ends = d
+
+  -- of a command that opens a rule, of the one that ends the file, and of a line within a rule
+  abbrev pub byPlace : A → A → A → RuleCommand → A
+  byPlace f g d opens = f
+  byPlace f g d (value w set a v) = d
+  byPlace f g d (operations m) = d
+  byPlace f g d (link a b) = d
+  byPlace f g d (part k m) = d
+  byPlace f g d ends = g
+
 -- "ascend strictly by command byte, then operands as numbers"
 abbrev pub precedes : RuleCommand → RuleCommand → Bool
 precedes c d = before (byteOf c ∷ operandsOf c) (byteOf d ∷ operandsOf d)
 
 abbrev pub isOperations : RuleCommand → Bool
-isOperations opens = false
-isOperations (value w set a v) = false
-isOperations (operations m) = true
-isOperations (link a b) = false
-isOperations (part k m) = false
-isOperations ends = false
+isOperations = ifOperations (λ m. true) false
 
 abbrev pub isPartLine : RuleCommand → Bool
-isPartLine opens = false
-isPartLine (value w set a v) = false
-isPartLine (operations m) = false
-isPartLine (link a b) = false
-isPartLine (part k m) = true
-isPartLine ends = false
+isPartLine = ifPart (λ k m. true) false
 
 -- a rule's lines: 01's commands between its 21 and the next 21 or 2F
 abbrev pub Lines : Type 0
@@ -91,41 +124,18 @@ Lines = List RuleCommand
 
 -- the value that a line lists for an attribute of a side and kind
 abbrev pub listed : Which → Bool → ℕ → RuleCommand → List ℕ
-listed w set a opens = []
-listed w set a (value x s b v) = only (sameSide w x && (iff set s && eqb a b)) v
-listed w set a (operations m) = []
-listed w set a (link x b) = []
-listed w set a (part k m) = []
-listed w set a ends = []
+listed w set a = ifValue (λ x s b v. only (sameSide w x && (iff set s && eqb a b)) v) []
 
 abbrev pub linkOf : RuleCommand → List Cond
-linkOf opens = []
-linkOf (value w set a v) = []
-linkOf (operations m) = []
-linkOf (link a b) = atom a b ∷ []
-linkOf (part k m) = []
-linkOf ends = []
+linkOf = ifLink (λ a b. atom a b ∷ []) []
 
 -- the operand of the first 26, and 0 if there is none
-abbrev pub operationsOr : RuleCommand → ℕ → ℕ
-operationsOr opens n = n
-operationsOr (value w set a v) n = n
-operationsOr (operations m) n = m
-operationsOr (link a b) n = n
-operationsOr (part k m) n = n
-operationsOr ends n = n
-
 abbrev pub operationsIn : Lines → ℕ
 operationsIn [] = 0
-operationsIn (c ∷ ls) = operationsOr c (operationsIn ls)
+operationsIn (c ∷ ls) = ifOperations (λ m. m) (operationsIn ls) c
 
 abbrev pub namesPart : ℕ → ℕ → RuleCommand → Bool
-namesPart k m opens = false
-namesPart k m (value w set a v) = false
-namesPart k m (operations n) = false
-namesPart k m (link a b) = false
-namesPart k m (part j n) = eqb k j && eqb m n
-namesPart k m ends = false
+namesPart k m = ifPart (λ j n. eqb k j && eqb m n) false
 
 module _ (P : Setting) where
   -- an attribute's conjunct: the values that the lines list for it
@@ -174,12 +184,7 @@ pub record Reading : Type 0 where
   pub current : Option Lines
 
 abbrev pub endsFile : RuleCommand → Bool
-endsFile opens = false
-endsFile (value w set a v) = false
-endsFile (operations m) = false
-endsFile (link a b) = false
-endsFile (part k m) = false
-endsFile ends = true
+endsFile = byPlace false true false
 
 -- a 26 and a 28 are there: "missing (seen at the next 21 or 2F)". A second 26 is refused where it stands (follows)
 unfoldable pub whole : Lines → Bool
@@ -219,13 +224,13 @@ module _ (P : Setting) (R : Roles) where
         | some ls ↦ unless (follows ls c) rulesOrder (unless (legal c) rulesOperand (accepted (record { complete = s .complete; current = some (ls ++ (c ∷ [])) })))
       ]
 
+  -- 21 and 2F close the open rule; 21 opens another
   unfoldable pub obeyRule : Reading → RuleCommand → Answer Reading
-  obeyRule s opens = andThen (finished s) (λ done. accepted (record { complete = done; current = some [] }))
-  obeyRule s (value w set a v) = addLine s (value w set a v)
-  obeyRule s (operations m) = addLine s (operations m)
-  obeyRule s (link a b) = addLine s (link a b)
-  obeyRule s (part k m) = addLine s (part k m)
-  obeyRule s ends = andThen (finished s) (λ done. accepted (record { complete = done; current = none }))
+  obeyRule s c =
+      byPlace
+      (andThen (finished s) (λ done. accepted (record { complete = done; current = some [] })))
+      (andThen (finished s) (λ done. accepted (record { complete = done; current = none })))
+      (addLine s c) c
 
 abbrev pub widthsOr : Option (List ℕ) → List ℕ
 widthsOr none = []

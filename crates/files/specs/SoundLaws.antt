@@ -23,7 +23,8 @@ use Rattle.policy.specs.PolicyLaws.{owned}
 use Rattle.policy.specs.Rules.{own, Which, by, user, resource}
 use Rattle.sets.specs.MaskLaws.{mask-lt}
 use Rattle.sets.specs.Sets.{maskOf}
-use Rattle.sets.specs.Tests.{Is, and-l, and-r, or-out, test, iff, iff-out, isSome}
+use Rattle.sets.specs.Tests.{Is, iff, isSome}
+use Rattle.sets.specs.TestLaws.{and-l, and-r, or-out, test, iff-out}
 
 -- one side's table
 pub record SoundTable (t : Table) : Type 0 where
@@ -286,7 +287,7 @@ module _ (W : ℕ) where
   read-sound bytes h =
       unless-carries (Sound W) (leb (length bytes) 65535) tooLong (andThen (read (roleFormat W) fresh bytes) settle) λ p.
       then-carries SoundSoFar (Sound W) (read (roleFormat W) fresh bytes) settle
-      (read-keeps (roleFormat W) SoundSoFar (λ s b ws xs e f S. obey-sound s (roleCommand b xs) (told b xs (rw e f)) S) (suc (length bytes)) fresh bytes h (blank-sound W 0 0 0 0 (omega arith) (omega arith) (omega arith) (omega arith)))
+      (read-keeps (roleFormat W) SoundSoFar (λ s b ws xs e f S. obey-sound s (roleCommand b xs) (told b xs (rw e f)) S) (suc (length bytes)) false fresh bytes h (blank-sound W 0 0 0 0 (omega arith) (omega arith) (omega arith) (omega arith)))
       λ s S. unless-carries (Sound W) (not (circular (s .policy))) ownSenior (accepted (s .policy)) λ q. S
 
 -- ---- an accepted role file's rules can be written

@@ -14,7 +14,7 @@ use native.Mathlib.Nat.{pow-suc, mul-suc, pow-le-pow-right}
 use native.Mathlib.Omega.{arith}
 use Rattle.files.specs.Calls.{partsGrant}
 use Rattle.files.specs.LineLaws.{names-out, names-in, own-3, Sayable, partLine, LineOf, line-out, line-in, lines-rising, operations-line, part-line, of-value, of-link, of-operations, of-part}
-use Rattle.files.specs.ReadBack.{lines-strict, Roomy, Good, Writable}
+use Rattle.files.specs.ReadBackLaws.{lines-strict, Roomy, Good, Writable}
 use Rattle.files.specs.RuleFile.{RuleCommand, isOperations, isPartLine, lists, partsIn, listings, linesOf, whole, ownValue, legal, value}
 use Rattle.policy.specs.ClassLaws.{part-in, class-number, class-lt}
 use Rattle.policy.specs.GroupLaws.{times, times-in, times-out, union-same, rule}
@@ -25,12 +25,13 @@ use Rattle.policy.specs.PartLaws.{parts-out}
 use Rattle.policy.specs.Roles.{Roles, Part, classOf}
 use Rattle.policy.specs.Rules.{own, Which, Setting, Rule, attrsOf, allowed, at, wellFormed, user, resource, conjunct, atom}
 use Rattle.sets.specs.Sorted.{Rising, none-left, and-then}
-use Rattle.sets.specs.Tests.{Is, and-in, and-l, and-r, never, test, fails, same, iff-in, _∈_, any, any-in, any-out, keep, keep-in, keep-out, only, only-out, upTo, upTo-in, upTo-out, elem, elem-in, elem-out, sum}
+use Rattle.sets.specs.Tests.{Is, _isIn_, any, keep, only, upTo, elem, sum}
+use Rattle.sets.specs.TestLaws.{and-in, and-l, and-r, never, test, fails, same, iff-in, any-in, any-out, keep-in, keep-out, only-out, upTo-in, upTo-out, elem-in, elem-out}
 
 -- ---- counting
 
 -- of ascending members at most one passes a test that no two pass
-keep-one : {A : Type 0} {Q : A → A → Type 0} (f : A → Bool) → ((x : A) → Q x x → ⊥) → {l : List A} → Rising Q l → ((x y : A) → x ∈ l → y ∈ l → Is (f x) → Is (f y) → x ≡ y) → length (keep f l) ≡ cond (any f l) 1 0
+keep-one : {A : Type 0} {Q : A → A → Type 0} (f : A → Bool) → ((x : A) → Q x x → ⊥) → {l : List A} → Rising Q l → ((x y : A) → x isIn l → y isIn l → Is (f x) → Is (f y) → x ≡ y) → length (keep f l) ≡ cond (any f l) 1 0
 keep-one f irr none-left u = refl
 keep-one {A = A} {Q = Q} f irr (and-then {x = x} {xs = xs} h r) u = go (f x) refl (keep-one f irr r (λ y z my mz. u y z (List·Memᴰ·tail my) (List·Memᴰ·tail mz)))
   where
@@ -41,11 +42,11 @@ keep-one {A = A} {Q = Q} f irr (and-then {x = x} {xs = xs} h r) u = go (f x) ref
     go true e q = ap suc (q ∙ ap (λ (b : Bool). cond b 1 0) (no-other e))
     go false e q = q
 
-total-member : {A : Type 0} (f : A → ℕ) {l : List A} {x : A} → x ∈ l → f x ≤ total _+_ 0 f l
+total-member : {A : Type 0} (f : A → ℕ) {l : List A} {x : A} → x isIn l → f x ≤ total _+_ 0 f l
 total-member f (List·Memᴰ·head {x = y} {xs = ys} e) = let d = ap f e in omega arith
 total-member f (List·Memᴰ·tail {x = y} {xs = ys} m) = let h = total-member f m in omega arith
 
-sum-map : {A B : Type 0} (f : A → B) (h : B → ℕ) (k : A → ℕ) (l : List A) → ((x : A) → x ∈ l → h (f x) ≡ k x) → sum h (map f l) ≡ total _+_ 0 k l
+sum-map : {A B : Type 0} (f : A → B) (h : B → ℕ) (k : A → ℕ) (l : List A) → ((x : A) → x isIn l → h (f x) ≡ k x) → sum h (map f l) ≡ total _+_ 0 k l
 sum-map f h k [] e = refl
 sum-map f h k (x ∷ xs) e = ap₂ _+_ (e x (List·Memᴰ·head refl)) (sum-map f h k xs (λ y m. e y (List·Memᴰ·tail m)))
 
@@ -89,7 +90,7 @@ module _ (P : Setting) (R : Roles) (ρ : Rule) (g : List ℕ) (members : Every (
       keep-one (lists P R p) (λ c k. lines-strict .apart c c k k) (lines-rising P R ρ g) unique
       ∙ ap (λ (b : Bool). cond b 1 0) (lists-part p l) ∙ sym (times-once p g h)
     where
-      unique : (c d : RuleCommand) → c ∈ linesOf P R ρ g → d ∈ linesOf P R ρ g → Is (lists P R p c) → Is (lists P R p d) → c ≡ d
+      unique : (c d : RuleCommand) → c isIn linesOf P R ρ g → d isIn linesOf P R ρ g → Is (lists P R p c) → Is (lists P R p d) → c ≡ d
       unique c d mc md hc hd = lists-out p c hc ∙ sym (lists-out p d hd)
         where
           lists-out : (p : ℕ) (c : RuleCommand) → Is (lists P R p c) → c ≡ partLine P R p
@@ -137,11 +138,11 @@ module _ (W : ℕ) (P : Setting) (R : Roles) (E : Encodable W P R) where
   attr-numbered : (w : Which) → Numbered (P .side w)
   attr-numbered w = let h = E .numbered w in omega arith
 
-  value-legal : (w : Which) (a x v : ℕ) → a ∈ attrsOf (P .side w) true → x < P .side w .count → P .side w .value a x ≡ some v → Is (legal P R (value w (P .side w .isSet a) a v))
+  value-legal : (w : Which) (a x v : ℕ) → a isIn attrsOf (P .side w) true → x < P .side w .count → P .side w .value a x ≡ some v → Is (legal P R (value w (P .side w .isSet a) a v))
   unfolding legal attrsOf
   value-legal w a x v m l e = go (List·Memᴰ·append-cases (upTo (P .side w .attrs)) m)
     where
-      go : (a ∈ upTo (P .side w .attrs)) ⊎ (a ∈ only true own) → Is (legal P R (value w (P .side w .isSet a) a v))
+      go : (a isIn upTo (P .side w .attrs)) ⊎ (a isIn only true own) → Is (legal P R (value w (P .side w .isSet a) a v))
       go (inl k) =
           let h = upTo-out (P .side w .attrs) k in
           let n = E .numbered w in
@@ -156,7 +157,7 @@ module _ (W : ℕ) (P : Setting) (R : Roles) (E : Encodable W P R) where
     unfolding allowed wellFormed legal
     good-line c (of-value w a vs v m k e) =
         let had = S .had (conjunct w a vs) m v k in
-        let n : a ∈ attrsOf (P .side w) true = elem-out a (attrsOf (P .side w) true) (rw (own-3 w) at (S .permitted (conjunct w a vs) m)) in
+        let n : a isIn attrsOf (P .side w) true = elem-out a (attrsOf (P .side w) true) (rw (own-3 w) at (S .permitted (conjunct w a vs) m)) in
         rw e (record {
           within = refl;
           legally = value-legal w a (had .0) v n (had .1) (had .2);

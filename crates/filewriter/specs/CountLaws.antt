@@ -10,11 +10,12 @@ use Rattle.filewriter.specs.FileTable.{keptAt, keptHead, keptTable, rule
 use Rattle.rulelists.specs.RuleLists.{ruleCostIn}
 use Rattle.rulewriter.specs.RuleTable.{ruleBytesIn}
 use Rattle.rulewriter.specs.SectionLaws.{bytes-most}
-use Rattle.linewriter.specs.Writing.{wrote, length-wrote, Runs, runs-end}
+use Rattle.linewriter.specs.Writing.{wrote}
+use Rattle.linewriter.specs.WritingLaws.{length-wrote, Runs, runs-end}
 use Rattle.loaded.specs.Record.{tableOf}
 use Rattle.loaded.specs.RecordLaws.{table-get}
 use Rattle.rulelines.specs.ListLaws.{each-more, sum-more, keep-more}
-use Rattle.rulelines.specs.RuleBytes.{atomSet}
+use Rattle.rulelines.specs.RuleLines.{atomSet}
 use Rattle.rulelists.specs.ListingLaws.{costs-most}
 use Rattle.rulelists.specs.Roles.{rolesFor, rolesTable}
 use Rattle.sets.specs.LoopLaws.{table-unique}

@@ -6,21 +6,21 @@ use mathlib.Core.Bool.{Bool, true, false, cond}
 use mathlib.Core.List.{List, [], _∷_, _++_, map}
 use mathlib.Core.Path.{_≡_, refl, sym, ap, _∙_}
 use native.Mathlib.Omega.{arith}
-use Rattle.admit.specs.AdmitLaws.{Sized}
+use Rattle.loaded.specs.Record.{Sized, recordOf}
 use Rattle.files.specs.Calls.{minedBytes, minedCounts}
 use Rattle.files.specs.RuleFile.{encode, encodeAll, opens}
 use Rattle.filewriter.specs.FileTable.{keptAt, keptHead, keptTable, ruleAt, costAt, fileBytes, measuredOf}
-use Rattle.loaded.specs.Record.{recordOf}
 use Rattle.loaded.specs.RecordLaws.{table-get}
-use Rattle.matches.specs.MatchLaws.{knownIn, matchesIn}
-use Rattle.pairing.specs.FitLaws.{linksOf}
+use Rattle.matches.specs.Matches.{knownIn, matchesIn}
+use Rattle.grants.specs.Links.{linksOf}
 use Rattle.policy.specs.Covering.{levelOf}
 use Rattle.policy.specs.Merging.{union}
 use Rattle.policy.specs.Policy.{Policy, settingOf}
 use Rattle.policy.specs.Thinning.{ruleCost}
 use Rattle.rulelists.specs.RuleLists.{ruleCostIn}
 use Rattle.rulewriter.specs.RuleTable.{ruleBytesIn}
-use Rattle.rulewriter.specs.WriterLaws.{distinctIn, havingIn, insideIn, written-bytes, written-cost}
+use Rattle.rulewriter.specs.WriterLaws.{written-bytes, written-cost}
+use Rattle.distinct.specs.Distinct.{distinctIn, havingIn, insideIn}
 use Rattle.sets.specs.Tests.{Is, keep, each, upTo, sum}
 use Rattle.slotgroups.specs.MergedLaws.{heads-each, heads-sum, heads-count, parts-count}
 use Rattle.slotgroups.specs.Scratch.{wordsAt, isHeadAt, Merged}

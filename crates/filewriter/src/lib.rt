@@ -7,6 +7,13 @@ ghost use Rattle.filewriter.specs.FileTable.{keptHead, keptTable, ruleAt
 ghost use Rattle.linewriter.specs.Writing.{wrote};
 ghost use Rattle.rulelists.specs.Roles.{rolesTable};
 use rulelists::Size;
+use loaded::ByPlace;
+use loaded::ByPlaceMember;
+use loaded::ByRoleOperation;
+use loaded::BySide;
+use loaded::CountBySide;
+use loaded::Links;
+use loaded::RoleFile;
 
 // The bytes of a rule file, its rules, their cost, and the parts that they list.
 pub struct Measured {
@@ -20,10 +27,10 @@ pub struct Measured {
 
 // The places that the rule of a slot's group keeps; none where the slot is no head.
 fn kept_head<'a>(
-    links: &'a [u64; 2304],
-    matches: &'a [u64; 896],
-    known: &'a [u64; 14],
-    attributes: &'a [usize; 2],
+    links: &'a Links,
+    matches: &'a ByPlaceMember,
+    known: &'a ByPlace,
+    attributes: &'a CountBySide,
     users: usize,
     resources: usize,
     operations: usize,
@@ -53,10 +60,10 @@ fn kept_head<'a>(
 
 // Into a slice, since only a slice tells its length to a proof.
 fn fill_kept<'a>(
-    links: &'a [u64; 2304],
-    matches: &'a [u64; 896],
-    known: &'a [u64; 14],
-    attributes: &'a [usize; 2],
+    links: &'a Links,
+    matches: &'a ByPlaceMember,
+    known: &'a ByPlace,
+    attributes: &'a CountBySide,
     users: usize,
     resources: usize,
     operations: usize,
@@ -66,7 +73,7 @@ fn fill_kept<'a>(
     requires { ⌜ (users ≤ 64) × (resources ≤ 64) × (length (now scratch) ≡ 2048) × (length (now out) ≡ 512) ⌝ }
     ensures { λ _. ⌜ now (out .exit) ≡ keptTable (now (links .entry)) (now (matches .entry)) (now (known .entry)) (now (attributes .entry)) users resources operations (now (scratch .entry)) ⌝ }
 {
-    for i in 0..512 {
+    for i in 0..RoleFile::PARTS {
         out[i] = kept_head(
             links,
             matches,
@@ -83,15 +90,15 @@ fn fill_kept<'a>(
 
 // The places that each rule keeps, whatever the table held: worked out once, for measuring and for writing.
 pub fn kept_places<'a>(
-    links: &'a [u64; 2304],
-    matches: &'a [u64; 896],
-    known: &'a [u64; 14],
-    attributes: &'a [usize; 2],
+    links: &'a Links,
+    matches: &'a ByPlaceMember,
+    known: &'a ByPlace,
+    attributes: &'a CountBySide,
     users: usize,
     resources: usize,
     operations: usize,
     scratch: &'a [u64],
-    out: &mut [u64; 512],
+    out: &mut ByRoleOperation,
 )
     requires { ⌜ (users ≤ 64) × (resources ≤ 64) × (length (now scratch) ≡ 2048) ⌝ }
     ensures { λ _. ⌜ now (out .exit) ≡ keptTable (now (links .entry)) (now (matches .entry)) (now (known .entry)) (now (attributes .entry)) users resources operations (now (scratch .entry)) ⌝ }
@@ -113,13 +120,13 @@ pub fn kept_places<'a>(
 
 // Writes the rule of a slot's group at the front of a slice; nothing where the slot is no head.
 fn write_slot<'a>(
-    kept: &'a [u64; 512],
-    distinct: &'a [u64; 896],
-    having: &'a [u64; 896],
-    inside: &'a [u64; 896],
-    kinds: &'a [u64; 2],
-    permissions: &'a [u64; 512],
-    roles: &'a [u64; 512],
+    kept: &'a ByRoleOperation,
+    distinct: &'a ByPlaceMember,
+    having: &'a ByPlaceMember,
+    inside: &'a ByPlaceMember,
+    kinds: &'a BySide,
+    permissions: &'a ByRoleOperation,
+    roles: &'a ByRoleOperation,
     operations: usize,
     scratch: &'a [u64],
     i: usize,
@@ -148,13 +155,13 @@ fn write_slot<'a>(
 
 // How long the rule of a slot's group is and what it costs; nothing where the slot is no head.
 fn size_slot<'a>(
-    kept: &'a [u64; 512],
-    distinct: &'a [u64; 896],
-    having: &'a [u64; 896],
-    inside: &'a [u64; 896],
-    kinds: &'a [u64; 2],
-    permissions: &'a [u64; 512],
-    roles: &'a [u64; 512],
+    kept: &'a ByRoleOperation,
+    distinct: &'a ByPlaceMember,
+    having: &'a ByPlaceMember,
+    inside: &'a ByPlaceMember,
+    kinds: &'a BySide,
+    permissions: &'a ByRoleOperation,
+    roles: &'a ByRoleOperation,
     operations: usize,
     scratch: &'a [u64],
     i: usize,
@@ -189,13 +196,13 @@ fn one_if(b: bool) -> usize
 
 // Measures the rule file: its rules are counted, and none is written.
 pub fn measure<'a>(
-    kept: &'a [u64; 512],
-    distinct: &'a [u64; 896],
-    having: &'a [u64; 896],
-    inside: &'a [u64; 896],
-    kinds: &'a [u64; 2],
-    permissions: &'a [u64; 512],
-    roles: &'a [u64; 512],
+    kept: &'a ByRoleOperation,
+    distinct: &'a ByPlaceMember,
+    having: &'a ByPlaceMember,
+    inside: &'a ByPlaceMember,
+    kinds: &'a BySide,
+    permissions: &'a ByRoleOperation,
+    roles: &'a ByRoleOperation,
     operations: usize,
     scratch: &'a [u64],
 ) -> Measured
@@ -206,7 +213,7 @@ pub fn measure<'a>(
     let mut rules: usize = 0;
     let mut cost: usize = 0;
     let mut parts: usize = 0;
-    for i in 0..512 {
+    for i in 0..RoleFile::PARTS {
         let size = size_slot(
             kept,
             distinct,
@@ -234,13 +241,13 @@ pub fn measure<'a>(
 
 // Writes the rule file. A rule is written from the place where the rule before it ended.
 pub fn write_rules<'a>(
-    kept: &'a [u64; 512],
-    distinct: &'a [u64; 896],
-    having: &'a [u64; 896],
-    inside: &'a [u64; 896],
-    kinds: &'a [u64; 2],
-    permissions: &'a [u64; 512],
-    roles: &'a [u64; 512],
+    kept: &'a ByRoleOperation,
+    distinct: &'a ByPlaceMember,
+    having: &'a ByPlaceMember,
+    inside: &'a ByPlaceMember,
+    kinds: &'a BySide,
+    permissions: &'a ByRoleOperation,
+    roles: &'a ByRoleOperation,
     operations: usize,
     scratch: &'a [u64],
     out: &mut [u8],
@@ -249,7 +256,7 @@ pub fn write_rules<'a>(
     ensures { λ _. ⌜ now (out .exit) ≡ wrote (fileBytes (now (kept .entry)) (now (distinct .entry)) (now (having .entry)) (now (inside .entry)) (now (kinds .entry)) (now (permissions .entry)) operations (now (scratch .entry))) (now (out .entry)) ⌝ }
 {
     let mut at: usize = 0;
-    for i in 0..512 {
+    for i in 0..RoleFile::PARTS {
         at += write_slot(
             kept,
             distinct,

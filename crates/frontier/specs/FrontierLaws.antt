@@ -6,12 +6,14 @@ use lib.Dec.{eqb}
 use lib.ListN.{length}
 use mathlib.Core.Bool.{Bool, true, false, _&&_, and-true, and-false}
 use mathlib.Core.List.{List, _∷_, map}
-use mathlib.Core.Option.{none, some, Option·map}
+use mathlib.Core.Option.{Option, none, some, Option·map}
 use mathlib.Core.Path.{_≡_, refl, sym, ap, ap₂, _∙_}
 use native.Mathlib.Omega.{arith}
 use Rattle.frontier.specs.Frontier.{Slots, groupsIn, joinedAt, okAt, Clean, NoneBefore, NoneBehind}
-use Rattle.policy.specs.Merging.{absorb, step, run, merges}
-use Rattle.sets.specs.Tests.{Is, and-in, and-l, and-r, test, keep, from, upTo}
+use Rattle.policy.specs.Merging.{absorb, step, mergeAll}
+use Rattle.policy.specs.MergeLaws.{run, merges}
+use Rattle.sets.specs.Tests.{Is, keep, from, upTo}
+use Rattle.sets.specs.TestLaws.{and-in, and-l, and-r, test}
 
 -- ---- the groups of the slots from k on, m of them
 
@@ -262,11 +264,16 @@ module _ {A : Type 0} (ok : A → A → Bool) (join : A → A → A) (n : ℕ) w
 -- ---- from a step to a run
 
 module _ {A : Type 0} (ok : A → A → Bool) (join : A → A → A) where
+  -- a run, by its first step
+  first-step : (k : ℕ) (gs : List A) (o : Option (List A)) → step ok join gs ≡ o
+      → mergeAll ok join (suc k) gs ≡ elim o as (λ _. List A × ℕ) [ none ↦ (gs, 0) | some s ↦ (run ok join k s, suc (merges ok join k s)) ]
+  first-step k gs o h = ap (λ (p : Option (List A)). elim p as (λ _. List A × ℕ) [ none ↦ (gs, 0) | some s ↦ (run ok join k s, suc (merges ok join k s)) ]) h
+
   -- a step that is made is the first of the run
   pub run-found : (k : ℕ) (gs hs : List A) → step ok join gs ≡ some hs → (run ok join (suc k) gs ≡ run ok join k hs) × (merges ok join (suc k) gs ≡ suc (merges ok join k hs))
-  run-found k gs hs h = (rw (h, run), rw (h, merges))
+  run-found k gs hs h = let e = first-step k gs (some hs) h in (ap (λ (r : List A × ℕ). r .0) e, ap (λ (r : List A × ℕ). r .1) e)
 
   -- where there is no step the run is over
   pub run-none : (k : ℕ) (gs : List A) → step ok join gs ≡ none → (run ok join k gs ≡ gs) × (merges ok join k gs ≡ 0)
   run-none zero gs h = (refl, refl)
-  run-none (suc k) gs h = (rw (h, run), rw (h, merges))
+  run-none (suc k) gs h = let e = first-step k gs none h in (ap (λ (r : List A × ℕ). r .0) e, ap (λ (r : List A × ℕ). r .1) e)

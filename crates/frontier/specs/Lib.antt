@@ -1,3 +1,3 @@
 pub mod Frontier
 pub mod FrontierLaws
-pub mod Alike
+pub mod AlikeLaws

@@ -13,11 +13,10 @@ use mathlib.Core.Path.{_≡_, refl, sym, ap, ap₂, _∙_}
 use native.Mathlib.Nat.{not-suc-le-zero, le-of-suc-le-suc, eq-or-lt-of-le}
 use native.Mathlib.Numerals.{add-one}
 use native.Mathlib.Omega.{arith}
-use Rattle.admit.specs.AdmitLaws.{Sized}
+use Rattle.loaded.specs.Record.{Sized, tableOf, recordOf}
 use Rattle.admit.specs.TableLaws.{record-grants}
 use Rattle.files.specs.Calls.{first, triples, rulesGrant, firstDifference}
 use Rattle.files.specs.RuleFile.{Lines}
-use Rattle.loaded.specs.Record.{tableOf, recordOf}
 use Rattle.loaded.specs.RecordLaws.{table-get, table-length, table-ext}
 use Rattle.policy.specs.Policy.{Policy, sideOf, settingOf, rolesIn}
 use Rattle.policy.specs.Roles.{Roles, rolesGrant}
@@ -25,8 +24,10 @@ use Rattle.policy.specs.RuleLaws.{same-in, same-out}
 use Rattle.policy.specs.Rules.{Setting, Block, Triple, sameBlock, user, resource}
 use Rattle.sets.specs.LoopLaws.{upTo-more, all-more, table-unique}
 use Rattle.sets.specs.MaskLaws.{mask-same, mask-none}
-use Rattle.sets.specs.Sets.{bit, maskOf, bit-mask}
-use Rattle.sets.specs.Tests.{Is, and-in, and-l, and-r, fails, same, iff, iff-in, all-in, all-out, each, upTo, upTo-in, upTo-out, _∈_, each-in, each-out, map-in, map-out}
+use Rattle.sets.specs.Sets.{bit, maskOf}
+use Rattle.sets.specs.SetLaws.{bit-mask}
+use Rattle.sets.specs.Tests.{Is, iff, each, upTo, _isIn_}
+use Rattle.sets.specs.TestLaws.{and-in, and-l, and-r, fails, same, iff-in, all-in, all-out, upTo-in, upTo-out, each-in, each-out, map-in, map-out}
 use Rattle.grants.specs.Grid.{gridOf, inGrid, grantedBy, tripleList, differAt, sameWords, gridDifference, differenceOf, isSame}
 use Rattle.grants.specs.declared.Difference.the-variants.{Same, At}
 
@@ -178,7 +179,7 @@ module _ (G H : Block) where
       ∙ first-here (differAt G H) (λ o. (u, r, o) ∷ []) o os (u, r, o) lo (ap (first (differAt G H)) (sym (one-each (λ o. (u, r, o)) (upTo o))) ∙ ho) (rw e refl)))
 
 -- where no member passes there is no first
-first-never : {T : Type 0} (f : T → Bool) (l : List T) → ((x : T) → x ∈ l → f x ≡ false) → first f l ≡ none
+first-never : {T : Type 0} (f : T → Bool) (l : List T) → ((x : T) → x isIn l → f x ≡ false) → first f l ≡ none
 first-never f [] h = refl
 first-never f (x ∷ xs) h = rw (h x (List·Memᴰ·head refl)) (first-never f xs (λ y m. h y (List·Memᴰ·tail m)))
 
@@ -190,7 +191,7 @@ user-skipped a b rs os n h q e = user-passed (inGrid a) (inGrid b) rs os n rs h 
     words : sameWords a b n os ≡ true
     words = sym q ∙ e
 
-    alike : (t : ℕ × ℕ × ℕ) → t ∈ each (λ r. map (λ o. (n, r, o)) (upTo os)) (upTo rs) → differAt (inGrid a) (inGrid b) t ≡ false
+    alike : (t : ℕ × ℕ × ℕ) → t isIn each (λ r. map (λ o. (n, r, o)) (upTo os)) (upTo rs) → differAt (inGrid a) (inGrid b) t ≡ false
     alike t m =
         let p = each-out (λ r. map (λ o. (n, r, o)) (upTo os)) (upTo rs) m in
         let k = map-out (λ o. (n, p .0, o)) (upTo os) (p .2) in
@@ -220,7 +221,7 @@ differs {x = x} {y = y} e f = ap₂ (λ (a b : Bool). not (Bool·beq a b)) e f �
 
 -- ---- THE LAW: the first difference of two grids is that of the sets of triples that they stand for
 
-first-ext : {T : Type 0} (f g : T → Bool) (l : List T) → ((x : T) → x ∈ l → f x ≡ g x) → first f l ≡ first g l
+first-ext : {T : Type 0} (f g : T → Bool) (l : List T) → ((x : T) → x isIn l → f x ≡ g x) → first f l ≡ first g l
 first-ext f g [] h = refl
 first-ext f g (x ∷ xs) h = rw (h x (List·Memᴰ·head refl), first-ext f g xs (λ y m. h y (List·Memᴰ·tail m))) refl
 
@@ -228,7 +229,7 @@ pub triples-same : (P : Setting) → triples P ≡ tripleList (P .side user .cou
 unfolding triples tripleList
 triples-same P = refl
 
-pub triple-in : (P : Setting) (t : ℕ × ℕ × ℕ) → t ∈ tripleList (P .side user .count) (P .side resource .count) (P .slots) → Triple P (t .0) (t .1) (t .2)
+pub triple-in : (P : Setting) (t : ℕ × ℕ × ℕ) → t isIn tripleList (P .side user .count) (P .side resource .count) (P .slots) → Triple P (t .0) (t .1) (t .2)
 unfolding tripleList
 triple-in P t m =
     let p = each-out (λ u. each (λ r. map (λ o. (u, r, o)) (upTo (P .slots))) (upTo (P .side resource .count))) (upTo (P .side user .count)) m in
@@ -254,7 +255,7 @@ judged-means P R rules a b p q = difference-means P (rolesGrant P R) (rulesGrant
 
 -- ---- grids without a difference stand for the same triples
 
-first-out : {T : Type 0} (f : T → Bool) {l : List T} → first f l ≡ none → {x : T} → x ∈ l → f x ≡ false
+first-out : {T : Type 0} (f : T → Bool) {l : List T} → first f l ≡ none → {x : T} → x isIn l → f x ≡ false
 first-out f h (List·Memᴰ·head {x = y} {xs = ys} e) = ap f e ∙ fails (f y) (λ k. some-not-none (rw k at h))
 first-out f h (List·Memᴰ·tail {x = y} {xs = ys} m) = first-out f (past (f y) h) m
   where
@@ -262,7 +263,7 @@ first-out f h (List·Memᴰ·tail {x = y} {xs = ys} m) = first-out f (past (f y)
     past true h = some-not-none h
     past false h = h
 
-list-triple : (P : Setting) (u r o : ℕ) → Triple P u r o → (u, r, o) ∈ triples P
+list-triple : (P : Setting) (u r o : ℕ) → Triple P u r o → (u, r, o) isIn triples P
 unfolding triples
 list-triple P u r o t =
     each-in (λ u. each (λ r. map (λ o. (u, r, o)) (upTo (P .slots))) (upTo (P .side resource .count))) (upTo-in (t .user))

@@ -9,15 +9,16 @@ use mathlib.Core.List.{List}
 use mathlib.Core.Option.{Option, none, some}
 use mathlib.Core.Path.{_≡_, refl, sym, ap, ap₂, _∙_}
 use native.Mathlib.Omega.{arith}
-use Rattle.admit.specs.AdmitLaws.{Sized}
+use Rattle.loaded.specs.Record.{Sized, slotSide, numberOr, knownTable, valueTable, kindTable, recordWith, recordOf}
 use Rattle.grants.specs.Links.{valueIn, formIn, linkHolds, linkWord, linkTable}
-use Rattle.loaded.specs.Record.{slotSide, numberOr, knownTable, valueTable, kindTable, recordWith, recordOf}
 use Rattle.loaded.specs.RecordLaws.{table-get, table-length}
 use Rattle.policy.specs.Policy.{Policy, kindOf, isSetAt, valueAt, sideOf, settingOf}
 use Rattle.policy.specs.Rules.{Which, Form, formOf, linked, both, holds, user, resource, atom, own}
 use Rattle.sets.specs.MaskLaws.{bit-out, bit-maskOf, mask-same, mask-wide, mask-none}
-use Rattle.sets.specs.Sets.{bit, bit-none, subset, maskOf, bit-mask}
-use Rattle.sets.specs.Tests.{test, isSome}
+use Rattle.sets.specs.Sets.{bit, subset, maskOf}
+use Rattle.sets.specs.SetLaws.{bit-none, bit-mask}
+use Rattle.sets.specs.Tests.{isSome}
+use Rattle.sets.specs.TestLaws.{test}
 
 -- ---- one pair of values, by the kinds of the attributes
 

@@ -6,7 +6,8 @@ use lib.ListN.{getD}
 use mathlib.Core.Bool.{Bool, cond}
 use mathlib.Core.List.{List}
 use mathlib.Core.Option.{Option, none, some}
-use Rattle.loaded.specs.Record.{tableOf}
+use Rattle.loaded.specs.Record.{tableOf, recordOf}
+use Rattle.policy.specs.Policy.{Policy}
 use Rattle.policy.specs.Rules.{Form, formOf, linked, both}
 use Rattle.sets.specs.Sets.{bit, maskOf}
 
@@ -28,3 +29,8 @@ linkWord known values kinds resources a b u = maskOf resources (linkHolds known 
 
 unfoldable pub linkTable : List ℕ → List ℕ → List ℕ → ℕ → List ℕ
 linkTable known values kinds resources = tableOf 2304 (λ i. linkWord known values kinds resources (i / 384) (i / 64 % 6) (i % 64))
+
+
+-- a policy's table of links, from its record
+abbrev pub linksOf : Policy → List ℕ
+linksOf F = linkTable (recordOf F .known) (recordOf F .values) (recordOf F .kinds) (recordOf F .resources)

@@ -12,8 +12,10 @@ use Rattle.loaded.specs.Record.{tableOf}
 use Rattle.loaded.specs.RecordLaws.{table-get, table-length, table-ext, table-set}
 use Rattle.sets.specs.LoopLaws.{any-more, table-unique}
 use Rattle.sets.specs.MaskLaws.{and-true, or-false, mask-same}
-use Rattle.sets.specs.Sets.{bit, maskOf, bit-mask}
-use Rattle.sets.specs.Tests.{and-in, and-l, and-r, never, test, fails, same, any, upTo, not-in, not-out}
+use Rattle.sets.specs.Sets.{bit, maskOf}
+use Rattle.sets.specs.SetLaws.{bit-mask}
+use Rattle.sets.specs.Tests.{any, upTo}
+use Rattle.sets.specs.TestLaws.{and-in, and-l, and-r, never, test, fails, same, not-in, not-out}
 use Rattle.grants.specs.Grid.{gridOf, grantedBy}
 use Rattle.grants.specs.LinkLaws.{word-nobody}
 use Rattle.grants.specs.Links.{linkWord, linkTable}

@@ -11,6 +11,14 @@ ghost use Rattle.grants.specs.Updates.{joinedRow, joinedRole, linkedAtom
 ghost use Rattle.policy.specs.Rules.{formOf, linked};
 ghost use Rattle.sets.specs.Sets.{maskOf};
 ghost use Rattle.sets.specs.Tests.{iff};
+use loaded::ByAttribute;
+use loaded::ByRole;
+use loaded::ByRoleOperation;
+use loaded::BySide;
+use loaded::Grid;
+use loaded::Links;
+use loaded::Values;
+use loaded::RoleFile;
 
 pub enum Difference {
     Same,
@@ -23,27 +31,27 @@ pub fn fill_none(grid: &mut [u64])
     requires { ⌜ length (now grid) ≡ 1024 ⌝ }
     ensures { λ _. ⌜ now (grid .exit) ≡ gridOf (λ u r o. false) ⌝ }
 {
-    for word in 0..1024 {
+    for word in 0..RoleFile::USERS * RoleFile::OPERATIONS {
         grid[word] = 0;
     }
 }
 
 // Joins what a role is permitted to a user's words.
-fn join_row(permissions: &[u64; 512], role: usize, user: usize, grid: &mut [u64])
+fn join_row(permissions: &ByRoleOperation, role: usize, user: usize, grid: &mut [u64])
     requires { ⌜ (role < 32) × (user < 64) × (length (now grid) ≡ 1024) ⌝ }
     ensures { λ _. ⌜ now (grid .exit) ≡ joinedRow (now (permissions .entry)) role user (now (grid .entry)) ⌝ }
 {
-    for o in 0..16 {
-        grid[16 * user + o] = sets::union(grid[16 * user + o], permissions[16 * role + o]);
+    for o in 0..RoleFile::OPERATIONS {
+        grid[RoleFile::OPERATIONS * user + o] = sets::union(grid[RoleFile::OPERATIONS * user + o], permissions[RoleFile::OPERATIONS * role + o]);
     }
 }
 
 // Joins what a role is permitted to the words of each user who holds it.
-fn join_role(holding: u64, permissions: &[u64; 512], role: usize, grid: &mut [u64])
+fn join_role(holding: u64, permissions: &ByRoleOperation, role: usize, grid: &mut [u64])
     requires { ⌜ (role < 32) × (length (now grid) ≡ 1024) ⌝ }
     ensures { λ _. ⌜ now (grid .exit) ≡ joinedRole holding (now (permissions .entry)) role (now (grid .entry)) ⌝ }
 {
-    for u in 0..64 {
+    for u in 0..RoleFile::MEMBERS {
         if sets::has(holding, u) {
             join_row(permissions, role, u, grid);
         }
@@ -51,7 +59,7 @@ fn join_role(holding: u64, permissions: &[u64; 512], role: usize, grid: &mut [u6
 }
 
 // Role by role, since most users hold few roles.
-fn fill_grid<'a>(holders: &'a [u64; 32], permissions: &'a [u64; 512], roles: usize, out: &mut [u64])
+fn fill_grid<'a>(holders: &'a ByRole, permissions: &'a ByRoleOperation, roles: usize, out: &mut [u64])
     requires { ⌜ (roles ≤ 32) × (length (now out) ≡ 1024) ⌝ }
     ensures { λ _. ⌜ now (out .exit) ≡ gridOf (grantedBy (now (holders .entry)) (now (permissions .entry)) roles) ⌝ }
 {
@@ -63,10 +71,10 @@ fn fill_grid<'a>(holders: &'a [u64; 32], permissions: &'a [u64; 512], roles: usi
 
 // The grid of what the roles grant, whatever the table held.
 pub fn roles_grid<'a>(
-    holders: &'a [u64; 32],
-    permissions: &'a [u64; 512],
+    holders: &'a ByRole,
+    permissions: &'a ByRoleOperation,
     roles: usize,
-    out: &mut [u64; 1024],
+    out: &mut Grid,
 )
     requires { ⌜ roles ≤ 32 ⌝ }
     ensures { λ _. ⌜ now (out .exit) ≡ gridOf (grantedBy (now (holders .entry)) (now (permissions .entry)) roles) ⌝ }
@@ -76,8 +84,8 @@ pub fn roles_grid<'a>(
 
 // Whether two grids differ at a triple.
 fn differ_at<'a>(
-    a: &'a [u64; 1024],
-    b: &'a [u64; 1024],
+    a: &'a Grid,
+    b: &'a Grid,
     user: usize,
     resource: usize,
     operation: usize,
@@ -85,24 +93,24 @@ fn differ_at<'a>(
     requires { ⌜ (user < 64) × (operation < 16) ⌝ }
     ensures { λ d. ⌜ d ≡ not (iff (inGrid (now (a .entry)) user resource operation) (inGrid (now (b .entry)) user resource operation)) ⌝ }
 {
-    let at = 16 * user + operation;
+    let at = RoleFile::OPERATIONS * user + operation;
     sets::has(a[at], resource) != sets::has(b[at], resource)
 }
 
 // Whether two grids have the same words for a user at all operations. Every word is looked at, which takes no branch.
-fn alike<'a>(a: &'a [u64; 1024], b: &'a [u64; 1024], user: usize) -> bool
+fn alike<'a>(a: &'a Grid, b: &'a Grid, user: usize) -> bool
     requires { ⌜ user < 64 ⌝ }
     ensures { λ s. ⌜ s ≡ sameWords (now (a .entry)) (now (b .entry)) user 16 ⌝ }
 {
     let mut differences: u64 = 0;
-    for o in 0..16 {
-        differences = differences | (a[16 * user + o] ^ b[16 * user + o]);
+    for o in 0..RoleFile::OPERATIONS {
+        differences = differences | (a[RoleFile::OPERATIONS * user + o] ^ b[RoleFile::OPERATIONS * user + o]);
     }
     differences == 0
 }
 
 // Whether two grids have the same words for a user.
-fn agree<'a>(a: &'a [u64; 1024], b: &'a [u64; 1024], user: usize, operations: usize) -> bool
+fn agree<'a>(a: &'a Grid, b: &'a Grid, user: usize, operations: usize) -> bool
     requires { ⌜ (user < 64) × (operations ≤ 16) ⌝ }
     ensures { λ s. ⌜ s ≡ sameWords (now (a .entry)) (now (b .entry)) user operations ⌝ }
 {
@@ -110,7 +118,7 @@ fn agree<'a>(a: &'a [u64; 1024], b: &'a [u64; 1024], user: usize, operations: us
         return true;
     }
     for o in 0..operations {
-        if a[16 * user + o] != b[16 * user + o] {
+        if a[RoleFile::OPERATIONS * user + o] != b[RoleFile::OPERATIONS * user + o] {
             return false;
         }
     }
@@ -119,8 +127,8 @@ fn agree<'a>(a: &'a [u64; 1024], b: &'a [u64; 1024], user: usize, operations: us
 
 // The first triple, by user, then resource, then operation, at which two grids differ.
 pub fn first_difference<'a>(
-    a: &'a [u64; 1024],
-    b: &'a [u64; 1024],
+    a: &'a Grid,
+    b: &'a Grid,
     users: usize,
     resources: usize,
     operations: usize,
@@ -148,7 +156,7 @@ pub fn first_difference<'a>(
 
 // Whose values in a slot, known or not, the atom joins with a user's value. Left says that the user's attribute is a set, right that the
 // resource's is.
-fn fitting(values: &[u64; 768], slot: usize, left: bool, right: bool, x: u64) -> u64
+fn fitting(values: &Values, slot: usize, left: bool, right: bool, x: u64) -> u64
     requires { ⌜ slot < 12 ⌝ }
     ensures { λ m. ⌜ m ≡ maskOf 64 (λ r. linked (formOf left right) x (getD (now (values .entry)) (64 * slot + r) 0)) ⌝ }
 {
@@ -167,7 +175,7 @@ fn fitting(values: &[u64; 768], slot: usize, left: bool, right: bool, x: u64) ->
 
 // The resources, of that many, of whose values in a slot, known or not, the atom holds with a user's value.
 fn linked_values(
-    values: &[u64; 768],
+    values: &Values,
     slot: usize,
     resources: usize,
     left: bool,
@@ -185,9 +193,9 @@ fn linked_values(
 
 // The resources of which the atom over user attribute a and resource attribute b holds with a user.
 fn link_word<'a>(
-    known: &'a [u64; 12],
-    values: &'a [u64; 768],
-    kinds: &'a [u64; 2],
+    known: &'a ByAttribute,
+    values: &'a Values,
+    kinds: &'a BySide,
     resources: usize,
     a: usize,
     b: usize,
@@ -200,17 +208,17 @@ fn link_word<'a>(
     if sets::has(known[a], user) {
         let left = sets::has(kinds[0], a);
         let right = sets::has(kinds[1], b);
-        let found = linked_values(values, 6 + b, resources, left, right, values[64 * a + user]);
-        return sets::meet(known[6 + b], found);
+        let found = linked_values(values, RoleFile::ATTRIBUTES + b, resources, left, right, values[RoleFile::MEMBERS * a + user]);
+        return sets::meet(known[RoleFile::ATTRIBUTES + b], found);
     }
     0
 }
 
 // The words of an atom, of which `links` below has 36.
 fn link_atom<'a>(
-    known: &'a [u64; 12],
-    values: &'a [u64; 768],
-    kinds: &'a [u64; 2],
+    known: &'a ByAttribute,
+    values: &'a Values,
+    kinds: &'a BySide,
     resources: usize,
     atom: usize,
     out: &mut [u64],
@@ -218,8 +226,8 @@ fn link_atom<'a>(
     requires { ⌜ (resources ≤ 64) × (atom < 36) × (length (now out) ≡ 2304) ⌝ }
     ensures { λ _. ⌜ now (out .exit) ≡ linkedAtom (now (known .entry)) (now (values .entry)) (now (kinds .entry)) resources atom (now (out .entry)) ⌝ }
 {
-    for u in 0..64 {
-        out[64 * atom + u] = link_word(known, values, kinds, resources, atom / 6, atom % 6, u);
+    for u in 0..RoleFile::MEMBERS {
+        out[RoleFile::MEMBERS * atom + u] = link_word(known, values, kinds, resources, atom / RoleFile::ATTRIBUTES, atom % RoleFile::ATTRIBUTES, u);
     }
 }
 
@@ -228,26 +236,26 @@ fn empty_atom(atom: usize, out: &mut [u64])
     requires { ⌜ (atom < 36) × (length (now out) ≡ 2304) ⌝ }
     ensures { λ _. ⌜ now (out .exit) ≡ emptyAtom atom (now (out .entry)) ⌝ }
 {
-    for u in 0..64 {
-        out[64 * atom + u] = 0;
+    for u in 0..RoleFile::MEMBERS {
+        out[RoleFile::MEMBERS * atom + u] = 0;
     }
 }
 
 // Whether nobody knows one of an atom's attributes, as where it is not declared.
-fn unknown(known: &[u64; 12], atom: usize) -> bool
+fn unknown(known: &ByAttribute, atom: usize) -> bool
     requires { ⌜ atom < 36 ⌝ }
     ensures { λ r. ⌜ r ≡ (eqb (getD (now (known .entry)) (atom / 6) 0) 0 || eqb (getD (now (known .entry)) (6 + atom % 6) 0) 0) ⌝ }
 {
-    if known[atom / 6] == 0 {
+    if known[atom / RoleFile::ATTRIBUTES] == 0 {
         return true;
     }
-    known[6 + atom % 6] == 0
+    known[RoleFile::ATTRIBUTES + atom % RoleFile::ATTRIBUTES] == 0
 }
 
 fn fill_atom<'a>(
-    known: &'a [u64; 12],
-    values: &'a [u64; 768],
-    kinds: &'a [u64; 2],
+    known: &'a ByAttribute,
+    values: &'a Values,
+    kinds: &'a BySide,
     resources: usize,
     atom: usize,
     out: &mut [u64],
@@ -265,16 +273,16 @@ fn fill_atom<'a>(
 
 // Into a slice, since only a slice tells its length to a proof.
 fn fill_links<'a>(
-    known: &'a [u64; 12],
-    values: &'a [u64; 768],
-    kinds: &'a [u64; 2],
+    known: &'a ByAttribute,
+    values: &'a Values,
+    kinds: &'a BySide,
     resources: usize,
     out: &mut [u64],
 )
     requires { ⌜ (resources ≤ 64) × (length (now out) ≡ 2304) ⌝ }
     ensures { λ _. ⌜ now (out .exit) ≡ linkTable (now (known .entry)) (now (values .entry)) (now (kinds .entry)) resources ⌝ }
 {
-    for atom in 0..36 {
+    for atom in 0..RoleFile::ATOMS {
         fill_atom(known, values, kinds, resources, atom, out);
     }
 }
@@ -282,11 +290,11 @@ fn fill_links<'a>(
 // The atoms that hold, whatever the table held: word 64 * (6 * a + b) + user is the set of the resources of which the atom over user
 // attribute a and resource attribute b holds with the user.
 pub fn links<'a>(
-    known: &'a [u64; 12],
-    values: &'a [u64; 768],
-    kinds: &'a [u64; 2],
+    known: &'a ByAttribute,
+    values: &'a Values,
+    kinds: &'a BySide,
     resources: usize,
-    out: &mut [u64; 2304],
+    out: &mut Links,
 )
     requires { ⌜ resources ≤ 64 ⌝ }
     ensures { λ _. ⌜ now (out .exit) ≡ linkTable (now (known .entry)) (now (values .entry)) (now (kinds .entry)) resources ⌝ }

@@ -12,10 +12,13 @@ use Rattle.groupwords.specs.PartWords.{trueOfAll, isAtomOf, atomsOf, atM
 use Rattle.matches.specs.Matches.{lessOne}
 use Rattle.matches.specs.MemberLaws.{least-in, bit-less, all-turn, all-left, all-done}
 use Rattle.operands.specs.Operands.{classRow}
-use Rattle.sets.specs.Lowest.{lowestFrom, lowestFrom-some}
+use Rattle.sets.specs.Lowest.{lowestFrom}
+use Rattle.sets.specs.LowestLaws.{lowestFrom-some}
 use Rattle.sets.specs.MaskLaws.{and-true, or-false, bit-out, bit-maskOf, mask-lt, mask-unique, mask-same, mask-wide, least-most}
-use Rattle.sets.specs.Sets.{bit, subset, bit-none, maskOf, bit-mask}
-use Rattle.sets.specs.Tests.{Is, never, test, fails, same, any, any-in, any-out, upTo, upTo-in, upTo-out, not-in, not-out}
+use Rattle.sets.specs.Sets.{bit, subset, maskOf}
+use Rattle.sets.specs.SetLaws.{bit-none, bit-mask}
+use Rattle.sets.specs.Tests.{Is, any, upTo}
+use Rattle.sets.specs.TestLaws.{never, test, fails, same, any-in, any-out, upTo-in, upTo-out, not-in, not-out}
 
 -- ---- the declared atoms
 

@@ -8,13 +8,12 @@ use mathlib.Core.Bool.{Bool, true, false, cond, _&&_, not}
 use mathlib.Core.List.{List}
 use mathlib.Core.Path.{_≡_, refl, sym, ap, ap₂, _∙_}
 use native.Mathlib.Omega.{arith}
-use Rattle.admit.specs.AdmitLaws.{Sized}
+use Rattle.loaded.specs.Record.{Sized, permissionTable, attributeTable, recordWith, recordOf}
 use Rattle.admit.specs.TableLaws.{eqb-turned, permittedOn, row-shown, holders-shown, holder-within, rows-alike}
 use Rattle.grants.specs.LinkLaws.{link-means}
 use Rattle.grants.specs.Links.{linkTable}
 use Rattle.groupwords.specs.AtomLaws.{lowest-first}
 use Rattle.groupwords.specs.PartWords.{trueOfAll, isAtomOf, atomsOf, isPartIn}
-use Rattle.loaded.specs.Record.{permissionTable, attributeTable, recordWith, recordOf}
 use Rattle.operands.specs.Operands.{classRow}
 use Rattle.policy.specs.ClassLaws.{part-facts}
 use Rattle.policy.specs.PartLaws.{alike-out, alike-in}
@@ -23,8 +22,10 @@ use Rattle.policy.specs.Roles.{Part, alike, leads, isPart, parts, blockOf, clas
 use Rattle.policy.specs.Rules.{holds, user, resource, atom}
 use Rattle.sets.specs.Lowest.{lowestFrom}
 use Rattle.sets.specs.MaskLaws.{mask-lt, bit-maskOf, mask-same, mask-wide, empty-law}
-use Rattle.sets.specs.Sets.{bit, subset, subset-out, subset-in, maskOf, bit-mask}
-use Rattle.sets.specs.Tests.{Is, and-in, and-l, and-r, same, imp, imp-in, imp-out, _∈_, all, any, all-out, all-in, any-ext, upTo, upTo-in, upTo-out}
+use Rattle.sets.specs.Sets.{bit, subset, maskOf}
+use Rattle.sets.specs.SetLaws.{subset-out, subset-in, bit-mask}
+use Rattle.sets.specs.Tests.{Is, imp, _isIn_, all, any, upTo}
+use Rattle.sets.specs.TestLaws.{and-in, and-l, and-r, same, imp-in, imp-out, all-out, all-in, any-ext, upTo-in, upTo-out}
 use Rattle.words.specs.WordLaws.{part-words}
 use Rattle.words.specs.Words.{Words, Roomy, wordsOf, partAtom}
 
@@ -92,11 +93,11 @@ module _ (F : Policy) (Z : Sized F) where
   roomy = record { many = Z .many; attributes = Z .declared; operable = let n = Z .operable in omega arith }
 
   -- and for each of its parts
-  part-role : {p : Part} → p ∈ parts (settingOf F) (rolesIn F) → p .role < 32
+  part-role : {p : Part} → p isIn parts (settingOf F) (rolesIn F) → p .role < 32
   unfolding rolesIn
   part-role {p} m = let n = Z .few in let l : p .role < F .roles = part-facts (settingOf F) (rolesIn F) m .in-roles in omega arith
 
-  part-lead : {p : Part} → p ∈ parts (settingOf F) (rolesIn F) → p .lead < 16
+  part-lead : {p : Part} → p isIn parts (settingOf F) (rolesIn F) → p .lead < 16
   part-lead {p} m = let n = slots-room in let l : p .lead < settingOf F .slots = part-facts (settingOf F) (rolesIn F) m .in-slots in omega arith
 
   -- how many attributes are declared
@@ -163,7 +164,7 @@ module _ (F : Policy) (Z : Sized F) where
   atoms-word p hk ho = ap₂ (atomsOf (linksIn F) (recordOf F .attributes)) (holders-word (p .role) hk) (resources-word (p .role) (p .lead) hk ho) ∙ atoms-shown p
 
   -- THE LAW of the words of a part
-  pub table-words : (p : Part) → p ∈ parts (settingOf F) (rolesIn F) → tableWords F p ≡ wordsOf (settingOf F) (blockOf (settingOf F) (rolesIn F) p)
+  pub table-words : (p : Part) → p isIn parts (settingOf F) (rolesIn F) → tableWords F p ≡ wordsOf (settingOf F) (blockOf (settingOf F) (rolesIn F) p)
   table-words p m =
       words-same (holders-word (p .role) (part-role m)) (resources-word (p .role) (p .lead) (part-role m) (part-lead m)) (class-word (p .role) (p .lead) (part-role m) (part-lead m)) (atoms-word p (part-role m) (part-lead m))
       ∙ sym (part-words (settingOf F) (rolesIn F) p m)

@@ -4,27 +4,27 @@ use Prim.Native.Nat.{ℕ}
 use borrow.Author.Tests.{eq-eqb, ne-eqb, lt-ltb}
 use lib.Dec.{eqb, ltb}
 use mathlib.Core.Bool.{Bool, true, false, cond, _&&_}
-use mathlib.Core.List.{List}
+use mathlib.Core.List.{List, [], _∷_}
 use mathlib.Core.Option.{Option, none, some}
 use mathlib.Core.Path.{_≡_, refl, sym, ap, ap₂, _∙_}
 use native.Mathlib.Omega.{arith}
-use Rattle.admit.specs.AdmitLaws.{Sized}
-use Rattle.files.specs.Answer.{Refusal, numberOf, Answer, andThen, refused, accepted}
+use Rattle.loaded.specs.Record.{Sized, numberOr, permissionTable, recordWith, recordOf}
+use Rattle.files.specs.Answer.{Refusal, numberOf, Answer, told, andThen, refused, accepted}
 use Rattle.files.specs.BytesLaws.{Carries, number-positive}
 use Rattle.files.specs.Calls.{Verdict, decided, isTriple, rulesGrant, firstDifference, firstStrayRule, firstStrayPart, verdict, readBoth, judge}
 use Rattle.files.specs.RuleFile.{Lines}
 use Rattle.grants.specs.Grid.{gridOf, inGrid, grantedBy, gridDifference, differenceOf}
 use Rattle.grants.specs.GridLaws.{in-grid, roles-grid-means, judged-means}
-use Rattle.judging.specs.Judgement.{judgementOf}
+use Rattle.judging.specs.Judgement.{verdictTold, judgementNumbers}
 use Rattle.listings.specs.Listed.{seenTable, againTable, strayOf, strayPartOf}
 use Rattle.listings.specs.ListedLaws.{stray-means}
-use Rattle.loaded.specs.Record.{numberOr, permissionTable, recordWith, recordOf}
 use Rattle.policy.specs.Policy.{Policy, sideOf, settingOf, rolesIn}
 use Rattle.policy.specs.Rules.{Triple, user, resource}
 use Rattle.rulefile.specs.BothFiles.{nothingRead, bothOf}
 use Rattle.rulefile.specs.LegalLaws.{AllLegal, Sound as SoundFiles, both-sound}
 use Rattle.rulesteps.specs.Shows.{grantedWithin}
-use Rattle.sets.specs.Tests.{Is, and-in, isSome}
+use Rattle.sets.specs.Tests.{Is, isSome}
+use Rattle.sets.specs.TestLaws.{and-in}
 use Rattle.grants.specs.declared.Difference.{Difference}
 use Rattle.grants.specs.declared.Difference.the-variants.{Same, At}
 use Rattle.judging.specs.declared.Judgement.{Judgement}
@@ -55,8 +55,8 @@ judgedBy b = cond (eqb (b .code) 0) (byDifference (differenceIn b) (b .strays) (
 
 -- ---- they are those of the definitions
 
-decided-so : (d : Option (ℕ × ℕ × ℕ)) (i p : Option ℕ) → byDifference (differenceOf d) (isSome i) (numberOr i) (strayPartOf p) ≡ judgementOf (accepted (decided d i p))
-unfolding differenceOf strayPartOf judgementOf
+decided-so : (d : Option (ℕ × ℕ × ℕ)) (i p : Option ℕ) → judgementNumbers (byDifference (differenceOf d) (isSome i) (numberOr i) (strayPartOf p)) ≡ 0 ∷ verdictTold (decided d i p)
+unfolding differenceOf strayPartOf
 decided-so (some t) i p = refl
 decided-so none (some i) p = refl
 decided-so none none (some p) = refl
@@ -83,22 +83,22 @@ module _ (F : Policy) (rules : List Lines) (Z : Sized F) (L : AllLegal (settingO
   unfolding strayIn bothOf recordOf recordWith
   strays-so = stray-means F Z rules (λ ls m c i. L ls m c i)
 
-  judged : judgedBy (bothOf (accepted (F, rules))) ≡ judgementOf (accepted (verdict (settingOf F) (rolesIn F) rules))
+  judged : judgementNumbers (judgedBy (bothOf (accepted (F, rules)))) ≡ 0 ∷ verdictTold (verdict (settingOf F) (rolesIn F) rules)
   unfolding judgedBy bothOf verdict
   judged =
-      ap₂ (λ (d : Difference) (p : Stray). byDifference d (isSome (firstStrayRule (settingOf F) (rolesIn F) rules)) (numberOr (firstStrayRule (settingOf F) (rolesIn F) rules)) p) differs strays-so
+      ap₂ (λ (d : Difference) (p : Stray). judgementNumbers (byDifference d (isSome (firstStrayRule (settingOf F) (rolesIn F) rules)) (numberOr (firstStrayRule (settingOf F) (rolesIn F) rules)) p)) differs strays-so
       ∙ decided-so (firstDifference (settingOf F) (rolesIn F) rules) (firstStrayRule (settingOf F) (rolesIn F) rules) (firstStrayPart (settingOf F) (rolesIn F) rules)
 
-refused-so : (e : Refusal) → judgedBy (bothOf (refused e)) ≡ judgementOf (refused e)
-unfolding judgedBy bothOf nothingRead judgementOf
+refused-so : (e : Refusal) → judgementNumbers (judgedBy (bothOf (refused e))) ≡ numberOf e ∷ []
+unfolding judgedBy bothOf nothingRead
 refused-so e = rw (ne-eqb (numberOf e) 0 (number-positive e)) refl
 
 -- THE LAW
-pub judged-so : (file rules : List ℕ) → judgedBy (bothOf (readBoth 2 file rules)) ≡ judgementOf (judge 2 file rules)
+pub judged-so : (file rules : List ℕ) → judgementNumbers (judgedBy (bothOf (readBoth 2 file rules))) ≡ told verdictTold (judge 2 file rules)
 unfolding judge
 judged-so file rules = go (readBoth 2 file rules) (both-sound file rules)
   where
-    go : (a : Answer (Policy × List Lines)) → Carries SoundFiles a → judgedBy (bothOf a) ≡ judgementOf (andThen a (λ (p : Policy × List Lines). accepted (verdict (settingOf (p .0)) (rolesIn (p .0)) (p .1))))
+    go : (a : Answer (Policy × List Lines)) → Carries SoundFiles a → judgementNumbers (judgedBy (bothOf a)) ≡ told verdictTold (andThen a (λ (p : Policy × List Lines). accepted (verdict (settingOf (p .0)) (rolesIn (p .0)) (p .1))))
     go (refused e) z = refused-so e
     go (accepted p) z = judged (p .0) (p .1) (z .sized) (z .lines-legal)
 

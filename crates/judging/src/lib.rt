@@ -1,9 +1,11 @@
 // The judge of rule files: whether a rule file, read beside a role file, grants what the roles do, rule by rule and part by part.
 ghost use mathlib.Core.Path.{_≡_};
+ghost use Rattle.files.specs.Answer.{told};
 ghost use Rattle.files.specs.Calls.{judge};
-ghost use Rattle.judging.specs.Judgement.{judgementOf};
+ghost use Rattle.judging.specs.Judgement.{verdictTold, judgementNumbers};
 use grants::Difference;
 use listings::StrayPart;
+use loaded::RoleFile;
 
 pub enum Judgement {
     Sound,
@@ -17,14 +19,14 @@ pub enum Judgement {
 }
 
 pub fn judge(file: &[u8], rules: &[u8]) -> Judgement
-    ensures { λ r. ⌜ r ≡ judgementOf (judge 2 (now (file .entry)) (now (rules .entry))) ⌝ }
+    ensures { λ r. ⌜ judgementNumbers r ≡ told verdictTold (judge 2 (now (file .entry)) (now (rules .entry))) ⌝ }
 {
     let b = rulefile::read(file, rules);
     if b.code != 0 {
         return Judgement::Refused(b.code);
     }
     let f = b.file;
-    let mut granted = [0u64; 1024];
+    let mut granted = [0u64; RoleFile::USERS * RoleFile::OPERATIONS];
     grants::roles_grid(&f.holders, &f.permissions, f.roles, &mut granted);
     match grants::first_difference(&granted, &b.grid, f.users, f.resources, f.operations) {
         Difference::At(user, resource, operation) => Judgement::Differ(user, resource, operation),

@@ -10,9 +10,10 @@ use mathlib.Core.Path.{_≡_, refl, sym, ap, ap₂, _∙_}
 use native.Mathlib.Omega.{arith}
 use Rattle.files.specs.Bytes.{spread}
 use Rattle.files.specs.RuleFile.{valueByte}
-use Rattle.linewriter.specs.Writing.{wrote, length-wrote}
+use Rattle.linewriter.specs.Writing.{wrote}
+use Rattle.linewriter.specs.WritingLaws.{length-wrote}
 use Rattle.policy.specs.Rules.{Which, user, resource}
-use Rattle.rulelines.specs.RuleBytes.{valueBytes}
+use Rattle.rulelines.specs.RuleLines.{valueBytes}
 use Rattle.sets.specs.Tests.{Is}
 use Rattle.words.specs.Flags.{placeSide, placeAttribute}
 

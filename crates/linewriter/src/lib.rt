@@ -7,9 +7,11 @@ ghost use Prim.Native.Nat.{_≤_, _<_};
 ghost use Rattle.files.specs.Bytes.{spread};
 ghost use Rattle.files.specs.RuleFile.{valueByte};
 ghost use Rattle.linewriter.specs.Writing.{wrote};
-ghost use Rattle.rulelines.specs.RuleBytes.{valueBytes, partBytes};
+ghost use Rattle.rulelines.specs.RuleLines.{valueBytes, partBytes};
 ghost use Rattle.sets.specs.Tests.{each, upTo};
 ghost use Rattle.words.specs.Flags.{placeSide, placeAttribute};
+use loaded::ByMember;
+use loaded::RoleFile;
 
 pub fn put_one(out: &mut [u8], command: usize)
     requires { ⌜ (1 ≤ length (now out)) × (command < 256) ⌝ }
@@ -73,10 +75,10 @@ fn command_at(place: usize, set: bool) -> usize
 fn attribute_at(place: usize) -> usize
     ensures { λ r. ⌜ r ≡ placeAttribute place ⌝ }
 {
-    if place % 7 == 6 {
+    if place % RoleFile::CONJUNCTS == RoleFile::ATTRIBUTES {
         return 255;
     }
-    place % 7
+    place % RoleFile::CONJUNCTS
 }
 
 // A line 22 to 25.
@@ -97,7 +99,7 @@ fn put_value(out: &mut [u8], place: usize, set: bool, v: u64) -> usize
 // ---- conjuncts
 
 // A line for each of the values that stand at the front of a list.
-pub fn put_values(list: &[u64; 64], count: usize, place: usize, set: bool, out: &mut [u8]) -> usize
+pub fn put_values(list: &ByMember, count: usize, place: usize, set: bool, out: &mut [u8]) -> usize
     requires { ⌜ (count ≤ 64) × (length (each (λ k. valueBytes (placeSide place) set (placeAttribute place) (getD (now list) k 0)) (upTo count)) ≤ length (now out)) ⌝ }
     ensures { λ r. ⌜ (r ≡ length (each (λ k. valueBytes (placeSide place) set (placeAttribute place) (getD (now (list .entry)) k 0)) (upTo count))) × (now (out .exit) ≡ wrote (each (λ k. valueBytes (placeSide place) set (placeAttribute place) (getD (now (list .entry)) k 0)) (upTo count)) (now (out .entry))) ⌝ }
 {
@@ -109,7 +111,7 @@ pub fn put_values(list: &[u64; 64], count: usize, place: usize, set: bool, out: 
 }
 
 // A line 28 for each of the operation sets that stand at the front of a list.
-pub fn put_classes(list: &[u64; 64], count: usize, role: usize, out: &mut [u8]) -> usize
+pub fn put_classes(list: &ByMember, count: usize, role: usize, out: &mut [u8]) -> usize
     requires { ⌜ (count ≤ 64) × (role < 32) × (length (each (λ k. partBytes role (getD (now list) k 0)) (upTo count)) ≤ length (now out)) ⌝ }
     ensures { λ r. ⌜ (r ≡ length (each (λ k. partBytes role (getD (now (list .entry)) k 0)) (upTo count))) × (now (out .exit) ≡ wrote (each (λ k. partBytes role (getD (now (list .entry)) k 0)) (upTo count)) (now (out .entry))) ⌝ }
 {

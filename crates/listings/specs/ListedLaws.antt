@@ -11,12 +11,11 @@ use mathlib.Core.Option.{none, some}
 use mathlib.Core.Path.{_≡_, refl, sym, ap, ap₂, _∙_, subst}
 use native.Mathlib.Nat.{add-zero, add-suc, suc-add, zero-add}
 use native.Mathlib.Omega.{arith}
-use Rattle.admit.specs.AdmitLaws.{Sized}
+use Rattle.loaded.specs.Record.{Sized, tableOf, marked, permissionTable, recordOf}
 use Rattle.admit.specs.TableLaws.{permittedOn, row-shown, holders-shown, holder-within, rows-alike}
 use Rattle.files.specs.Calls.{first, firstStrayPart}
 use Rattle.files.specs.RuleFile.{RuleCommand, Lines, isPartLine, namesPart, lists, listings, legal, opens, value, operations, link, part, ends}
 use Rattle.listings.specs.Listed.{leadOf, seenAfter, againAfter, listsLead, timesListed, seenTable, againTable, repeatsIn, partWord, onceIn, strayFrom, strayOf, strayPartOf}
-use Rattle.loaded.specs.Record.{tableOf, marked, permissionTable, recordOf}
 use Rattle.loaded.specs.RecordLaws.{table-get, table-ext, table-none, table-mark}
 use Rattle.policy.specs.ClassLaws.{part-facts, part-in}
 use Rattle.policy.specs.Mined.{partCount, partAt}
@@ -24,10 +23,12 @@ use Rattle.policy.specs.Policy.{Policy, held, sideOf, settingOf, rolesIn}
 use Rattle.policy.specs.Roles.{Part, alike, leads, isPart, parts, classOf}
 use Rattle.policy.specs.Rules.{user, resource}
 use Rattle.policy.specs.WrittenLaws.{mask-some}
-use Rattle.sets.specs.Lowest.{lowestFrom-some}
+use Rattle.sets.specs.LowestLaws.{lowestFrom-some}
 use Rattle.sets.specs.MaskLaws.{and-true, mask-same, mask-none, least-most}
-use Rattle.sets.specs.Sets.{bit, maskOf, bit-mask}
-use Rattle.sets.specs.Tests.{Is, and-in, and-l, and-r, or-l, never, test, fails, same, _∈_, any, any-in, any-out, any-ext, keep, each, only, from, upTo, upTo-in, upTo-out, sum}
+use Rattle.sets.specs.Sets.{bit, maskOf}
+use Rattle.sets.specs.SetLaws.{bit-mask}
+use Rattle.sets.specs.Tests.{Is, _isIn_, any, keep, each, only, from, upTo, sum}
+use Rattle.sets.specs.TestLaws.{and-in, and-l, and-r, or-l, never, test, fails, same, any-in, any-out, any-ext, upTo-in, upTo-out}
 use Rattle.listings.specs.declared.StrayPart.{StrayPart}
 use Rattle.listings.specs.declared.StrayPart.the-variants.{NoneStray, At}
 
@@ -281,11 +282,11 @@ once-number zero = refl
 once-number (suc zero) = refl
 once-number (suc (suc t)) = rw (lt-ltb 1 (suc (suc t)) (omega arith), ne-eqb (suc (suc t)) 1 (omega arith)) refl
 
-sum-same : (f g : Lines → ℕ) (rules : List Lines) → ((ls : Lines) → ls ∈ rules → f ls ≡ g ls) → sum f rules ≡ sum g rules
+sum-same : (f g : Lines → ℕ) (rules : List Lines) → ((ls : Lines) → ls isIn rules → f ls ≡ g ls) → sum f rules ≡ sum g rules
 sum-same f g [] h = refl
 sum-same f g (ls ∷ rules) h = ap₂ _+_ (h ls (List·Memᴰ·head refl)) (sum-same f g rules (λ x m. h x (List·Memᴰ·tail m)))
 
-count-same : (f g : RuleCommand → Bool) (ls : Lines) → ((c : RuleCommand) → c ∈ ls → f c ≡ g c) → length (keep f ls) ≡ length (keep g ls)
+count-same : (f g : RuleCommand → Bool) (ls : Lines) → ((c : RuleCommand) → c isIn ls → f c ≡ g c) → length (keep f ls) ≡ length (keep g ls)
 count-same f g [] h = refl
 count-same f g (c ∷ ls) h = go (f c) (g c) (h c (List·Memᴰ·head refl)) (count-same f g ls (λ x m. h x (List·Memᴰ·tail m)))
   where
@@ -306,7 +307,7 @@ once-listed rules k o hk ho =
 module _ (F : Policy) (Z : Sized F) where
   -- ---- a part is known by its role and lowest operation
 
-  lead-shown : {p : Part} → p ∈ parts (settingOf F) (rolesIn F) → leadOf (classOf (settingOf F) (rolesIn F) p) ≡ p .lead
+  lead-shown : {p : Part} → p isIn parts (settingOf F) (rolesIn F) → leadOf (classOf (settingOf F) (rolesIn F) p) ≡ p .lead
   unfolding settingOf
   lead-shown {p} i =
       let t = part-facts (settingOf F) (rolesIn F) i in
@@ -319,17 +320,17 @@ module _ (F : Policy) (Z : Sized F) where
       (λ e. let h = ltb-false (leadOf (classOf (settingOf F) (rolesIn F) p)) (p .lead) e in omega arith)
 
   -- the part of a legal line
-  line-part : (k m : ℕ) → Is (legal (settingOf F) (rolesIn F) (part k m)) → (p : Part) × (p ∈ parts (settingOf F) (rolesIn F)) × (k ≡ p .role) × (m ≡ classOf (settingOf F) (rolesIn F) p)
+  line-part : (k m : ℕ) → Is (legal (settingOf F) (rolesIn F) (part k m)) → (p : Part) × (p isIn parts (settingOf F) (rolesIn F)) × (k ≡ p .role) × (m ≡ classOf (settingOf F) (rolesIn F) p)
   unfolding legal
   line-part k m h =
       let t = any-out (λ p. eqb k (p .role) && eqb m (classOf (settingOf F) (rolesIn F) p)) (parts (settingOf F) (rolesIn F)) h in
       (t .0, t .1, eqb-true k (t .0 .role) (and-l (eqb k (t .0 .role)) _ (t .2)), eqb-true m (classOf (settingOf F) (rolesIn F) (t .0)) (and-r (eqb k (t .0 .role)) _ (t .2)))
 
-  part-role : {p : Part} → p ∈ parts (settingOf F) (rolesIn F) → p .role < 32
+  part-role : {p : Part} → p isIn parts (settingOf F) (rolesIn F) → p .role < 32
   unfolding rolesIn
   part-role {p} i = let n = Z .few in let l : p .role < F .roles = part-facts (settingOf F) (rolesIn F) i .in-roles in omega arith
 
-  part-lead : {p : Part} → p ∈ parts (settingOf F) (rolesIn F) → p .lead < 16
+  part-lead : {p : Part} → p isIn parts (settingOf F) (rolesIn F) → p .lead < 16
   unfolding settingOf
   part-lead {p} i = let n = Z .operable in let l : p .lead < F .operations = part-facts (settingOf F) (rolesIn F) i .in-slots in omega arith
 
@@ -345,7 +346,7 @@ module _ (F : Policy) (Z : Sized F) where
       (seen-listed rules ls k m hk, again-listed rules ls k m hk (omega (arith, low, hl)))
 
   -- a legal line lists a part where it lists its lowest operation
-  lists-lead : {q : Part} → q ∈ parts (settingOf F) (rolesIn F) → (c : RuleCommand) → Is (legal (settingOf F) (rolesIn F) c) → listsLead (q .role) (q .lead) c ≡ namesPart (q .role) (classOf (settingOf F) (rolesIn F) q) c
+  lists-lead : {q : Part} → q isIn parts (settingOf F) (rolesIn F) → (c : RuleCommand) → Is (legal (settingOf F) (rolesIn F) c) → listsLead (q .role) (q .lead) c ≡ namesPart (q .role) (classOf (settingOf F) (rolesIn F) q) c
   lists-lead i opens h = refl
   lists-lead i (value w set a v) h = refl
   lists-lead i (operations m) h = refl
@@ -365,7 +366,7 @@ module _ (F : Policy) (Z : Sized F) where
       class-by p q a b = ap₂ (λ (r l : ℕ). classOf (settingOf F) (rolesIn F) (record { role = r; lead = l })) a b
   lists-lead i ends h = refl
 
-  times-listings : (rules : List Lines) → ((ls : Lines) → ls ∈ rules → (c : RuleCommand) → c ∈ ls → Is (legal (settingOf F) (rolesIn F) c)) → (p : ℕ) → p < partCount (settingOf F) (rolesIn F)
+  times-listings : (rules : List Lines) → ((ls : Lines) → ls isIn rules → (c : RuleCommand) → c isIn ls → Is (legal (settingOf F) (rolesIn F) c)) → (p : ℕ) → p < partCount (settingOf F) (rolesIn F)
       → timesListed rules (partAt (settingOf F) (rolesIn F) p .role) (partAt (settingOf F) (rolesIn F) p .lead) ≡ listings (settingOf F) (rolesIn F) rules p
   unfolding timesListed listings lists
   times-listings rules h p l =
@@ -437,7 +438,7 @@ module _ (F : Policy) (Z : Sized F) where
       each-rows wordPart 0 (F .roles)
       ∙ each-same (λ k. each (λ o. wordPart (16 * k + o)) (upTo 16)) (λ k. each (λ o. only (isPart (settingOf F) (rolesIn F) k o) (record { role = k; lead = o })) (upTo (F .operations))) 0 (F .roles) (λ k a b. role-words k (omega arith))
 
-  once-part : (rules : List Lines) → ((ls : Lines) → ls ∈ rules → (c : RuleCommand) → c ∈ ls → Is (legal (settingOf F) (rolesIn F) c)) → (p : ℕ) → p < partCount (settingOf F) (rolesIn F)
+  once-part : (rules : List Lines) → ((ls : Lines) → ls isIn rules → (c : RuleCommand) → c isIn ls → Is (legal (settingOf F) (rolesIn F) c)) → (p : ℕ) → p < partCount (settingOf F) (rolesIn F)
       → onceIn (seenTable rules) (againTable rules) (partAt (settingOf F) (rolesIn F) p .role) (partAt (settingOf F) (rolesIn F) p .lead) ≡ eqb (listings (settingOf F) (rolesIn F) rules p) 1
   once-part rules h p l =
       let i = part-in (settingOf F) (rolesIn F) p l in
@@ -446,7 +447,7 @@ module _ (F : Policy) (Z : Sized F) where
       once-listed rules (q .role) (q .lead) (part-role i) (omega (arith, b)) ∙ ap (λ (t : ℕ). eqb t 1) (times-listings rules h p l)
 
   -- THE LAW of the verdict: the first part that is not listed exactly once
-  pub stray-means : (rules : List Lines) → ((ls : Lines) → ls ∈ rules → (c : RuleCommand) → c ∈ ls → Is (legal (settingOf F) (rolesIn F) c))
+  pub stray-means : (rules : List Lines) → ((ls : Lines) → ls isIn rules → (c : RuleCommand) → c isIn ls → Is (legal (settingOf F) (rolesIn F) c))
       → strayOf (recordOf F .holders) (permissionTable F) (F .roles) (F .operations) (seenTable rules) (againTable rules) ≡ strayPartOf (firstStrayPart (settingOf F) (rolesIn F) rules)
   unfolding strayOf firstStrayPart partCount partAt wordPart
   stray-means rules h =

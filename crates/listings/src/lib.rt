@@ -3,6 +3,9 @@
 ghost use mathlib.Core.Path.{_≡_};
 ghost use Prim.Native.Nat.{_≤_, _<_};
 ghost use Rattle.listings.specs.Listed.{seenAfter, againAfter, repeatsIn, partWord, onceIn, strayOf};
+use loaded::ByRole;
+use loaded::ByRoleOperation;
+use loaded::RoleFile;
 
 pub enum StrayPart {
     NoneStray,
@@ -11,7 +14,7 @@ pub enum StrayPart {
 }
 
 // Notes that a line lists the part of a role with this class.
-pub fn list<'a>(seen: &'a mut [u64; 32], again: &'a mut [u64; 32], role: usize, class: u64)
+pub fn list<'a>(seen: &'a mut ByRole, again: &'a mut ByRole, role: usize, class: u64)
     requires { ⌜ role < 32 ⌝ }
     ensures { λ _. ⌜ (now (seen .exit) ≡ seenAfter (now (seen .entry)) role class) × (now (again .exit) ≡ againAfter (now (seen .entry)) (now (again .entry)) role class) ⌝ }
 {
@@ -23,12 +26,12 @@ pub fn list<'a>(seen: &'a mut [u64; 32], again: &'a mut [u64; 32], role: usize, 
 }
 
 // Whether a lower operation of the role has the same resources as operation o.
-fn repeats(permissions: &[u64; 512], role: usize, o: usize) -> bool
+fn repeats(permissions: &ByRoleOperation, role: usize, o: usize) -> bool
     requires { ⌜ (role < 32) × (o < 16) ⌝ }
     ensures { λ r. ⌜ r ≡ repeatsIn (now (permissions .entry)) role o ⌝ }
 {
     for q in 0..o {
-        if permissions[16 * role + q] == permissions[16 * role + o] {
+        if permissions[RoleFile::OPERATIONS * role + q] == permissions[RoleFile::OPERATIONS * role + o] {
             return true;
         }
     }
@@ -37,8 +40,8 @@ fn repeats(permissions: &[u64; 512], role: usize, o: usize) -> bool
 
 // Whether operation o is the lowest of a part of the role.
 fn is_part<'a>(
-    holders: &'a [u64; 32],
-    permissions: &'a [u64; 512],
+    holders: &'a ByRole,
+    permissions: &'a ByRoleOperation,
     operations: usize,
     role: usize,
     o: usize,
@@ -52,14 +55,14 @@ fn is_part<'a>(
     if holders[role] == 0 {
         return false;
     }
-    if permissions[16 * role + o] == 0 {
+    if permissions[RoleFile::OPERATIONS * role + o] == 0 {
         return false;
     }
     !repeats(permissions, role, o)
 }
 
 // Whether the part of the role with this lowest operation is listed exactly once.
-fn once<'a>(seen: &'a [u64; 32], again: &'a [u64; 32], role: usize, o: usize) -> bool
+fn once<'a>(seen: &'a ByRole, again: &'a ByRole, role: usize, o: usize) -> bool
     requires { ⌜ role < 32 ⌝ }
     ensures { λ r. ⌜ r ≡ onceIn (now (seen .entry)) (now (again .entry)) role o ⌝ }
 {
@@ -71,23 +74,23 @@ fn once<'a>(seen: &'a [u64; 32], again: &'a [u64; 32], role: usize, o: usize) ->
 
 // The first part, by number, that is not listed exactly once.
 pub fn first_stray<'a>(
-    holders: &'a [u64; 32],
-    permissions: &'a [u64; 512],
+    holders: &'a ByRole,
+    permissions: &'a ByRoleOperation,
     roles: usize,
     operations: usize,
-    seen: &'a [u64; 32],
-    again: &'a [u64; 32],
+    seen: &'a ByRole,
+    again: &'a ByRole,
 ) -> StrayPart
     requires { ⌜ (roles ≤ 32) × (operations ≤ 16) ⌝ }
     ensures { λ r. ⌜ r ≡ strayOf (now (holders .entry)) (now (permissions .entry)) roles operations (now (seen .entry)) (now (again .entry)) ⌝ }
 {
     let mut number: usize = 0;
     // Role and operation in one loop, since parts are numbered by role, then lowest operation.
-    for w in 0..16 * roles {
-        if !is_part(holders, permissions, operations, w / 16, w % 16) {
+    for w in 0..RoleFile::OPERATIONS * roles {
+        if !is_part(holders, permissions, operations, w / RoleFile::OPERATIONS, w % RoleFile::OPERATIONS) {
             continue;
         }
-        if !once(seen, again, w / 16, w % 16) {
+        if !once(seen, again, w / RoleFile::OPERATIONS, w % RoleFile::OPERATIONS) {
             return StrayPart::At(number);
         }
         number += 1;

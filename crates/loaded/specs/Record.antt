@@ -1,18 +1,18 @@
 -- What the record holds of a policy: each table as a list of masks.
 -- Assumes nothing.
-use Prim.Native.Nat.{ℕ, _/_, _%_}
+use Prim.Native.Nat.{ℕ, _/_, _%_, _≤_, _<_}
 use lib.Dec.{eqb, ltb}
 use lib.ListN.{length, replicate}
 use mathlib.Core.Bool.{Bool, true, false, cond, _||_}
 use mathlib.Core.List.{List, [], _∷_, map}
 use mathlib.Core.Option.{Option, none, some}
 use Rattle.files.specs.RuleFile.{operations}
+use Rattle.loaded.specs.declared.RoleFile.{RoleFile}
 use Rattle.policy.specs.Covering.{known}
 use Rattle.policy.specs.Policy.{Policy, kindOf, senior, held}
 use Rattle.policy.specs.Rules.{Which, user, resource}
 use Rattle.sets.specs.Sets.{bit, maskOf}
-use Rattle.sets.specs.Tests.{upTo, isSome}
-use Rattle.loaded.specs.declared.RoleFile.{RoleFile}
+use Rattle.sets.specs.Tests.{upTo, isSome, Is}
 
 -- the record that says nothing
 unfoldable pub emptyRecord : RoleFile
@@ -129,3 +129,13 @@ setPermissions f l = record { users = f .users; resources = f .resources; operat
 -- what is worked out
 abbrev pub setDerived : RoleFile → List ℕ → List ℕ → RoleFile
 setDerived f s h = record { users = f .users; resources = f .resources; operations = f .operations; roles = f .roles; attributes = f .attributes; kinds = f .kinds; known = f .known; values = f .values; assigned = f .assigned; lines = f .lines; permissions = f .permissions; seniors = s; holders = h }
+
+-- the sizes that a record has room for; assignments, permissions and lines are within the declared ones
+pub record Sized (F : Policy) : Type 0 where
+  pub many : (w : Which) → F .table w .count ≤ 64
+  pub declared : (w : Which) → length (F .table w .kinds) ≤ 6
+  pub operable : F .operations ≤ 16
+  pub few : F .roles ≤ 32
+  pub lined : (i j : ℕ) → Is (F .line i j) → (i < F .roles) × (j < F .roles)
+  pub assigned-to : (k u : ℕ) → Is (F .assigned k u) → (k < F .roles) × (u < F .table user .count)
+  pub permits : (k r o : ℕ) → Is (F .permitted k r o) → (k < F .roles) × (r < F .table resource .count) × (o < F .operations)

@@ -15,8 +15,10 @@ use Rattle.policy.specs.Policy.{Table, Policy, kindOf, one}
 use Rattle.policy.specs.Rules.{Which, user, resource}
 use Rattle.sets.specs.LoopLaws.{table-long, table-at, table-same}
 use Rattle.sets.specs.MaskLaws.{and-true, bit-maskOf, mask-same}
-use Rattle.sets.specs.Sets.{bit, bit-none, maskOf, bit-mask}
-use Rattle.sets.specs.Tests.{Is, and-in, and-l, and-r, never, test, fails, same, from, isSome}
+use Rattle.sets.specs.Sets.{bit, maskOf}
+use Rattle.sets.specs.SetLaws.{bit-none, bit-mask}
+use Rattle.sets.specs.Tests.{Is, from, isSome}
+use Rattle.sets.specs.TestLaws.{and-in, and-l, and-r, never, test, fails, same}
 
 -- ---- tables
 

@@ -11,15 +11,15 @@ use mathlib.Core.Logic.{_⊎_, inl, inr, ⊎-elim}
 use mathlib.Core.Option.{Option, none, some}
 use mathlib.Core.Path.{_≡_, refl, sym, ap, ap₂, _∙_, subst}
 use native.Mathlib.Omega.{arith}
-use Rattle.admit.specs.AdmitLaws.{Sized, side-kinds, slot-side, slot-known}
+use Rattle.admit.specs.AdmitLaws.{side-kinds, slot-side, slot-known}
 use Rattle.admit.specs.TableLaws.{holders-shown}
 use Rattle.conjuncts.specs.Summary.{placeSide, placeAttribute}
 use Rattle.conjuncts.specs.SummaryLaws.{all-append, all-same}
 use Rattle.files.specs.RoleFile.{sideBy}
 use Rattle.files.specs.RuleFile.{legal, value}
-use Rattle.loaded.specs.Record.{slotSide, numberOr, knownTable, valueTable, kindTable, recordWith, recordOf}
+use Rattle.loaded.specs.Record.{Sized, slotSide, numberOr, knownTable, valueTable, kindTable, recordWith, recordOf}
 use Rattle.loaded.specs.RecordLaws.{table-get}
-use Rattle.matches.specs.Matches.{countAt, knownFor, knownPlaces, heldRoles, valueFor, matchWord, matchTable, metOf, passingOf}
+use Rattle.matches.specs.Matches.{countAt, knownFor, knownPlaces, heldRoles, valueFor, matchWord, matchTable, metOf, passingOf, knownIn, matchesIn}
 use Rattle.matches.specs.TableLaws.{word-unknown}
 use Rattle.meeting.specs.MeansLaws.{meeting-means}
 use Rattle.meeting.specs.Meeting.{meetingOf}
@@ -27,17 +27,11 @@ use Rattle.policy.specs.Covering.{allKnow}
 use Rattle.policy.specs.Policy.{Policy, kindOf, held, rolesOf, isSetAt, valueAt, sideOf, settingOf, rolesIn}
 use Rattle.policy.specs.Rules.{own, Side, Which, by, both, admits, meets, attrsOf, user, resource}
 use Rattle.sets.specs.MaskLaws.{or-false, and-true, bit-out, mask-lt, mask-same, mask-wide, mask-none}
-use Rattle.sets.specs.Sets.{bit, subset, subset-out, subset-in, maskOf, bit-mask}
-use Rattle.sets.specs.Tests.{Is, and-in, and-l, and-r, never, test, same, imp, iff-in, _∈_, all, any, all-out, all-in, any-in, any-out, keep, keep-in, keep-out, only, only-in, only-out, upTo, upTo-in, upTo-out, isSome}
+use Rattle.sets.specs.SetLaws.{subset-out, subset-in, bit-mask}
+use Rattle.sets.specs.Sets.{bit, subset, maskOf}
+use Rattle.sets.specs.TestLaws.{and-in, and-l, and-r, never, test, same, iff-in, all-out, all-in, any-in, any-out, keep-in, keep-out, only-in, only-out, upTo-in, upTo-out}
+use Rattle.sets.specs.Tests.{Is, imp, _isIn_, all, any, keep, only, upTo, isSome}
 use Rattle.words.specs.Words.{metBy, passes}
-
--- the tables of a policy's record
-abbrev pub knownIn : Policy → List ℕ
-knownIn F = knownPlaces (recordOf F .users) (recordOf F .resources) (recordOf F .known)
-
-abbrev pub matchesIn : Policy → List ℕ
-matchesIn F = matchTable (recordOf F .kinds) (recordOf F .known) (recordOf F .values) (recordOf F .holders) (recordOf F .users) (recordOf F .resources) (recordOf F .roles)
-
 -- ---- places
 
 -- the side of a place by its number
@@ -54,15 +48,15 @@ count-side F i = go (ltb i 7)
     go false = refl
 
 -- the attributes that a rule may use: those declared and the 255
-attribute-cases : (F : Policy) (w : Which) (a : ℕ) → a ∈ attrsOf (settingOf F .side w) true → (a < length (F .table w .kinds)) ⊎ (a ≡ own)
+attribute-cases : (F : Policy) (w : Which) (a : ℕ) → a isIn attrsOf (settingOf F .side w) true → (a < length (F .table w .kinds)) ⊎ (a ≡ own)
 unfolding attrsOf settingOf sideOf
 attribute-cases F w a m = ⊎-elim (λ k. inl (upTo-out (length (F .table w .kinds)) k)) (λ k. inr (only-out true k .1)) (List·Memᴰ·append-cases (upTo (length (F .table w .kinds))) m)
 
-declared-in : (S : Side) (a : ℕ) → a < S .attrs → a ∈ attrsOf S true
+declared-in : (S : Side) (a : ℕ) → a < S .attrs → a isIn attrsOf S true
 unfolding attrsOf
 declared-in S a l = Memᴰ·append-left (only true own) (upTo-in l)
 
-own-in : (S : Side) → own ∈ attrsOf S true
+own-in : (S : Side) → own isIn attrsOf S true
 unfolding attrsOf
 own-in S = Memᴰ·append-right (upTo (S .attrs)) (only-in own refl)
 
@@ -161,11 +155,11 @@ module _ (F : Policy) (Z : Sized F) where
       let n = Z .declared w in
       rw (ne-eqb a own (λ z. omega arith)) (and-in (lt-ltb a (length (F .table w .kinds)) h) (iff-in (kindOf (F .table w) a) (kindOf (F .table w) a) refl))
 
-  meeting-side : (i y v : ℕ) → i < 14 → placeAttribute i ∈ attrsOf (settingOf F .side (sideBy (i / 7))) true → y < F .table (sideBy (i / 7)) .count → valueAt F (sideBy (i / 7)) (placeAttribute i) y ≡ some v
+  meeting-side : (i y v : ℕ) → i < 14 → placeAttribute i isIn attrsOf (settingOf F .side (sideBy (i / 7))) true → y < F .table (sideBy (i / 7)) .count → valueAt F (sideBy (i / 7)) (placeAttribute i) y ≡ some v
       → meetingOf (i / 7) (bit (getD (kindTable F) (i / 7) 0) (i % 7)) (i % 7) v (F .table (sideBy (i / 7)) .count) (F .roles) (knownTable F) (valueTable F) (recordOf F .holders) ≡ maskOf (F .table (sideBy (i / 7)) .count) (λ x. both (settingOf F .side (sideBy (i / 7)) .below (placeAttribute i)) (some v) (settingOf F .side (sideBy (i / 7)) .value (placeAttribute i) x))
   meeting-side i y v hi m hy e = go (eqb (i % 7) 6) refl m e
     where
-      declared : (j : ℕ) → j < 6 → j ∈ attrsOf (settingOf F .side (sideBy (i / 7))) true
+      declared : (j : ℕ) → j < 6 → j isIn attrsOf (settingOf F .side (sideBy (i / 7))) true
           → meetingOf (i / 7) (bit (getD (kindTable F) (i / 7) 0) j) j v (F .table (sideBy (i / 7)) .count) (F .roles) (knownTable F) (valueTable F) (recordOf F .holders) ≡ maskOf (F .table (sideBy (i / 7)) .count) (λ x. both (settingOf F .side (sideBy (i / 7)) .below j) (some v) (settingOf F .side (sideBy (i / 7)) .value j x))
       declared j lj m = ⊎-elim
           (λ (l : j < length (F .table (sideBy (i / 7)) .kinds)).
@@ -174,7 +168,7 @@ module _ (F : Policy) (Z : Sized F) where
           (λ (q : j ≡ own). absurd (omega arith))
           (attribute-cases F (sideBy (i / 7)) j m)
 
-      go : (b : Bool) → eqb (i % 7) 6 ≡ b → cond b own (i % 7) ∈ attrsOf (settingOf F .side (sideBy (i / 7))) true → valueAt F (sideBy (i / 7)) (cond b own (i % 7)) y ≡ some v
+      go : (b : Bool) → eqb (i % 7) 6 ≡ b → cond b own (i % 7) isIn attrsOf (settingOf F .side (sideBy (i / 7))) true → valueAt F (sideBy (i / 7)) (cond b own (i % 7)) y ≡ some v
           → meetingOf (i / 7) (bit (getD (kindTable F) (i / 7) 0) (i % 7)) (i % 7) v (F .table (sideBy (i / 7)) .count) (F .roles) (knownTable F) (valueTable F) (recordOf F .holders) ≡ maskOf (F .table (sideBy (i / 7)) .count) (λ x. both (settingOf F .side (sideBy (i / 7)) .below (cond b own (i % 7))) (some v) (settingOf F .side (sideBy (i / 7)) .value (cond b own (i % 7)) x))
       go true p m e =
           let d = eqb-true (i % 7) 6 p in
@@ -183,7 +177,7 @@ module _ (F : Policy) (Z : Sized F) where
       go false p m e = let d = eqb-false (i % 7) 6 p in declared (i % 7) (omega arith) m
 
   -- the word of somebody at a place, by side
-  word-side : (i y : ℕ) → i < 14 → placeAttribute i ∈ attrsOf (settingOf F .side (sideBy (i / 7))) true → y < F .table (sideBy (i / 7)) .count
+  word-side : (i y : ℕ) → i < 14 → placeAttribute i isIn attrsOf (settingOf F .side (sideBy (i / 7))) true → y < F .table (sideBy (i / 7)) .count
       → matchWord (kindTable F) (knownTable F) (valueTable F) (recordOf F .holders) (F .table user .count) (F .table resource .count) (F .roles) i y
       ≡ maskOf (F .table (sideBy (i / 7)) .count) (λ x. both (settingOf F .side (sideBy (i / 7)) .below (placeAttribute i)) (valueAt F (sideBy (i / 7)) (placeAttribute i) y) (settingOf F .side (sideBy (i / 7)) .value (placeAttribute i) x))
   unfolding matchWord
@@ -240,7 +234,7 @@ module _ (F : Policy) (Z : Sized F) where
       subst (λ (n : ℕ). y < n) (count-side F i)
       (member-there (countAt (F .table user .count) (F .table resource .count) i) (knownFor (F .table user .count) (F .table resource .count) (knownTable F) i) y (mask-lt (countAt (F .table user .count) (F .table resource .count) i) _) k)
 
-  module _ (i : ℕ) (hi : i < 14) (m : placeAttribute i ∈ attrsOf (settingOf F .side (placeSide i)) true) where
+  module _ (i : ℕ) (hi : i < 14) (m : placeAttribute i isIn attrsOf (settingOf F .side (placeSide i)) true) where
     -- everybody who meets somebody's value, as one set
     pub word-means : (y : ℕ) → y < settingOf F .side (placeSide i) .count
         → getD (matchesIn F) (64 * i + y) 0 ≡ maskOf (settingOf F .side (placeSide i) .count) (λ x. both (settingOf F .side (placeSide i) .below (placeAttribute i)) (settingOf F .side (placeSide i) .value (placeAttribute i) y) (settingOf F .side (placeSide i) .value (placeAttribute i) x))
@@ -248,7 +242,7 @@ module _ (F : Policy) (Z : Sized F) where
     word-means y hy =
         let n = Z .many (placeSide i) in
         word-shown i y hi (omega arith)
-        ∙ subst (λ (w : Which). placeAttribute i ∈ attrsOf (settingOf F .side w) true → y < F .table w .count
+        ∙ subst (λ (w : Which). placeAttribute i isIn attrsOf (settingOf F .side w) true → y < F .table w .count
         → matchWord (kindTable F) (knownTable F) (valueTable F) (recordOf F .holders) (F .table user .count) (F .table resource .count) (F .roles) i y ≡ maskOf (F .table w .count) (λ x. both (settingOf F .side w .below (placeAttribute i)) (valueAt F w (placeAttribute i) y) (settingOf F .side w .value (placeAttribute i) x)))
         (sym (place-side i hi)) (word-side i y hi) m hy
 
@@ -287,7 +281,7 @@ module _ (F : Policy) (Z : Sized F) where
     where
       there : Is (bit (knownFor (F .table user .count) (F .table resource .count) (knownTable F) i) y) → getD (matchesIn F) (64 * i + y) 0 < 2 ^ settingOf F .side (placeSide i) .count
       there k = test (eqb (i % 7) 6)
-          (λ p. let m = subst (λ (a : ℕ). a ∈ attrsOf (settingOf F .side (placeSide i)) true) (ap (λ (b : Bool). cond b own (i % 7)) (sym p)) (own-in (settingOf F .side (placeSide i))) in
+          (λ p. let m = subst (λ (a : ℕ). a isIn attrsOf (settingOf F .side (placeSide i)) true) (ap (λ (b : Bool). cond b own (i % 7)) (sym p)) (own-in (settingOf F .side (placeSide i))) in
           subst (λ (n : ℕ). n < 2 ^ settingOf F .side (placeSide i) .count) (sym (word-means i hi m y (knows-there i y k))) (mask-lt (settingOf F .side (placeSide i) .count) _))
           (λ p. let d = eqb-false (i % 7) 6 p in
           subst (λ (n : ℕ). n < 2 ^ settingOf F .side (placeSide i) .count) (sym (word-shown i y hi hy)) (slot-lt i y k (omega arith)))
@@ -299,7 +293,7 @@ module _ (F : Policy) (Z : Sized F) where
           (pow-pos (settingOf F .side (placeSide i) .count))
 
   -- everybody who meets the conjunct of some members' values, as one set
-  pub met-word : (i : ℕ) → i < 14 → placeAttribute i ∈ attrsOf (settingOf F .side (placeSide i)) true → (members : ℕ) → members < 2 ^ settingOf F .side (placeSide i) .count
+  pub met-word : (i : ℕ) → i < 14 → placeAttribute i isIn attrsOf (settingOf F .side (placeSide i)) true → (members : ℕ) → members < 2 ^ settingOf F .side (placeSide i) .count
       → metOf (matchesIn F) i members ≡ maskOf (settingOf F .side (placeSide i) .count) (metBy (settingOf F .side (placeSide i)) (placeAttribute i) (bit members))
   unfolding metOf
   met-word i hi m members hm =
@@ -344,11 +338,11 @@ module _ (F : Policy) (Z : Sized F) where
         subst (λ (w : Which). members < 2 ^ settingOf F .side w .count → subset members (getD (knownIn F) (7 * side + j) 0) ≡ allKnow (settingOf F .side w) (bit members) (cond (eqb j 6) own j)) (side-of j l)
         (λ h. know-means (7 * side + j) (omega arith) members h ∙ ap (allKnow (settingOf F .side (placeSide (7 * side + j))) (bit members)) (attribute-of j l)) hm
 
-    met-at : (j x : ℕ) → j < 7 → cond (eqb j 6) own j ∈ attrsOf (settingOf F .side (sideBy side)) true → x < settingOf F .side (sideBy side) .count
+    met-at : (j x : ℕ) → j < 7 → cond (eqb j 6) own j isIn attrsOf (settingOf F .side (sideBy side)) true → x < settingOf F .side (sideBy side) .count
         → bit (metOf (matchesIn F) (7 * side + j) members) x ≡ metBy (settingOf F .side (sideBy side)) (cond (eqb j 6) own j) (bit members) x
     met-at j x l =
-        subst (λ (w : Which). members < 2 ^ settingOf F .side w .count → cond (eqb j 6) own j ∈ attrsOf (settingOf F .side w) true → x < settingOf F .side w .count → bit (metOf (matchesIn F) (7 * side + j) members) x ≡ metBy (settingOf F .side w) (cond (eqb j 6) own j) (bit members) x) (side-of j l)
-        (λ h. subst (λ (a : ℕ). a ∈ attrsOf (settingOf F .side (placeSide (7 * side + j))) true → x < settingOf F .side (placeSide (7 * side + j)) .count → bit (metOf (matchesIn F) (7 * side + j) members) x ≡ metBy (settingOf F .side (placeSide (7 * side + j))) a (bit members) x) (attribute-of j l)
+        subst (λ (w : Which). members < 2 ^ settingOf F .side w .count → cond (eqb j 6) own j isIn attrsOf (settingOf F .side w) true → x < settingOf F .side w .count → bit (metOf (matchesIn F) (7 * side + j) members) x ≡ metBy (settingOf F .side w) (cond (eqb j 6) own j) (bit members) x) (side-of j l)
+        (λ h. subst (λ (a : ℕ). a isIn attrsOf (settingOf F .side (placeSide (7 * side + j))) true → x < settingOf F .side (placeSide (7 * side + j)) .count → bit (metOf (matchesIn F) (7 * side + j) members) x ≡ metBy (settingOf F .side (placeSide (7 * side + j))) a (bit members) x) (attribute-of j l)
         (λ m. met-means (7 * side + j) (omega arith) m members x h)) hm
 
     -- what the covering rule asks of somebody for an attribute
@@ -360,7 +354,7 @@ module _ (F : Policy) (Z : Sized F) where
     declared-asks x a hx ha =
         let n = attributes-room (sideBy side) in
         let e = ap (λ (b : Bool). cond b own a) (ne-eqb a 6 (λ z. omega arith)) in
-        ap₂ imp (asked-at a (omega arith)) (met-at a x (omega arith) (subst (λ (c : ℕ). c ∈ attrsOf (settingOf F .side (sideBy side)) true) (sym e) (declared-in (settingOf F .side (sideBy side)) a ha)) hx) ∙ ap (asks x) e
+        ap₂ imp (asked-at a (omega arith)) (met-at a x (omega arith) (subst (λ (c : ℕ). c isIn attrsOf (settingOf F .side (sideBy side)) true) (sym e) (declared-in (settingOf F .side (sideBy side)) a ha)) hx) ∙ ap (asks x) e
 
     -- everybody knows a 255
     own-asks : (x : ℕ) → x < settingOf F .side (sideBy side) .count → bit (metOf (matchesIn F) (7 * side + 6) members) x ≡ asks x own

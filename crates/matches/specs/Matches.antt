@@ -6,8 +6,9 @@ use lib.ListN.{getD}
 use mathlib.Core.Bool.{Bool, cond, _&&_, _||_, not}
 use mathlib.Core.List.{List}
 use mathlib.Core.Path.{_≡_}
-use Rattle.loaded.specs.Record.{tableOf}
+use Rattle.loaded.specs.Record.{tableOf, recordOf}
 use Rattle.meeting.specs.Meeting.{meetingOf}
+use Rattle.policy.specs.Policy.{Policy}
 use Rattle.sets.specs.Sets.{bit, subset, maskOf}
 use Rattle.sets.specs.Tests.{imp, all, any, upTo}
 
@@ -70,3 +71,11 @@ passingOf matches known attributes side withOwn members count =
     maskOf count (λ x.
     all (λ a. imp (subset members (getD known (7 * side + a) 0)) (bit (metOf matches (7 * side + a) members) x)) (upTo attributes)
     && imp withOwn (bit (metOf matches (7 * side + 6) members) x))
+
+
+-- the tables of a policy's record
+abbrev pub knownIn : Policy → List ℕ
+knownIn F = knownPlaces (recordOf F .users) (recordOf F .resources) (recordOf F .known)
+
+abbrev pub matchesIn : Policy → List ℕ
+matchesIn F = matchTable (recordOf F .kinds) (recordOf F .known) (recordOf F .values) (recordOf F .holders) (recordOf F .users) (recordOf F .resources) (recordOf F .roles)

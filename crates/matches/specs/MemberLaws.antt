@@ -11,11 +11,14 @@ use mathlib.Core.Path.{_≡_, refl, sym, ap, ap₂, _∙_}
 use native.Mathlib.Nat.{pow-suc}
 use native.Mathlib.Omega.{arith}
 use Rattle.matches.specs.Matches.{lessOne}
-use Rattle.sets.specs.LoopLaws.{joining, all-found}
-use Rattle.sets.specs.Lowest.{lowestFrom, lowestFrom-some}
+use Rattle.sets.specs.LoopLaws.{all-found}
+use Rattle.sets.specs.Sets.{joining, bit, subset, maskOf}
+use Rattle.sets.specs.Lowest.{lowestFrom}
+use Rattle.sets.specs.LowestLaws.{lowestFrom-some}
 use Rattle.sets.specs.MaskLaws.{and-true, or-false, bit-out, bit-maskOf, mask-unique, mask-same, least-law, least-most, empty-law}
-use Rattle.sets.specs.Sets.{bit, subset, bit-zero, bit-suc, bit-and, bit-none, subset-in, maskOf, bit-mask}
-use Rattle.sets.specs.Tests.{Is, and-in, and-l, and-r, or-l, or-r, or-out, never, test, fails, same, imp, imp-in, imp-out, all, any, all-out, all-in, any-in, any-out, upTo, upTo-in, upTo-out, not-in}
+use Rattle.sets.specs.SetLaws.{bit-zero, bit-suc, bit-and, bit-none, subset-in, bit-mask}
+use Rattle.sets.specs.Tests.{Is, imp, all, any, upTo}
+use Rattle.sets.specs.TestLaws.{and-in, and-l, and-r, or-l, or-r, or-out, never, test, fails, same, imp-in, imp-out, all-out, all-in, any-in, any-out, upTo-in, upTo-out, not-in}
 
 -- ---- `m & (m - 1)`
 

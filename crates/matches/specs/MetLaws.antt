@@ -9,10 +9,11 @@ use mathlib.Core.Path.{_≡_, refl, sym, ap, ap₂, _∙_, subst}
 use native.Mathlib.Omega.{arith}
 use Rattle.matches.specs.Matches.{lessOne, metOf, both, Met, MemberAdded}
 use Rattle.matches.specs.MemberLaws.{join-begin, join-turn, join-done}
-use Rattle.sets.specs.LoopLaws.{joining}
+use Rattle.sets.specs.Sets.{joining, bit, maskOf}
 use Rattle.sets.specs.MaskLaws.{mask-lt, mask-same}
-use Rattle.sets.specs.Sets.{bit, bit-none, maskOf, bit-mask}
-use Rattle.sets.specs.Tests.{Is, and-in, and-l, and-r, or-l, or-r, or-out, same, any, any-in, any-out, any-ext, upTo, upTo-out}
+use Rattle.sets.specs.SetLaws.{bit-none, bit-mask}
+use Rattle.sets.specs.Tests.{Is, any, upTo}
+use Rattle.sets.specs.TestLaws.{and-in, and-l, and-r, or-l, or-r, or-out, same, any-in, any-out, any-ext, upTo-out}
 
 module _ (matches : List ℕ) (side : ℕ) where
   -- who meets the value of a member at an attribute

@@ -11,10 +11,12 @@ use native.Mathlib.Omega.{arith}
 use Rattle.loaded.specs.Record.{tableOf}
 use Rattle.matches.specs.Matches.{countAt, knownFor, knownPlaces, valueFor, matchWord, metOf, Met, passingOf}
 use Rattle.meeting.specs.Meeting.{meetingOf}
-use Rattle.sets.specs.LoopLaws.{narrowing, table-unique}
+use Rattle.sets.specs.LoopLaws.{table-unique}
+use Rattle.sets.specs.Sets.{narrowing, bit, subset, maskOf}
 use Rattle.sets.specs.MaskLaws.{and-true, mask-same, mask-wide}
-use Rattle.sets.specs.Sets.{bit, subset, maskOf, bit-mask}
-use Rattle.sets.specs.Tests.{imp, all, upTo, upTo-out}
+use Rattle.sets.specs.SetLaws.{bit-mask}
+use Rattle.sets.specs.Tests.{imp, all, upTo}
+use Rattle.sets.specs.TestLaws.{upTo-out}
 use Rattle.words.specs.WordLaws.{all-ext}
 
 -- the tables have room for a side

@@ -8,6 +8,12 @@ ghost use Prim.Native.Nat.{ℕ, _≤_, _<_};
 ghost use Rattle.matches.specs.Matches.{countAt, knownFor, knownPlaces, heldRoles, valueFor, lessOne, metOf, both, Met, MemberAdded, passingOf};
 ghost use Rattle.sets.specs.Lowest.{lowestFrom};
 ghost use Rattle.sets.specs.Sets.{bit};
+use loaded::ByAttribute;
+use loaded::ByPlace;
+use loaded::ByPlaceMember;
+use loaded::ByRole;
+use loaded::Values;
+use loaded::RoleFile;
 
 // How many there are on the side of a place.
 fn count_at(users: usize, resources: usize, place: usize) -> usize
@@ -20,30 +26,30 @@ fn count_at(users: usize, resources: usize, place: usize) -> usize
 }
 
 // Who knows the attribute of a place: for a 255 everybody there is.
-fn known_at(users: usize, resources: usize, known: &[u64; 12], place: usize) -> u64
+fn known_at(users: usize, resources: usize, known: &ByAttribute, place: usize) -> u64
     requires { ⌜ (users ≤ 64) × (resources ≤ 64) × (place < 14) ⌝ }
     ensures { λ r. ⌜ r ≡ knownFor users resources (now (known .entry)) place ⌝ }
 {
     let everybody = sets::below(count_at(users, resources, place));
-    let attribute = place % 7;
-    if attribute == 6 {
+    let attribute = place % RoleFile::CONJUNCTS;
+    if attribute == RoleFile::ATTRIBUTES {
         return everybody;
     }
-    sets::meet(everybody, known[6 * (place / 7) + attribute])
+    sets::meet(everybody, known[RoleFile::ATTRIBUTES * (place / RoleFile::CONJUNCTS) + attribute])
 }
 
 // Into a slice, since only a slice tells its length to a proof.
-fn fill_known(users: usize, resources: usize, known: &[u64; 12], out: &mut [u64])
+fn fill_known(users: usize, resources: usize, known: &ByAttribute, out: &mut [u64])
     requires { ⌜ (users ≤ 64) × (resources ≤ 64) × (length (now out) ≡ 14) ⌝ }
     ensures { λ _. ⌜ now (out .exit) ≡ knownPlaces users resources (now (known .entry)) ⌝ }
 {
-    for i in 0..14 {
+    for i in 0..RoleFile::PLACES {
         out[i] = known_at(users, resources, known, i);
     }
 }
 
 // Who knows the attribute of each place, whatever the table held.
-pub fn known_places(users: usize, resources: usize, known: &[u64; 12], out: &mut [u64; 14])
+pub fn known_places(users: usize, resources: usize, known: &ByAttribute, out: &mut ByPlace)
     requires { ⌜ (users ≤ 64) × (resources ≤ 64) ⌝ }
     ensures { λ _. ⌜ now (out .exit) ≡ knownPlaces users resources (now (known .entry)) ⌝ }
 {
@@ -51,7 +57,7 @@ pub fn known_places(users: usize, resources: usize, known: &[u64; 12], out: &mut
 }
 
 // The roles that a user holds.
-fn roles_of(holders: &[u64; 32], roles: usize, user: usize) -> u64
+fn roles_of(holders: &ByRole, roles: usize, user: usize) -> u64
     requires { ⌜ roles ≤ 32 ⌝ }
     ensures { λ r. ⌜ r ≡ heldRoles (now (holders .entry)) roles user ⌝ }
 {
@@ -66,8 +72,8 @@ fn roles_of(holders: &[u64; 32], roles: usize, user: usize) -> u64
 
 // The value that somebody has at a place, known or not.
 pub fn value_at<'a>(
-    values: &'a [u64; 768],
-    holders: &'a [u64; 32],
+    values: &'a Values,
+    holders: &'a ByRole,
     roles: usize,
     place: usize,
     who: usize,
@@ -75,9 +81,9 @@ pub fn value_at<'a>(
     requires { ⌜ (roles ≤ 32) × (place < 14) × (who < 64) ⌝ }
     ensures { λ r. ⌜ r ≡ valueFor (now (values .entry)) (now (holders .entry)) roles place who ⌝ }
 {
-    let attribute = place % 7;
-    if attribute < 6 {
-        return values[64 * (6 * (place / 7) + attribute) + who];
+    let attribute = place % RoleFile::CONJUNCTS;
+    if attribute < RoleFile::ATTRIBUTES {
+        return values[RoleFile::MEMBERS * (RoleFile::ATTRIBUTES * (place / RoleFile::CONJUNCTS) + attribute) + who];
     }
     if place < 7 {
         return roles_of(holders, roles, who);
@@ -94,7 +100,7 @@ pub fn without_least(m: u64) -> u64
 }
 
 // Who meets a conjunct of the values of these members at a place.
-pub fn met_by(matches: &[u64; 896], place: usize, members: u64) -> u64
+pub fn met_by(matches: &ByPlaceMember, place: usize, members: u64) -> u64
     requires { ⌜ place < 14 ⌝ }
     ensures { λ r. ⌜ r ≡ metOf (now (matches .entry)) place members ⌝ }
 {
@@ -102,25 +108,25 @@ pub fn met_by(matches: &[u64; 896], place: usize, members: u64) -> u64
     let mut rest = members;
     while 0 < rest {
         let y = sets::least(rest);
-        met = sets::union(met, matches[64 * place + y]);
+        met = sets::union(met, matches[RoleFile::MEMBERS * place + y]);
         rest = without_least(rest);
     }
     met
 }
 
 // Joins to a table of a side who meets the values that one member has, attribute by attribute. The 255 is left out.
-fn add_member(matches: &[u64; 896], side: usize, member: usize, met: &mut [u64])
+fn add_member(matches: &ByPlaceMember, side: usize, member: usize, met: &mut [u64])
     requires { ⌜ (side < 2) × (member < 64) × (length (now met) ≡ 6) ⌝ }
     ensures { λ _. ⌜ (length (now (met .exit)) ≡ 6) × MemberAdded (now (matches .entry)) side member (now (met .entry)) (now (met .exit)) ⌝ }
 {
-    for a in 0..6 {
-        met[a] = sets::union(met[a], matches[64 * (7 * side + a) + member]);
+    for a in 0..RoleFile::ATTRIBUTES {
+        met[a] = sets::union(met[a], matches[RoleFile::MEMBERS * (RoleFile::CONJUNCTS * side + a) + member]);
     }
 }
 
 // Into a slice, since only a slice tells its length to a proof. Member by member and not attribute by attribute: most groups have few
 // members, and the inner loop always takes six turns.
-fn add_members(matches: &[u64; 896], side: usize, members: u64, met: &mut [u64])
+fn add_members(matches: &ByPlaceMember, side: usize, members: u64, met: &mut [u64])
     requires { ⌜ (side < 2) × (length (now met) ≡ 6) ⌝ }
     ensures { λ _. ⌜ ((m : ℕ) → Met (now (matches .entry)) side m (now (met .entry)) → Met (now (matches .entry)) side (both m members) (now (met .exit))) ⌝ }
 {
@@ -132,7 +138,7 @@ fn add_members(matches: &[u64; 896], side: usize, members: u64, met: &mut [u64])
 }
 
 // Makes the table of some members that of these members too.
-pub fn widen(matches: &[u64; 896], side: usize, members: u64, met: &mut [u64; 6])
+pub fn widen(matches: &ByPlaceMember, side: usize, members: u64, met: &mut [u64; 6])
     requires { ⌜ side < 2 ⌝ }
     ensures { λ _. ⌜ ((m : ℕ) → Met (now (matches .entry)) side m (now (met .entry)) → Met (now (matches .entry)) side (both m members) (now (met .exit))) ⌝ }
 {
@@ -142,7 +148,7 @@ pub fn widen(matches: &[u64; 896], side: usize, members: u64, met: &mut [u64; 6]
 // Who passes all conjuncts but the 255 of the covering rule of some members, on a side, by the table of who meets each.
 pub fn passing<'a>(
     met: &'a [u64; 6],
-    known: &'a [u64; 14],
+    known: &'a ByPlace,
     attributes: usize,
     side: usize,
     members: u64,
@@ -154,7 +160,7 @@ pub fn passing<'a>(
     let mut m = sets::below(count);
     for a in 0..attributes {
         // An attribute that one of them does not know gives no conjunct.
-        if sets::within(members, known[7 * side + a]) {
+        if sets::within(members, known[RoleFile::CONJUNCTS * side + a]) {
             m = sets::meet(m, met[a]);
         }
     }

@@ -9,17 +9,19 @@ use mathlib.Core.List.{[], _∷_}
 use mathlib.Core.Option.{Option, none, some}
 use mathlib.Core.Path.{_≡_, refl, sym, ap, ap₂, _∙_}
 use native.Mathlib.Omega.{arith}
-use Rattle.admit.specs.AdmitLaws.{Sized, slot-side, slot-known}
+use Rattle.admit.specs.AdmitLaws.{slot-side, slot-known}
+use Rattle.loaded.specs.Record.{Sized, slotSide, numberOr, knownTable, valueTable, recordWith, recordOf}
 use Rattle.files.specs.RoleFile.{sideBy}
 use Rattle.files.specs.RuleFile.{ownValue, legal, value}
-use Rattle.loaded.specs.Record.{slotSide, numberOr, knownTable, valueTable, recordWith, recordOf}
 use Rattle.loaded.specs.RecordLaws.{table-get}
-use Rattle.meeting.specs.Meeting.{metAt, holdsAll, meetingOf}
-use Rattle.policy.specs.Policy.{Policy, kindOf, order, held, rolesOf, isSetAt, valueAt, sideOf, settingOf, rolesIn}
+use Rattle.meeting.specs.Meeting.{order, metAt, holdsAll, meetingOf}
+use Rattle.policy.specs.Policy.{Policy, kindOf, meetsValue, held, rolesOf, isSetAt, valueAt, sideOf, settingOf, rolesIn}
 use Rattle.policy.specs.Rules.{own, Which, by, admits, meets, user, resource}
 use Rattle.sets.specs.MaskLaws.{or-false, bit-out, mask-same, mask-wide}
-use Rattle.sets.specs.Sets.{bit, subset, bit-none, subset-out, subset-in, maskOf, bit-mask}
-use Rattle.sets.specs.Tests.{Is, and-in, and-l, and-r, never, test, fails, same, imp, imp-in, imp-out, iff, iff-out, all, all-out, all-in, upTo, upTo-in, upTo-out, isSome}
+use Rattle.sets.specs.Sets.{bit, subset, maskOf}
+use Rattle.sets.specs.SetLaws.{bit-none, subset-out, subset-in, bit-mask}
+use Rattle.sets.specs.Tests.{Is, imp, iff, all, upTo, isSome}
+use Rattle.sets.specs.TestLaws.{and-in, and-l, and-r, never, test, fails, same, imp-in, imp-out, iff-out, all-out, all-in, upTo-in, upTo-out}
 
 module _ (F : Policy) (Z : Sized F) where
   -- a value, from the tables
@@ -29,6 +31,12 @@ module _ (F : Policy) (Z : Sized F) where
       table-get 768 (λ i. numberOr (F .table (slotSide (i / 64)) .value (i / 64 % 6) (i % 64))) (64 * (6 * side + a) + x) (omega arith)
       ∙ ap₂ (λ (s y : ℕ). numberOr (F .table (slotSide s) .value (s % 6) y)) (let e : (64 * (6 * side + a) + x) / 64 ≡ 6 * side + a = omega arith in e) (let e : (64 * (6 * side + a) + x) % 64 ≡ x = omega arith in e)
       ∙ ap₂ (λ (w : Which) (b : ℕ). numberOr (F .table w .value b x)) (slot-side side a hs ha) (let e : (6 * side + a) % 6 ≡ a = omega arith in e)
+
+  -- the sides' ways of meeting a value: user sets contain it, all others equal it
+  order-meets : (w : Which) (set : Bool) (v x : ℕ) → order (by w set false) v x ≡ meetsValue w set v x
+  order-meets user true v x = refl
+  order-meets user false v x = refl
+  order-meets resource set v x = refl
 
   -- somebody's value and whether it is known
   admits-shown : (le : ℕ → ℕ → Bool) (v : ℕ) (o : Option ℕ) → (isSome o && le v (numberOr o)) ≡ admits le (v ∷ []) o
@@ -45,7 +53,8 @@ module _ (F : Policy) (Z : Sized F) where
       let h6 : a < 6 = omega arith in
       ap₂ _&&_ (slot-known F side a x hs h6 hx) (ap (order (cond (eqb side 0) set false) v) (value-shown side a x hs h6 hx))
       ∙ ap (λ (b : Bool). isSome (F .table (sideBy side) .value a x) && order b v (numberOr (F .table (sideBy side) .value a x))) (by-side side hs)
-      ∙ admits-shown (order (by (sideBy side) set false)) v (F .table (sideBy side) .value a x)
+      ∙ ap (λ (b : Bool). isSome (F .table (sideBy side) .value a x) && b) (order-meets (sideBy side) set v (numberOr (F .table (sideBy side) .value a x)))
+      ∙ admits-shown (meetsValue (sideBy side) set) v (F .table (sideBy side) .value a x)
       ∙ rw (not-255, e) refl
     where
       not-255 : eqb a own ≡ false

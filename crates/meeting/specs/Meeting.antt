@@ -2,13 +2,17 @@
 -- Assumes nothing.
 use Prim.Native.Nat.{ℕ, _+_, _*_}
 use lib.Dec.{eqb, ltb}
-use lib.ListN.{getD, set}
-use mathlib.Core.Bool.{Bool, false, cond, _&&_, _||_}
+use lib.ListN.{getD}
+use mathlib.Core.Bool.{Bool, true, false, cond, _&&_, _||_}
 use mathlib.Core.List.{List}
 use Rattle.policy.specs.Covering.{known}
-use Rattle.policy.specs.Policy.{order}
-use Rattle.sets.specs.Sets.{bit, maskOf}
+use Rattle.sets.specs.Sets.{bit, subset, maskOf}
 use Rattle.sets.specs.Tests.{imp, all, upTo}
+
+-- a listed value is met: by containment, or by equality
+abbrev pub order : Bool → ℕ → ℕ → Bool
+order true x y = subset x y
+order false x y = eqb x y
 
 -- somebody knows the attribute of a slot, and meets the listed value
 unfoldable pub metAt : ℕ → List ℕ → ℕ → ℕ → Bool → ℕ → Bool

@@ -7,11 +7,10 @@ use lib.ListN.{getD}
 use mathlib.Core.Bool.{Bool, _&&_}
 use mathlib.Core.List.{List}
 use mathlib.Core.Path.{_≡_, sym, ap, ap₂, _∙_}
-use Rattle.meeting.specs.Meeting.{metAt, holdsAll}
-use Rattle.policy.specs.Policy.{order}
-use Rattle.sets.specs.LoopLaws.{narrowing}
+use Rattle.meeting.specs.Meeting.{order, metAt, holdsAll}
+use Rattle.sets.specs.Sets.{narrowing, bit, maskOf}
 use Rattle.sets.specs.MaskLaws.{mask-same, mask-wide}
-use Rattle.sets.specs.Sets.{bit, maskOf, bit-mask}
+use Rattle.sets.specs.SetLaws.{bit-mask}
 use Rattle.sets.specs.Tests.{imp, all, upTo}
 
 pub holds-narrowed : (users : ℕ) (h : List ℕ) (v n : ℕ) → users ≤ 64 → maskOf 64 (narrowing (maskOf 64 (λ k. ltb k users)) (bit v) (λ k. getD h k 0) n) ≡ maskOf users (holdsAll h n v)

@@ -2,12 +2,15 @@
 ghost use mathlib.Core.Path.{_≡_};
 ghost use Prim.Native.Nat.{_+_, _*_, _≤_, _<_};
 ghost use lib.ListN.{length, getD};
-ghost use Rattle.policy.specs.Policy.{order};
 ghost use Rattle.sets.specs.Sets.{maskOf};
-ghost use Rattle.meeting.specs.Meeting.{metAt, holdsAll, meetingOf};
+ghost use Rattle.meeting.specs.Meeting.{order, metAt, holdsAll, meetingOf};
+use loaded::ByAttribute;
+use loaded::ByRole;
+use loaded::Values;
+use loaded::RoleFile;
 
 // Whose values in a slot, known or not, pass for the listed one: by containment, or by equality.
-fn passing(values: &[u64; 768], slot: usize, v: u64, contained: bool) -> u64
+fn passing(values: &Values, slot: usize, v: u64, contained: bool) -> u64
     requires { ⌜ slot < 12 ⌝ }
     ensures { λ r. ⌜ r ≡ maskOf 64 (λ x. order contained v (getD (now (values .entry)) (64 * slot + x) 0)) ⌝ }
 {
@@ -20,7 +23,7 @@ fn passing(values: &[u64; 768], slot: usize, v: u64, contained: bool) -> u64
 // Who meets a listed value of the attribute in a slot.
 fn in_slot(
     known: u64,
-    values: &[u64; 768],
+    values: &Values,
     slot: usize,
     count: usize,
     v: u64,
@@ -34,7 +37,7 @@ fn in_slot(
 }
 
 // Who holds all roles of a set.
-fn holding_all(holders: &[u64; 32], users: usize, roles: usize, v: u64) -> u64
+fn holding_all(holders: &ByRole, users: usize, roles: usize, v: u64) -> u64
     requires { ⌜ (users ≤ 64) × (roles ≤ 32) ⌝ }
     ensures { λ r. ⌜ r ≡ maskOf users (holdsAll (now (holders .entry)) roles v) ⌝ }
 {
@@ -55,15 +58,15 @@ pub fn meeting<'a>(
     v: u64,
     count: usize,
     roles: usize,
-    known: &'a [u64; 12],
-    values: &'a [u64; 768],
-    holders: &'a [u64; 32],
+    known: &'a ByAttribute,
+    values: &'a Values,
+    holders: &'a ByRole,
 ) -> u64
     requires { ⌜ (side < 2) × (count ≤ 64) × (roles ≤ 32) ⌝ }
     ensures { λ r. ⌜ r ≡ meetingOf side set attribute v count roles (now (known .entry)) (now (values .entry)) (now (holders .entry)) ⌝ }
 {
-    if attribute < 6 {
-        let slot = 6 * side + attribute;
+    if attribute < RoleFile::ATTRIBUTES {
+        let slot = RoleFile::ATTRIBUTES * side + attribute;
         if side == 0 {
             return in_slot(known[slot], values, slot, count, v, set);
         }

@@ -8,25 +8,26 @@ use mathlib.Core.Bool.{Bool, true, false, cond, _&&_, _||_, not, and-false}
 use mathlib.Core.List.{List, [], _∷_}
 use mathlib.Core.Path.{_≡_, refl, sym, ap, ap₂, _∙_, subst, fun-ext}
 use native.Mathlib.Omega.{arith}
-use Rattle.admit.specs.AdmitLaws.{Sized}
+use Rattle.loaded.specs.Record.{Sized, recordWith, recordOf}
 use Rattle.frontier.specs.Frontier.{Slots}
 use Rattle.groupwords.specs.PartWordLaws.{table-words, part-means}
 use Rattle.groupwords.specs.PartWords.{isPartIn, atomsOf}
-use Rattle.loaded.specs.Record.{recordWith, recordOf}
 use Rattle.merging.specs.Steps.{Tables, stored, slotIn, slotWords, partLevel, FilledWith, FilledTo}
 use Rattle.merging.specs.StoreLaws.{atoms-packed, level-packed, head-packed, stored-users, stored-resources, stored-operations, stored-rest, stored-kept, stored-kept-rest}
 use Rattle.merging.specs.PairLaws.{users-some, level-most, both-first}
 use Rattle.merging.specs.Traced.{tracedTo, Traced}
-use Rattle.pairing.specs.FitLaws.{linksOf, words-same}
+use Rattle.pairing.specs.FitLaws.{words-same}
+use Rattle.grants.specs.Links.{linksOf}
 use Rattle.pairing.specs.LevelLaws.{group-means}
 use Rattle.pairing.specs.Levels.{tablesFit, groupLevel}
 use Rattle.policy.specs.Covering.{fits, levelOf}
 use Rattle.policy.specs.Merging.{union}
 use Rattle.policy.specs.Policy.{Policy, settingOf}
 use Rattle.policy.specs.Rules.{Block, Some}
-use Rattle.sets.specs.Lowest.{lowest-most}
+use Rattle.sets.specs.LowestLaws.{lowest-most}
 use Rattle.sets.specs.MaskLaws.{or-false, mask-lt}
-use Rattle.sets.specs.Tests.{Is, never, test, elem}
+use Rattle.sets.specs.Tests.{Is, elem}
+use Rattle.sets.specs.TestLaws.{never, test}
 use Rattle.slotgroups.specs.Scratch.{usersAt, resourcesAt, operationsAt, restAt, atomsIn, levelIn, headIn, restOf, wordsAt, isPartAt}
 use Rattle.slotgroups.specs.SlotLaws.{slot-part, block-fits, block-some}
 use Rattle.slotgroups.specs.Slots.{slotPart, isSlot, slotBlock}

@@ -12,14 +12,16 @@ use mathlib.Core.Path.{_≡_, refl, sym, ap, ap₂, _∙_}
 use native.Mathlib.Omega.{arith}
 use Rattle.merging.specs.Steps.{marked, unmarked, Marked, Joined, headCount}
 use Rattle.sets.specs.MaskLaws.{mask-same}
-use Rattle.sets.specs.Sets.{bit, bit-none, maskOf, bit-mask}
-use Rattle.sets.specs.Tests.{Is, and-in, and-l, never, test, _∈_, keep, upTo, upTo-in}
+use Rattle.sets.specs.Sets.{bit, maskOf}
+use Rattle.sets.specs.SetLaws.{bit-none, bit-mask}
+use Rattle.sets.specs.Tests.{Is, _isIn_, keep, upTo}
+use Rattle.sets.specs.TestLaws.{and-in, and-l, never, test, upTo-in}
 use Rattle.slotgroups.specs.Scratch.{restAt, headIn, isPartAt, isHeadAt}
 
 -- ---- how many heads there are
 
 -- fewer pass a test that implies another, and that one of them fails
-keep-most : (f g : ℕ → Bool) (l : List ℕ) → ((k : ℕ) → k ∈ l → Is (g k) → Is (f k)) → length (keep g l) ≤ length (keep f l)
+keep-most : (f g : ℕ → Bool) (l : List ℕ) → ((k : ℕ) → k isIn l → Is (g k) → Is (f k)) → length (keep g l) ≤ length (keep f l)
 keep-most f g [] h = omega arith
 keep-most f g (x ∷ xs) h = go (f x) (g x) (h x (List·Memᴰ·head refl)) (keep-most f g xs (λ k m. h k (List·Memᴰ·tail m)))
   where
@@ -29,7 +31,7 @@ keep-most f g (x ∷ xs) h = go (f x) (g x) (h x (List·Memᴰ·head refl)) (kee
     go false true i r = never (i refl) refl
     go false false i r = r
 
-keep-fewer : (f g : ℕ → Bool) (l : List ℕ) (j : ℕ) → j ∈ l → ((k : ℕ) → k ∈ l → Is (g k) → Is (f k)) → Is (f j) → g j ≡ false → suc (length (keep g l)) ≤ length (keep f l)
+keep-fewer : (f g : ℕ → Bool) (l : List ℕ) (j : ℕ) → j isIn l → ((k : ℕ) → k isIn l → Is (g k) → Is (f k)) → Is (f j) → g j ≡ false → suc (length (keep g l)) ≤ length (keep f l)
 keep-fewer f g [] j m h p q = absurd (List·Memᴰ·not-nil m)
 keep-fewer f g (x ∷ xs) j m h p q = here (List·Memᴰ·cases-cons m) (λ k. keep-fewer f g xs j k (λ k m. h k (List·Memᴰ·tail m)) p q)
   where
@@ -39,7 +41,7 @@ keep-fewer f g (x ∷ xs) j m h p q = here (List·Memᴰ·cases-cons m) (λ k. k
     go false true i r = never (i refl) refl
     go false false i r = r
 
-    here : (j ≡ x) ⊎ (j ∈ xs) → (j ∈ xs → suc (length (keep g xs)) ≤ length (keep f xs)) → suc (length (cond (g x) (x ∷ keep g xs) (keep g xs))) ≤ length (cond (f x) (x ∷ keep f xs) (keep f xs))
+    here : (j ≡ x) ⊎ (j isIn xs) → (j isIn xs → suc (length (keep g xs)) ≤ length (keep f xs)) → suc (length (cond (g x) (x ∷ keep g xs) (keep g xs))) ≤ length (cond (f x) (x ∷ keep f xs) (keep f xs))
     here (inl e) r = let most = keep-most f g xs (λ k m. h k (List·Memᴰ·tail m)) in rw (← e, p, q) (omega arith)
     here (inr k) r = go (f x) (g x) (h x (List·Memᴰ·head refl)) (r k)
 

@@ -8,7 +8,7 @@ use mathlib.Core.List.{List, [], _∷_, _++_}
 use mathlib.Core.Logic.{_⊎_, inl, inr}
 use mathlib.Core.Path.{_≡_, refl, sym, ap, ap₂, _∙_, subst}
 use native.Mathlib.Omega.{arith}
-use Rattle.admit.specs.AdmitLaws.{Sized}
+use Rattle.loaded.specs.Record.{Sized}
 use Rattle.frontier.specs.Frontier.{Slots, joinedAt, okAt}
 use Rattle.frontier.specs.FrontierLaws.{okAt-out, emptied, alive-kept, group-joined, group-kept}
 use Rattle.merging.specs.Steps.{Joined}
@@ -19,7 +19,8 @@ use Rattle.policy.specs.Merging.{union, mergeable}
 use Rattle.policy.specs.Policy.{Policy, settingOf}
 use Rattle.policy.specs.Rules.{Block, Some}
 use Rattle.sets.specs.MaskLaws.{or-false}
-use Rattle.sets.specs.Tests.{Is, and-l, and-r, or-l, or-r, or-out, never, test, elem}
+use Rattle.sets.specs.Tests.{Is, elem}
+use Rattle.sets.specs.TestLaws.{and-l, and-r, or-l, or-r, or-out, never, test}
 use Rattle.slotgroups.specs.Scratch.{restAt, atomsIn, levelIn, headIn, wordsAt, isPartAt, isHeadAt}
 use Rattle.slotgroups.specs.SlotLaws.{merged-fits, merged-some}
 use Rattle.slotgroups.specs.Slots.{slotBlock}

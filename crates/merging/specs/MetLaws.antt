@@ -10,7 +10,7 @@ use native.Mathlib.Omega.{arith}
 use Rattle.matches.specs.Matches.{both, Met}
 use Rattle.matches.specs.MetLaws.{met-nobody, met-first, met-turned}
 use Rattle.merging.specs.Steps.{GroupMet, Joined}
-use Rattle.sets.specs.Tests.{test}
+use Rattle.sets.specs.TestLaws.{test}
 use Rattle.slotgroups.specs.Scratch.{usersAt, resourcesAt}
 use Rattle.words.specs.Words.{Words, joined}
 

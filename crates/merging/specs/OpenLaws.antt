@@ -14,8 +14,10 @@ use Rattle.merging.specs.HeadLaws.{joined-head, unmarked-at}
 use Rattle.merging.specs.Steps.{marked, unmarked, Marked, Open, Kept, Joined}
 use Rattle.pairing.specs.Pairing.{less, reaches}
 use Rattle.sets.specs.MaskLaws.{bit-out, mask-same}
-use Rattle.sets.specs.Sets.{bit, bit-none, subset, subset-in, subset-chain, maskOf, bit-mask}
-use Rattle.sets.specs.Tests.{Is, and-in, and-l, and-r, or-l, or-r, or-out, never, test, fails, not-out}
+use Rattle.sets.specs.Sets.{bit, subset, maskOf}
+use Rattle.sets.specs.SetLaws.{bit-none, subset-in, subset-chain, bit-mask}
+use Rattle.sets.specs.Tests.{Is}
+use Rattle.sets.specs.TestLaws.{and-in, and-l, and-r, or-l, or-r, or-out, never, test, fails, not-out}
 use Rattle.slotgroups.specs.Scratch.{usersAt, resourcesAt, operationsAt, restAt, wordsAt, isHeadAt}
 use Rattle.words.specs.Words.{Words, joined}
 

@@ -7,7 +7,7 @@ use mathlib.Core.Bool.{Bool, true, false, cond, _&&_}
 use mathlib.Core.List.{List, _++_}
 use mathlib.Core.Path.{_≡_, refl, ap, ap₂, _∙_}
 use native.Mathlib.Omega.{arith}
-use Rattle.admit.specs.AdmitLaws.{Sized}
+use Rattle.loaded.specs.Record.{Sized}
 use Rattle.frontier.specs.Frontier.{Slots, okAt}
 use Rattle.merging.specs.Steps.{Paired, joinedLevel, pairAt}
 use Rattle.merging.specs.Traced.{Traced}
@@ -18,9 +18,11 @@ use Rattle.policy.specs.Covering.{standsIn, levelOf}
 use Rattle.policy.specs.Merging.{union, mergeable}
 use Rattle.policy.specs.Policy.{Policy, settingOf}
 use Rattle.policy.specs.Rules.{Setting, Block, Some, user}
-use Rattle.sets.specs.Lowest.{lowest-most}
-use Rattle.sets.specs.Sets.{bit, bit-none, bit-mask}
-use Rattle.sets.specs.Tests.{Is, never}
+use Rattle.sets.specs.LowestLaws.{lowest-most}
+use Rattle.sets.specs.Sets.{bit}
+use Rattle.sets.specs.SetLaws.{bit-none, bit-mask}
+use Rattle.sets.specs.Tests.{Is}
+use Rattle.sets.specs.TestLaws.{never}
 use Rattle.slotgroups.specs.Scratch.{restAt, levelIn, wordsAt}
 use Rattle.slotgroups.specs.Slots.{slotBlock}
 use Rattle.words.specs.Words.{Words, wordsOf}

@@ -11,7 +11,7 @@ use mathlib.Core.Logic.{inl, inr}
 use mathlib.Core.Option.{some}
 use mathlib.Core.Path.{_≡_, refl, sym, ap, _∙_}
 use native.Mathlib.Omega.{arith}
-use Rattle.admit.specs.AdmitLaws.{Sized}
+use Rattle.loaded.specs.Record.{Sized}
 use Rattle.frontier.specs.Frontier.{Slots, groupsIn, joinedAt, okAt, Clean}
 use Rattle.frontier.specs.FrontierLaws.{okAt-out, joined-length, step-none, back-found, behind-found, run-found, run-none}
 use Rattle.merging.specs.FillLaws.{alone, alone-traced}
@@ -23,9 +23,10 @@ use Rattle.merging.specs.SearchLaws.{partner-same, partner-behind}
 use Rattle.merging.specs.Steps.{Paired, Tables, joinedLevel, pairAt, NoneIn, FirstIn, Partner, Joined, Resolved, FilledTo}
 use Rattle.merging.specs.Traced.{Traced}
 use Rattle.policy.specs.Covering.{levelOf}
-use Rattle.policy.specs.Merging.{step, run, merges, union, mergeable}
+use Rattle.policy.specs.Merging.{step, union, mergeable}
+use Rattle.policy.specs.MergeLaws.{run, merges}
 use Rattle.policy.specs.Policy.{Policy, settingOf}
-use Rattle.sets.specs.Tests.{test}
+use Rattle.sets.specs.TestLaws.{test}
 use Rattle.slotgroups.specs.Scratch.{Merged}
 use Rattle.slotgroups.specs.SlotLaws.{groups-enough, counted-enough}
 use Rattle.slotgroups.specs.Slots.{slotBlock, slotsOf, slotMerges}

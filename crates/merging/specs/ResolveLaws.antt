@@ -12,7 +12,8 @@ use Rattle.merging.specs.Steps.{Resolved}
 use Rattle.merging.specs.Traced.{Traced}
 use Rattle.pairing.specs.FitLaws.{words-same}
 use Rattle.policy.specs.Policy.{Policy}
-use Rattle.sets.specs.Tests.{Is, test, elem}
+use Rattle.sets.specs.Tests.{Is, elem}
+use Rattle.sets.specs.TestLaws.{test}
 use Rattle.slotgroups.specs.Scratch.{restAt, atomsIn, levelIn, headIn, isPartAt, isHeadAt, Shows}
 
 module _ (F : Policy) (t u : List ℕ) (s : Slots (List ℕ)) (S : Traced F t s) (R : Resolved t u) where

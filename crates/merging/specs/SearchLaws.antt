@@ -14,9 +14,12 @@ use Rattle.matches.specs.MemberLaws.{least-in, bit-less}
 use Rattle.merging.specs.Steps.{joinedLevel, pairAt, partnerLevel, partnerAt, NoneIn, FirstIn, Partner, Finds, nearAt, marked, nearHead, Open}
 use Rattle.pairing.specs.Levels.{pairLevel}
 use Rattle.pairing.specs.Pairing.{reaches, mayJoin}
-use Rattle.sets.specs.Lowest.{lowestFrom, lowestFrom-misses}
-use Rattle.sets.specs.Sets.{bit, bit-none, maskOf, bit-mask}
-use Rattle.sets.specs.Tests.{Is, and-in, and-l, and-r, never, test}
+use Rattle.sets.specs.Lowest.{lowestFrom}
+use Rattle.sets.specs.LowestLaws.{lowestFrom-misses}
+use Rattle.sets.specs.Sets.{bit, maskOf}
+use Rattle.sets.specs.SetLaws.{bit-none, bit-mask}
+use Rattle.sets.specs.Tests.{Is}
+use Rattle.sets.specs.TestLaws.{and-in, and-l, and-r, never, test}
 use Rattle.slotgroups.specs.Scratch.{restAt, levelIn, wordsAt, isHeadAt}
 use Rattle.words.specs.Words.{Words}
 

@@ -10,10 +10,9 @@ use mathlib.Core.Logic.{_⊎_}
 use mathlib.Core.Path.{_≡_}
 use Rattle.groupwords.specs.PartWords.{atomsOf, isPartIn}
 use Rattle.loaded.specs.Record.{recordOf}
-use Rattle.matches.specs.MatchLaws.{knownIn, matchesIn}
-use Rattle.matches.specs.Matches.{Met}
+use Rattle.matches.specs.Matches.{knownIn, matchesIn, Met}
 use Rattle.operands.specs.Operands.{classRow}
-use Rattle.pairing.specs.FitLaws.{linksOf}
+use Rattle.grants.specs.Links.{linksOf}
 use Rattle.pairing.specs.Levels.{pairLevel, groupLevel}
 use Rattle.pairing.specs.Pairing.{reaches}
 use Rattle.policy.specs.Policy.{Policy}

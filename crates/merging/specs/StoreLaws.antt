@@ -13,8 +13,10 @@ use native.Mathlib.Omega.{arith}
 use Rattle.merging.specs.Steps.{stored, headTaken, Kept, TakenIn, Joined, Resolved}
 use Rattle.pairing.specs.FitLaws.{words-same}
 use Rattle.sets.specs.MaskLaws.{bit-out, bits-same, mask-lt, mask-same, mask-wide}
-use Rattle.sets.specs.Sets.{bit, bit-none, maskOf, bit-mask}
-use Rattle.sets.specs.Tests.{Is, or-l, never, test, fails}
+use Rattle.sets.specs.Sets.{bit, maskOf}
+use Rattle.sets.specs.SetLaws.{bit-none, bit-mask}
+use Rattle.sets.specs.Tests.{Is}
+use Rattle.sets.specs.TestLaws.{or-l, never, test, fails}
 use Rattle.slotgroups.specs.Scratch.{usersAt, resourcesAt, operationsAt, restAt, atomsIn, levelIn, headIn, restOf, wordsAt}
 use Rattle.words.specs.Words.{Words, joined}
 

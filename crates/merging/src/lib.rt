@@ -7,7 +7,7 @@ ghost use mathlib.Core.List.{List};
 ghost use mathlib.Core.Logic.{_⊎_};
 ghost use mathlib.Core.Path.{_≡_};
 ghost use Prim.Native.Nat.{ℕ, _+_, _*_, _/_, _%_, _^_, _≤_, _<_, max, min};
-ghost use Rattle.admit.specs.AdmitLaws.{Sized};
+ghost use Rattle.loaded.specs.Record.{Sized};
 ghost use Rattle.merging.specs.Progress.{Settled};
 ghost use Rattle.merging.specs.Steps.{Paired, Tables, joinedLevel, partnerLevel, FirstIn, Finds, nearAt, nearHead, marked, GroupMet, Marked, Open, unmarked, stored, headTaken, TakenIn, Joined, Resolved, headCount, slotIn, slotWords, FilledWith, FilledTo};
 ghost use Rattle.matches.specs.Matches.{both, Met};
@@ -18,6 +18,13 @@ ghost use Rattle.sets.specs.Tests.{Is};
 ghost use Rattle.slotgroups.specs.Scratch.{usersAt, resourcesAt, restAt, levelIn, headIn, restOf, wordsAt, isPartAt, isHeadAt, Merged};
 ghost use Rattle.slotgroups.specs.Slots.{slotMerges};
 use pairing::Group;
+use loaded::ByPlace;
+use loaded::ByPlaceMember;
+use loaded::ByRole;
+use loaded::ByRoleOperation;
+use loaded::CountBySide;
+use loaded::Links;
+use loaded::RoleFile;
 
 // The words of a slot as they stand in scratch.
 struct Slot {
@@ -95,12 +102,12 @@ fn higher(a: usize, b: usize) -> usize
 // handed in.
 fn level_if_joined<'a>(
     scratch: &[u64],
-    links: &'a [u64; 2304],
-    matches: &'a [u64; 896],
+    links: &'a Links,
+    matches: &'a ByPlaceMember,
     met_users: &'a [u64; 6],
     met_resources: &'a [u64; 6],
-    known: &'a [u64; 14],
-    attributes: &'a [usize; 2],
+    known: &'a ByPlace,
+    attributes: &'a CountBySide,
     users: usize,
     resources: usize,
     operations: usize,
@@ -131,7 +138,7 @@ fn level_if_joined<'a>(
 
 // Makes the tables of who meets the values of some users and resources those of these too.
 fn add_group(
-    matches: &[u64; 896],
+    matches: &ByPlaceMember,
     users: u64,
     resources: u64,
     people: &mut [u64; 6],
@@ -147,12 +154,12 @@ fn add_group(
 // The tables of c's group are handed in: it is put to many others, and most of these have few members.
 fn level_beside<'a>(
     scratch: &[u64],
-    links: &'a [u64; 2304],
-    matches: &'a [u64; 896],
+    links: &'a Links,
+    matches: &'a ByPlaceMember,
     met_users: &'a [u64; 6],
     met_resources: &'a [u64; 6],
-    known: &'a [u64; 14],
-    attributes: &'a [usize; 2],
+    known: &'a ByPlace,
+    attributes: &'a CountBySide,
     users: usize,
     resources: usize,
     operations: usize,
@@ -216,7 +223,7 @@ fn next_near(scratch: &[u64], heads: &[u64; 8], g: Group, from: usize) -> usize
     for word in from / 64..8 {
         let passed = sets::below(higher(from, 64 * word) - 64 * word);
         let k = near_within(scratch, sets::without(heads[word], passed), word, g);
-        if k < 512 {
+        if k < RoleFile::PARTS {
             return k;
         }
     }
@@ -227,12 +234,12 @@ fn next_near(scratch: &[u64], heads: &[u64; 8], g: Group, from: usize) -> usize
 fn first_partner<'a>(
     scratch: &[u64],
     ready: &[u64; 8],
-    links: &'a [u64; 2304],
-    matches: &'a [u64; 896],
+    links: &'a Links,
+    matches: &'a ByPlaceMember,
     met_users: &'a [u64; 6],
     met_resources: &'a [u64; 6],
-    known: &'a [u64; 14],
-    attributes: &'a [usize; 2],
+    known: &'a ByPlace,
+    attributes: &'a CountBySide,
     users: usize,
     resources: usize,
     operations: usize,
@@ -246,7 +253,7 @@ fn first_partner<'a>(
     if is_head(scratch, c) {
         let g = group_at(scratch, c);
         let mut k = next_near(scratch, ready, g, from);
-        while k < 512 {
+        while k < RoleFile::PARTS {
             let level = level_beside(
                 scratch,
                 links,
@@ -271,7 +278,7 @@ fn first_partner<'a>(
         }
     }
     Found {
-        slot: 512,
+        slot: RoleFile::PARTS,
         level: 4,
     }
 }
@@ -341,7 +348,7 @@ fn resolve(scratch: &mut [u64])
     requires { ⌜ length (now scratch) ≡ 2048 ⌝ }
     ensures { λ _. ⌜ Resolved (now (scratch .entry)) (now (scratch .exit)) ⌝ }
 {
-    for k in 0..512 {
+    for k in 0..RoleFile::PARTS {
         let named = lower(head_at(scratch, k), 511);
         take_head(scratch, k, named);
     }
@@ -440,8 +447,8 @@ fn mark_again(scratch: &[u64], heads: &[u64; 8], g: Group, i: usize, j: usize, r
 
 // Whether a part stands in the slot: the part of role k / 16 with the lowest operation k % 16.
 fn is_slot<'a>(
-    holders: &'a [u64; 32],
-    permissions: &'a [u64; 512],
+    holders: &'a ByRole,
+    permissions: &'a ByRoleOperation,
     operations: usize,
     roles: usize,
     k: usize,
@@ -449,30 +456,30 @@ fn is_slot<'a>(
     requires { ⌜ (operations ≤ 16) × (roles ≤ 32) ⌝ }
     ensures { λ b. ⌜ b ≡ slotIn (now (holders .entry)) (now (permissions .entry)) operations roles k ⌝ }
 {
-    if roles <= k / 16 {
+    if roles <= k / RoleFile::OPERATIONS {
         return false;
     }
-    if operations <= k % 16 {
+    if operations <= k % RoleFile::OPERATIONS {
         return false;
     }
-    groupwords::is_part(holders, permissions, operations, k / 16, k % 16)
+    groupwords::is_part(holders, permissions, operations, k / RoleFile::OPERATIONS, k % RoleFile::OPERATIONS)
 }
 
 // The words of the part in a slot.
 fn group_of<'a>(
-    links: &'a [u64; 2304],
-    attributes: &'a [usize; 2],
-    holders: &'a [u64; 32],
-    permissions: &'a [u64; 512],
+    links: &'a Links,
+    attributes: &'a CountBySide,
+    holders: &'a ByRole,
+    permissions: &'a ByRoleOperation,
     operations: usize,
     k: usize,
 ) -> Group
     requires { ⌜ (operations ≤ 16) × (k < 512) ⌝ }
     ensures { λ g. ⌜ wordsIn g ≡ slotWords (now (links .entry)) (now (attributes .entry)) (now (holders .entry)) (now (permissions .entry)) operations k ⌝ }
 {
-    let users = holders[k / 16];
-    let resources = permissions[16 * (k / 16) + k % 16];
-    let class = groupwords::class_of(permissions, k / 16, operations, k % 16);
+    let users = holders[k / RoleFile::OPERATIONS];
+    let resources = permissions[RoleFile::OPERATIONS * (k / RoleFile::OPERATIONS) + k % RoleFile::OPERATIONS];
+    let class = groupwords::class_of(permissions, k / RoleFile::OPERATIONS, operations, k % RoleFile::OPERATIONS);
     let atoms = groupwords::atoms_of(links, attributes, users, resources);
     Group {
         users: users,
@@ -484,12 +491,12 @@ fn group_of<'a>(
 
 // What a slot is filled with: its part's words with their level, and itself as head; nothing if it has no part.
 fn slot_of<'a>(
-    links: &'a [u64; 2304],
-    matches: &'a [u64; 896],
-    known: &'a [u64; 14],
-    attributes: &'a [usize; 2],
-    holders: &'a [u64; 32],
-    permissions: &'a [u64; 512],
+    links: &'a Links,
+    matches: &'a ByPlaceMember,
+    known: &'a ByPlace,
+    attributes: &'a CountBySide,
+    holders: &'a ByRole,
+    permissions: &'a ByRoleOperation,
     users: usize,
     resources: usize,
     operations: usize,
@@ -501,8 +508,8 @@ fn slot_of<'a>(
 {
     if is_slot(holders, permissions, operations, roles, k) {
         let g = group_of(links, attributes, holders, permissions, operations, k);
-        let mut people = [0u64; 6];
-        let mut things = [0u64; 6];
+        let mut people = [0u64; RoleFile::ATTRIBUTES];
+        let mut things = [0u64; RoleFile::ATTRIBUTES];
         add_group(matches, g.users, g.resources, &mut people, &mut things);
         let level = pairing::level_of_group(
             links,
@@ -535,12 +542,12 @@ fn slot_of<'a>(
 // Every slot's own words, whatever scratch held.
 fn fill<'a>(
     scratch: &mut [u64],
-    links: &'a [u64; 2304],
-    matches: &'a [u64; 896],
-    known: &'a [u64; 14],
-    attributes: &'a [usize; 2],
-    holders: &'a [u64; 32],
-    permissions: &'a [u64; 512],
+    links: &'a Links,
+    matches: &'a ByPlaceMember,
+    known: &'a ByPlace,
+    attributes: &'a CountBySide,
+    holders: &'a ByRole,
+    permissions: &'a ByRoleOperation,
     users: usize,
     resources: usize,
     operations: usize,
@@ -549,7 +556,7 @@ fn fill<'a>(
     requires { ⌜ (users ≤ 64) × (resources ≤ 64) × (operations ≤ 16) × (roles ≤ 32) × (getD (now attributes) 0 0 ≤ 6) × (getD (now attributes) 1 0 ≤ 6) × (length (now scratch) ≡ 2048) ⌝ }
     ensures { λ _. ⌜ (length (now (scratch .exit)) ≡ 2048) × FilledTo (now (links .entry)) (now (matches .entry)) (now (known .entry)) (now (attributes .entry)) (now (holders .entry)) (now (permissions .entry)) users resources operations roles (now (scratch .exit)) 512 ⌝ }
 {
-    for k in 0..512 {
+    for k in 0..RoleFile::PARTS {
         let s = slot_of(
             links,
             matches,
@@ -572,10 +579,10 @@ fn fill<'a>(
 fn settle_head<'a>(
     scratch: &mut [u64],
     heads: &mut [u64; 8],
-    links: &'a [u64; 2304],
-    matches: &'a [u64; 896],
-    known: &'a [u64; 14],
-    attributes: &'a [usize; 2],
+    links: &'a Links,
+    matches: &'a ByPlaceMember,
+    known: &'a ByPlace,
+    attributes: &'a CountBySide,
     users: usize,
     resources: usize,
     operations: usize,
@@ -586,8 +593,8 @@ fn settle_head<'a>(
 {
     let mut merges: usize = 0;
     let mut c = start;
-    let mut people = [0u64; 6];
-    let mut things = [0u64; 6];
+    let mut people = [0u64; RoleFile::ATTRIBUTES];
+    let mut things = [0u64; RoleFile::ATTRIBUTES];
     add_group(
         matches,
         scratch[4 * c],
@@ -612,7 +619,7 @@ fn settle_head<'a>(
         c,
         c + 1,
     );
-    while other.slot < 512 {
+    while other.slot < RoleFile::PARTS {
         add_group(
             matches,
             scratch[4 * other.slot],
@@ -651,10 +658,10 @@ fn settle_head<'a>(
 fn settle<'a>(
     scratch: &mut [u64],
     heads: &mut [u64; 8],
-    links: &'a [u64; 2304],
-    matches: &'a [u64; 896],
-    known: &'a [u64; 14],
-    attributes: &'a [usize; 2],
+    links: &'a Links,
+    matches: &'a ByPlaceMember,
+    known: &'a ByPlace,
+    attributes: &'a CountBySide,
     users: usize,
     resources: usize,
     operations: usize,
@@ -683,12 +690,12 @@ fn settle<'a>(
 // Merges the parts of a policy, by the tables of its record, until no pair is left: how many merges were made.
 pub fn merge<'a>(
     scratch: &mut [u64],
-    links: &'a [u64; 2304],
-    matches: &'a [u64; 896],
-    known: &'a [u64; 14],
-    attributes: &'a [usize; 2],
-    holders: &'a [u64; 32],
-    permissions: &'a [u64; 512],
+    links: &'a Links,
+    matches: &'a ByPlaceMember,
+    known: &'a ByPlace,
+    attributes: &'a CountBySide,
+    holders: &'a ByRole,
+    permissions: &'a ByRoleOperation,
     users: usize,
     resources: usize,
     operations: usize,
@@ -713,7 +720,7 @@ pub fn merge<'a>(
     let mut heads = [0u64; 8];
     mark(scratch, &mut heads);
     let mut merges: usize = 0;
-    for front in 0..512 {
+    for front in 0..RoleFile::PARTS {
         merges += settle(
             scratch,
             &mut heads,

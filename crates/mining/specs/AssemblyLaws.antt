@@ -5,26 +5,25 @@ use lib.ListN.{length, getD}
 use mathlib.Core.List.{List, List·Memᴰ·head, List·Memᴰ·tail}
 use mathlib.Core.Path.{_≡_, refl, sym, ap, _∙_, subst}
 use native.Mathlib.Omega.{arith}
-use Rattle.admit.specs.AdmitLaws.{Sized}
-use Rattle.distinct.specs.Distinct.{distinctTable, havingTable, insideTable}
+use Rattle.loaded.specs.Record.{Sized, attributeTable, recordWith, recordOf}
+use Rattle.distinct.specs.Distinct.{distinctTable, havingTable, insideTable, distinctIn, havingIn, insideIn}
 use Rattle.files.specs.Answer.{Answer, refused, accepted}
 use Rattle.files.specs.BytesLaws.{Bytes, Carries, number-positive}
 use Rattle.files.specs.Calls.{Counts, minedBytes, minedCounts}
 use Rattle.files.specs.RoleFile.{readRoles}
 use Rattle.grants.specs.Links.{linkTable}
-use Rattle.loaded.specs.Record.{attributeTable, recordWith, recordOf}
 use Rattle.matches.specs.Matches.{matchTable, knownPlaces}
 use Rattle.filewriter.specs.FileLaws.{keptIn, file-means, measure-means}
 use Rattle.filewriter.specs.FileTable.{keptTable, fileBytes, measuredOf}
-use Rattle.mining.specs.MineLaws.{Outcome, written}
-use Rattle.merging.specs.Steps.{Tables}
-use Rattle.linewriter.specs.Writing.{wrote, length-wrote}
+use Rattle.mining.specs.MineLaws.{written}
+use Rattle.mining.specs.Stages.{Stored, Tabled, Outcome}
+use Rattle.linewriter.specs.Writing.{wrote}
+use Rattle.linewriter.specs.WritingLaws.{length-wrote}
 use Rattle.policy.specs.Policy.{Policy}
 use Rattle.policy.specs.Rules.{user, resource}
 use Rattle.rolefile.specs.Reading.{refusal, loadedOf}
 use Rattle.rolefile.specs.SizedLaws.{accepted-sized}
-use Rattle.rulewriter.specs.WriterLaws.{distinctIn, havingIn, insideIn}
-use Rattle.sets.specs.Tests.{_∈_}
+use Rattle.sets.specs.Tests.{_isIn_}
 use Rattle.slotgroups.specs.Scratch.{Merged}
 use Rattle.slotgroups.specs.Slots.{slotMerges}
 use Rattle.loaded.specs.declared.RoleFile.{RoleFile}
@@ -42,7 +41,7 @@ loaded-policy file l e h = go (readRoles 2 file) refl (accepted-sized file) e
     go (refused d) q z p = absurd (number-positive d (ap (λ (m : Loaded). m .code) (sym p) ∙ h))
     go (accepted F) q z p = (F, z, q, ap (λ (m : Loaded). m .file) p)
 
-byte-low : {s : List ℕ} {g : ℕ} → g ∈ s → ((i : ℕ) → getD s i 0 < 256) → g < 256
+byte-low : {s : List ℕ} {g : ℕ} → g isIn s → ((i : ℕ) → getD s i 0 < 256) → g < 256
 byte-low (List·Memᴰ·head {x = x} {xs = xs} e) h = subst (λ (n : ℕ). n < 256) (sym e) (h 0)
 byte-low (List·Memᴰ·tail {x = x} {xs = xs} m) h = byte-low m (λ i. h (suc i))
 
@@ -51,19 +50,6 @@ pub bytes-all : (s : List ℕ) → ((i : ℕ) → getD s i 0 < 256) → Bytes s
 bytes-all s h g m = byte-low m h
 
 -- ---- the record
-
--- the tables and numbers are those of the policy's record
-pub record Stored (F : Policy) (known values kinds attributes holders permissions : List ℕ) (users resources operations roles : ℕ) : Type 0 where
-  pub of-known : known ≡ recordOf F .known
-  pub of-values : values ≡ recordOf F .values
-  pub of-kinds : kinds ≡ recordOf F .kinds
-  pub of-attributes : attributes ≡ recordOf F .attributes
-  pub of-holders : holders ≡ recordOf F .holders
-  pub of-permissions : permissions ≡ recordOf F .permissions
-  pub of-users : users ≡ recordOf F .users
-  pub of-resources : resources ≡ recordOf F .resources
-  pub of-operations : operations ≡ recordOf F .operations
-  pub of-roles : roles ≡ recordOf F .roles
 
 pub stored : (F : Policy) (f : RoleFile) → f ≡ recordOf F → Stored F (f .known) (f .values) (f .kinds) (f .attributes) (f .holders) (f .permissions) (f .users) (f .resources) (f .operations) (f .roles)
 stored F f e = record {
@@ -80,14 +66,6 @@ stored F f e = record {
 }
 
 -- ---- the tables
-
--- the tables by which parts are merged and rules written are those of the policy
-pub record Tabled (F : Policy) (links matches known attributes holders permissions kinds distinct having inside : List ℕ) (users resources operations roles : ℕ) : Type 0 where
-  pub merging-by : Tables F links matches known attributes holders permissions users resources operations roles
-  pub of-kinds : kinds ≡ recordOf F .kinds
-  pub of-distinct : distinct ≡ distinctIn F
-  pub of-having : having ≡ havingIn F
-  pub of-inside : inside ≡ insideIn F
 
 pub tabled : (F : Policy) (known values kinds attributes holders permissions : List ℕ) (users resources operations roles : ℕ) → Stored F known values kinds attributes holders permissions users resources operations roles
     → (links matched places distinct having inside : List ℕ) → links ≡ linkTable known values kinds resources → matched ≡ matchTable kinds known values holders users resources roles → places ≡ knownPlaces users resources known

@@ -1,3 +1,4 @@
 pub mod Mined
+pub mod Stages
 pub mod MineLaws
 pub mod AssemblyLaws

@@ -7,13 +7,14 @@ use lib.ListN.{length, drop, take}
 use mathlib.Core.Bool.{Bool, true, false}
 use mathlib.Core.List.{List, _++_}
 use mathlib.Core.Path.{_≡_, refl, sym, ap, _∙_, subst}
-use Rattle.files.specs.Answer.{Refusal, numberOf, Answer, unless, andThen, smallScratch, shortOutput, refused, accepted}
+use Rattle.files.specs.Answer.{Refusal, numberOf, Answer, told, unless, andThen, smallScratch, shortOutput, refused, accepted}
 use Rattle.files.specs.BytesLaws.{Bytes}
 use Rattle.files.specs.CallLaws.{third-demand}
-use Rattle.files.specs.Calls.{Counts, minedBytes, minedCounts, mayMine, mineAnswer, mineOutput}
+use Rattle.files.specs.Calls.{Counts, countValues, minedBytes, minedCounts, mayMine, mineAnswer, mineOutput}
 use Rattle.files.specs.Demand3.{Demand3}
 use Rattle.files.specs.RoleFile.{readRoles}
-use Rattle.mining.specs.Mined.{minedOf}
+use Rattle.mining.specs.Mined.{minedNumbers}
+use Rattle.mining.specs.Stages.{Outcome}
 use Rattle.policy.specs.Policy.{Policy, settingOf, rolesIn}
 use Rattle.rolefile.specs.Reading.{refusal, loadedOf}
 use Rattle.mining.specs.declared.Mined.{Mined}
@@ -21,10 +22,6 @@ use Rattle.mining.specs.declared.Mined.the-variants.{Refused, Written}
 use Rattle.rolefile.specs.declared.Loaded.{Loaded}
 
 module _ (file : List ℕ) (scratch : ℕ) (former : List ℕ) where
-  -- the answer and the output
-  abbrev pub Outcome : Mined → List ℕ → Type 0
-  Outcome r out = (r ≡ minedOf (mineAnswer 2 file scratch (length former))) × (out ≡ mineOutput 2 file scratch former)
-
   -- a refusal
   abbrev outputBy : Answer Policy → List ℕ
   outputBy a = elim a [ refused e ↦ former | accepted F ↦ minedBytes 2 F ++ drop (length (minedBytes 2 F)) former ]
@@ -33,8 +30,8 @@ module _ (file : List ℕ) (scratch : ℕ) (former : List ℕ) where
   unfolding mineOutput
   output-by a h = ap outputBy h
 
-  refuses : (e : Refusal) → mayMine 2 file scratch (length former) ≡ refused e → Outcome (Refused (numberOf e)) former
-  unfolding mineAnswer minedOf
+  refuses : (e : Refusal) → mayMine 2 file scratch (length former) ≡ refused e → Outcome file scratch former (Refused (numberOf e)) former
+  unfolding mineAnswer
   refuses e h = (rw h refl, sym (output-by (refused e) h))
 
   may-small : scratch < 4096 → mayMine 2 file scratch (length former) ≡ refused smallScratch
@@ -42,7 +39,7 @@ module _ (file : List ℕ) (scratch : ℕ) (former : List ℕ) where
   may-small h = ap (λ (b : Bool). unless b smallScratch (andThen (readRoles 2 file) (λ F. unless (leb (length (minedBytes 2 F)) (length former)) shortOutput (accepted F)))) (lt-leb 4096 scratch h)
 
   -- 8
-  pub small : scratch < 4096 → Outcome (Refused 8) former
+  pub small : scratch < 4096 → Outcome file scratch former (Refused 8) former
   small h = refuses smallScratch (may-small h)
 
   module _ (h : 4096 ≤ scratch) where
@@ -51,12 +48,12 @@ module _ (file : List ℕ) (scratch : ℕ) (former : List ℕ) where
     may-read a e = rw (le-leb 4096 scratch h) (ap (λ (r : Answer Policy). andThen r (λ F. unless (leb (length (minedBytes 2 F)) (length former)) shortOutput (accepted F))) e)
 
     -- 1 to 7
-    pub unread : (l : Loaded) → l ≡ loadedOf (readRoles 2 file) → (l .code ≡ 0 → ⊥) → Outcome (Refused (l .code)) former
+    pub unread : (l : Loaded) → l ≡ loadedOf (readRoles 2 file) → (l .code ≡ 0 → ⊥) → Outcome file scratch former (Refused (l .code)) former
     unfolding loadedOf refusal
     unread l e n = go (readRoles 2 file) refl e
       where
-        go : (a : Answer Policy) → readRoles 2 file ≡ a → l ≡ loadedOf a → Outcome (Refused (l .code)) former
-        go (refused d) q p = subst (λ (k : ℕ). Outcome (Refused k) former) (ap (λ (m : Loaded). m .code) (sym p)) (refuses d (may-read (refused d) q))
+        go : (a : Answer Policy) → readRoles 2 file ≡ a → l ≡ loadedOf a → Outcome file scratch former (Refused (l .code)) former
+        go (refused d) q p = subst (λ (k : ℕ). Outcome file scratch former (Refused k) former) (ap (λ (m : Loaded). m .code) (sym p)) (refuses d (may-read (refused d) q))
         go (accepted F) q p = absurd (n (ap (λ (m : Loaded). m .code) p))
 
     module _ (F : Policy) (q : readRoles 2 file ≡ accepted F) where
@@ -64,13 +61,13 @@ module _ (file : List ℕ) (scratch : ℕ) (former : List ℕ) where
       may-room b e = may-read (accepted F) q ∙ ap (λ (x : Bool). unless x shortOutput (accepted F)) e
 
       -- 9
-      pub short : length former < length (minedBytes 2 F) → Outcome (Refused 9) former
+      pub short : length former < length (minedBytes 2 F) → Outcome file scratch former (Refused 9) former
       short l = refuses shortOutput (may-room false (lt-leb (length (minedBytes 2 F)) (length former) l))
 
       -- the file is written
       pub written : length (minedBytes 2 F) ≤ length former → (out : List ℕ) → out ≡ minedBytes 2 F ++ drop (length (minedBytes 2 F)) former
-          → Outcome (Written (minedCounts 2 F .size) (minedCounts 2 F .parts) (minedCounts 2 F .rules) (minedCounts 2 F .merges) (minedCounts 2 F .cost)) out
-      unfolding mineAnswer minedOf
+          → Outcome file scratch former (Written (minedCounts 2 F .size) (minedCounts 2 F .parts) (minedCounts 2 F .rules) (minedCounts 2 F .merges) (minedCounts 2 F .cost)) out
+      unfolding mineAnswer
       written l out e =
           let m = may-room true (le-leb (length (minedBytes 2 F)) (length former) l) in
           (rw m refl, e ∙ sym (output-by (accepted F) m))
@@ -82,11 +79,7 @@ module _ (file : List ℕ) (scratch : ℕ) (former : List ℕ) where
       subst (λ (o : List ℕ). (F : Policy) × (readRoles 2 file ≡ accepted F) × Demand3 2 (settingOf F) (rolesIn F) (take (c .size) o) c) (sym e) (third-demand 2 file b scratch former c h)
 
   -- all three together
-  pub promised : Bytes file → (r : Mined) (out : List ℕ) → Outcome r out
-      → (r ≡ minedOf (mineAnswer 2 file scratch (length former))) × (out ≡ mineOutput 2 file scratch former)
+  pub promised : Bytes file → (r : Mined) (out : List ℕ) → Outcome file scratch former r out
+      → (minedNumbers r ≡ told countValues (mineAnswer 2 file scratch (length former))) × (out ≡ mineOutput 2 file scratch former)
       × ((c : Counts) → mineAnswer 2 file scratch (length former) ≡ accepted c → (F : Policy) × (readRoles 2 file ≡ accepted F) × Demand3 2 (settingOf F) (rolesIn F) (take (c .size) out) c)
   promised b r out o = (o .0, o .1, demanded b out (o .1))
-
--- the answer and the output, for every file that states a policy
-abbrev pub Result : Policy → List ℕ → Mined → List ℕ → Type 0
-Result F former r out = (file : List ℕ) (n : ℕ) → 4096 ≤ n → readRoles 2 file ≡ accepted F → Outcome file n former r out

@@ -3,15 +3,24 @@ ghost use Prim.Native.Nat.{ℕ, _≤_};
 ghost use lib.Dec.{ltb};
 ghost use lib.ListN.{length, getD, take};
 ghost use mathlib.Core.Path.{_≡_};
-ghost use Rattle.admit.specs.AdmitLaws.{Sized};
-ghost use Rattle.files.specs.Answer.{accepted};
-ghost use Rattle.files.specs.Calls.{Counts, mineAnswer, mineOutput};
+ghost use Rattle.loaded.specs.Record.{Sized};
+ghost use Rattle.files.specs.Answer.{told, accepted};
+ghost use Rattle.files.specs.Calls.{Counts, countValues, mineAnswer, mineOutput};
 ghost use Rattle.files.specs.Demand3.{Demand3};
 ghost use Rattle.files.specs.RoleFile.{readRoles};
 ghost use Rattle.policy.specs.Policy.{Policy, settingOf, rolesIn};
-ghost use Rattle.mining.specs.AssemblyLaws.{Stored, Tabled};
-ghost use Rattle.mining.specs.Mined.{minedOf};
-ghost use Rattle.mining.specs.MineLaws.{Outcome, Result};
+ghost use Rattle.mining.specs.Mined.{minedNumbers};
+ghost use Rattle.mining.specs.Stages.{Stored, Tabled, Outcome, Result};
+use loaded::ByAttribute;
+use loaded::ByPlace;
+use loaded::ByPlaceMember;
+use loaded::ByRole;
+use loaded::ByRoleOperation;
+use loaded::BySide;
+use loaded::CountBySide;
+use loaded::Links;
+use loaded::Values;
+use loaded::RoleFile;
 
 // A refusal's number; or the bytes of the rule file, the parts of the role file, the rules and merges made, and the rules' cost.
 pub enum Mined {
@@ -34,16 +43,16 @@ fn lacks_room(room: usize, bytes: usize) -> bool
 
 // Mining by the tables of a policy: its parts are merged, the rules measured, and written if there is room for them.
 fn mine_tables<'a>(
-    links: &'a [u64; 2304],
-    matched: &'a [u64; 896],
-    known: &'a [u64; 14],
-    attributes: &'a [usize; 2],
-    holders: &'a [u64; 32],
-    permissions: &'a [u64; 512],
-    kinds: &'a [u64; 2],
-    distinct: &'a [u64; 896],
-    having: &'a [u64; 896],
-    inside: &'a [u64; 896],
+    links: &'a Links,
+    matched: &'a ByPlaceMember,
+    known: &'a ByPlace,
+    attributes: &'a CountBySide,
+    holders: &'a ByRole,
+    permissions: &'a ByRoleOperation,
+    kinds: &'a BySide,
+    distinct: &'a ByPlaceMember,
+    having: &'a ByPlaceMember,
+    inside: &'a ByPlaceMember,
     users: usize,
     resources: usize,
     operations: usize,
@@ -67,7 +76,7 @@ fn mine_tables<'a>(
         operations,
         roles,
     );
-    let mut kept = [0u64; 512];
+    let mut kept = [0u64; RoleFile::PARTS];
     filewriter::kept_places(
         links,
         matched,
@@ -79,7 +88,7 @@ fn mine_tables<'a>(
         scratch,
         &mut kept,
     );
-    let mut grouped = [0u64; 512];
+    let mut grouped = [0u64; RoleFile::PARTS];
     rulelists::roles_of_groups(scratch, &mut grouped);
     let m = filewriter::measure(
         &kept,
@@ -118,12 +127,12 @@ fn mine_tables<'a>(
 
 // Mining by the record of a policy.
 fn mine_record<'a>(
-    known: &'a [u64; 12],
-    values: &'a [u64; 768],
-    kinds: &'a [u64; 2],
-    attributes: &'a [usize; 2],
-    holders: &'a [u64; 32],
-    permissions: &'a [u64; 512],
+    known: &'a ByAttribute,
+    values: &'a Values,
+    kinds: &'a BySide,
+    attributes: &'a CountBySide,
+    holders: &'a ByRole,
+    permissions: &'a ByRoleOperation,
     users: usize,
     resources: usize,
     operations: usize,
@@ -134,9 +143,9 @@ fn mine_record<'a>(
     requires { ⌜ (users ≤ 64) × (resources ≤ 64) × (operations ≤ 16) × (roles ≤ 32) × (getD (now attributes) 0 0 ≤ 6) × (getD (now attributes) 1 0 ≤ 6) × (length (now scratch) ≡ 2048) ⌝ }
     ensures { λ r. ⌜ ((F : Policy) → Sized F → Stored F (now (known .entry)) (now (values .entry)) (now (kinds .entry)) (now (attributes .entry)) (now (holders .entry)) (now (permissions .entry)) users resources operations roles → Result F (now (out .entry)) r (now (out .exit))) ⌝ }
 {
-    let mut found = [0u64; 896];
-    let mut having = [0u64; 896];
-    let mut inside = [0u64; 896];
+    let mut found = [0u64; RoleFile::PLACES * RoleFile::MEMBERS];
+    let mut having = [0u64; RoleFile::PLACES * RoleFile::MEMBERS];
+    let mut inside = [0u64; RoleFile::PLACES * RoleFile::MEMBERS];
     distinct::distinct_values(
         values,
         holders,
@@ -146,11 +155,11 @@ fn mine_record<'a>(
         &mut having,
         &mut inside,
     );
-    let mut places = [0u64; 14];
+    let mut places = [0u64; RoleFile::PLACES];
     matches::known_places(users, resources, known, &mut places);
-    let mut links = [0u64; 2304];
+    let mut links = [0u64; RoleFile::ATOMS * RoleFile::USERS];
     tables::links(known, kinds, resources, &found, &having, &mut links);
-    let mut matched = [0u64; 896];
+    let mut matched = [0u64; RoleFile::PLACES * RoleFile::MEMBERS];
     tables::matches(&places, kinds, &found, &having, &mut matched);
     mine_tables(
         &links,
@@ -200,7 +209,7 @@ fn mine_in(file: &[u8], scratch: &mut [u64], out: &mut [u8]) -> Mined
 
 // The answer, the output memory at the end, and the third demand about the bytes there. Scratch may hold anything before, and does after.
 pub fn mine(file: &[u8], scratch: &mut [u64], out: &mut [u8]) -> Mined
-    ensures { λ r. ⌜ (r ≡ minedOf (mineAnswer 2 (now (file .entry)) (length (now (scratch .entry))) (length (now (out .entry))))) × (now (out .exit) ≡ mineOutput 2 (now (file .entry)) (length (now (scratch .entry))) (now (out .entry))) × ((c : Counts) → mineAnswer 2 (now (file .entry)) (length (now (scratch .entry))) (length (now (out .entry))) ≡ accepted c → (F : Policy) × (readRoles 2 (now (file .entry)) ≡ accepted F) × Demand3 2 (settingOf F) (rolesIn F) (take (c .size) (now (out .exit))) c) ⌝ }
+    ensures { λ r. ⌜ (minedNumbers r ≡ told countValues (mineAnswer 2 (now (file .entry)) (length (now (scratch .entry))) (length (now (out .entry))))) × (now (out .exit) ≡ mineOutput 2 (now (file .entry)) (length (now (scratch .entry))) (now (out .entry))) × ((c : Counts) → mineAnswer 2 (now (file .entry)) (length (now (scratch .entry))) (length (now (out .entry))) ≡ accepted c → (F : Policy) × (readRoles 2 (now (file .entry)) ≡ accepted F) × Demand3 2 (settingOf F) (rolesIn F) (take (c .size) (now (out .exit))) c) ⌝ }
 {
     if scratch.len() < 4096 {
         return Mined::Refused(8);

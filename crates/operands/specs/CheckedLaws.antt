@@ -9,19 +9,18 @@ use mathlib.Core.List.{List}
 use mathlib.Core.Option.{some}
 use mathlib.Core.Path.{_≡_, refl, sym, ap, _∙_}
 use native.Mathlib.Omega.{arith}
-use Rattle.admit.specs.AdmitLaws.{Sized}
+use Rattle.loaded.specs.Record.{Sized, attributeTable, kindTable}
 use Rattle.files.specs.RuleFile.{legal, link}
-use Rattle.loaded.specs.Record.{attributeTable, kindTable}
 use Rattle.operands.specs.Checked.{legalIf, valueCommand, atomOf, formOfAtom, checkedValue, checkedOperations, checkedLink, checkedPart, checkedOf, checkedBeside}
 use Rattle.operands.specs.OperandLaws.{kind-shown, value-means, link-means}
 use Rattle.operands.specs.Operands.{linkLegal}
 use Rattle.operands.specs.PartLegalLaws.{part-means}
 use Rattle.policy.specs.Policy.{Policy, isSetAt, sideOf, settingOf, rolesIn}
 use Rattle.policy.specs.Rules.{formOf, atomForm, user, resource}
-use Rattle.rulecommands.specs.Raw.{commandOf, linkMeaning, ruleMeaning}
-use Rattle.rulecommands.specs.RawLaws.{Shape, shape-opens, shape-user-single, shape-user-set, shape-resource-single, shape-resource-set, shape-operations, shape-link, shape-part, shape-ends}
+use Rattle.rulecommands.specs.Raw.{commandOf, linkMeaning, ruleMeaning, Shape, shape-opens, shape-user-single, shape-user-set, shape-resource-single, shape-resource-set, shape-operations, shape-link, shape-part, shape-ends}
 use Rattle.sets.specs.Sets.{bit}
-use Rattle.sets.specs.Tests.{Is, and-l, and-r, isSome}
+use Rattle.sets.specs.Tests.{Is, isSome}
+use Rattle.sets.specs.TestLaws.{and-l, and-r}
 use Rattle.operands.specs.declared.Checked.the-variants.{Legal, Illegal}
 use Rattle.rulecommands.specs.declared.Atom.{Atom}
 use Rattle.rulecommands.specs.declared.Atom.the-variants.{SetContainsSet, SetContainsSingle, SingleEqualsSingle}

@@ -8,15 +8,17 @@ use mathlib.Core.Bool.{Bool, true, false, cond, _&&_, not}
 use mathlib.Core.List.{List}
 use mathlib.Core.Path.{_≡_, refl, sym, ap, _∙_}
 use native.Mathlib.Omega.{arith}
-use Rattle.admit.specs.AdmitLaws.{Sized, side-attributes, side-kinds}
+use Rattle.admit.specs.AdmitLaws.{side-attributes, side-kinds}
+use Rattle.loaded.specs.Record.{Sized, attributeTable, kindTable}
 use Rattle.files.specs.RoleFile.{sideBy}
 use Rattle.files.specs.RuleFile.{ownValue, legal, value, link}
-use Rattle.loaded.specs.Record.{attributeTable, kindTable}
 use Rattle.operands.specs.Operands.{ownLegal, valueLegal, linkLegal}
 use Rattle.policy.specs.Policy.{Policy, kindOf, isSetAt, sideOf, settingOf, rolesIn}
 use Rattle.policy.specs.Rules.{own, Which, formOf, user, resource}
-use Rattle.sets.specs.Sets.{bit, bit-mask}
-use Rattle.sets.specs.Tests.{test, isSome}
+use Rattle.sets.specs.Sets.{bit}
+use Rattle.sets.specs.SetLaws.{bit-mask}
+use Rattle.sets.specs.Tests.{isSome}
+use Rattle.sets.specs.TestLaws.{test}
 
 if-both : (a b : Bool) → cond a b false ≡ (a && b)
 if-both true b = refl

@@ -8,10 +8,9 @@ use mathlib.Core.Bool.{Bool, true, false, cond, _&&_, false≢true}
 use mathlib.Core.Logic.{_⊎_}
 use mathlib.Core.Path.{_≡_, refl, sym, ap, ap₂, _∙_, subst}
 use native.Mathlib.Omega.{arith}
-use Rattle.admit.specs.AdmitLaws.{Sized}
+use Rattle.loaded.specs.Record.{Sized, permissionTable, recordOf}
 use Rattle.admit.specs.TableLaws.{eqb-turned, permittedOn, row-shown, holders-shown, holder-within, rows-alike}
 use Rattle.files.specs.RuleFile.{legal, part}
-use Rattle.loaded.specs.Record.{permissionTable, recordOf}
 use Rattle.operands.specs.Operands.{classRow, partLegal}
 use Rattle.policy.specs.ClassLaws.{PartFacts, part-facts}
 use Rattle.policy.specs.PartLaws.{alike-out, alike-in, parts-in}
@@ -19,10 +18,13 @@ use Rattle.policy.specs.Policy.{Policy, held, sideOf, settingOf, rolesIn}
 use Rattle.policy.specs.Roles.{Part, alike, parts, classOf}
 use Rattle.policy.specs.Rules.{user, resource}
 use Rattle.policy.specs.WrittenLaws.{mask-some}
-use Rattle.sets.specs.Lowest.{lowestFrom, lowestFrom-misses, lowestFrom-some}
+use Rattle.sets.specs.Lowest.{lowestFrom}
+use Rattle.sets.specs.LowestLaws.{lowestFrom-misses, lowestFrom-some}
 use Rattle.sets.specs.MaskLaws.{mask-same, mask-none, least-most}
-use Rattle.sets.specs.Sets.{bit, maskOf, bit-mask}
-use Rattle.sets.specs.Tests.{Is, and-in, and-l, and-r, never, test, fails, same, _∈_, any, any-in, any-out, upTo, upTo-in, upTo-out}
+use Rattle.sets.specs.Sets.{bit, maskOf}
+use Rattle.sets.specs.SetLaws.{bit-mask}
+use Rattle.sets.specs.Tests.{Is, _isIn_, any, upTo}
+use Rattle.sets.specs.TestLaws.{and-in, and-l, and-r, never, test, fails, same, any-in, any-out, upTo-in, upTo-out}
 
 -- a set that is not empty has a member
 some-bit : (n : ℕ) (f : ℕ → Bool) → (maskOf n f ≡ 0 → ⊥) → (i : ℕ) × (i < n) × Is (f i)
@@ -43,7 +45,7 @@ module _ (F : Policy) (Z : Sized F) where
   unfolding classOf settingOf permittedOn rolesIn sideOf
   names-by k m low misses h = go (ltb k (F .roles)) refl (eqb (getD (recordOf F .holders) k 0) 0) refl (ltb low (F .operations)) refl (eqb (getD (permissionTable F) (16 * k + low) 0) 0) refl h
     where
-      part-there : k < F .roles → (getD (recordOf F .holders) k 0 ≡ 0 → ⊥) → low < F .operations → (getD (permissionTable F) (16 * k + low) 0 ≡ 0 → ⊥) → classRow (permissionTable F) k (F .operations) low ≡ m → record { role = k; lead = low } ∈ parts (settingOf F) (rolesIn F)
+      part-there : k < F .roles → (getD (recordOf F .holders) k 0 ≡ 0 → ⊥) → low < F .operations → (getD (permissionTable F) (16 * k + low) 0 ≡ 0 → ⊥) → classRow (permissionTable F) k (F .operations) low ≡ m → record { role = k; lead = low } isIn parts (settingOf F) (rolesIn F)
       part-there lk hh lo hp e =
           let n = Z .few in
           let j = Z .operable in
@@ -109,7 +111,7 @@ module _ (F : Policy) (Z : Sized F) where
       let t = any-out (λ p. eqb k (p .role) && eqb m (classOf (settingOf F) (rolesIn F) p)) (parts (settingOf F) (rolesIn F)) h in
       named (t .0) (t .1) (eqb-true k (t .0 .role) (and-l (eqb k (t .0 .role)) _ (t .2))) (eqb-true m (classOf (settingOf F) (rolesIn F) (t .0)) (and-r (eqb k (t .0 .role)) _ (t .2)))
     where
-      named : (p : Part) → p ∈ parts (settingOf F) (rolesIn F) → k ≡ p .role → m ≡ classOf (settingOf F) (rolesIn F) p → Is (partLegal k m (F .roles) (F .operations) (recordOf F .holders) (permissionTable F))
+      named : (p : Part) → p isIn parts (settingOf F) (rolesIn F) → k ≡ p .role → m ≡ classOf (settingOf F) (rolesIn F) p → Is (partLegal k m (F .roles) (F .operations) (recordOf F .holders) (permissionTable F))
       named p i ek em =
           let t = part-facts (settingOf F) (rolesIn F) i in
           rw (ek) (line-by (p .role) (p .lead) m (lowestFrom (bit m) 0 64) (lowest-is p t em) (t .in-roles) (t .in-slots) (t .someone) (t .something) em)

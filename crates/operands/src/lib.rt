@@ -11,6 +11,10 @@ ghost use Rattle.operands.specs.Checked.{valueCommand, atomOf, checkedVa
 use loaded::RoleFile;
 use rulecommands::Atom;
 use rulecommands::RuleCommand;
+use loaded::ByRole;
+use loaded::ByRoleOperation;
+use loaded::BySide;
+use loaded::CountBySide;
 
 // A command whose operands are legal, or word that they are not.
 pub enum Checked {
@@ -57,8 +61,8 @@ pub fn value_legal<'a>(
     v: u64,
     roles: usize,
     resources: usize,
-    attributes: &'a [usize; 2],
-    kinds: &'a [u64; 2],
+    attributes: &'a CountBySide,
+    kinds: &'a BySide,
 ) -> bool
     requires { ⌜ (side < 2) × (roles ≤ 32) ⌝ }
     ensures { λ r. ⌜ r ≡ valueLegal side set attribute v roles resources (now (attributes .entry)) (now (kinds .entry)) ⌝ }
@@ -85,7 +89,7 @@ pub fn operations_legal(m: u64, operations: usize) -> bool
 }
 
 // Command 27: declared attributes that one of the three forms joins.
-pub fn link_legal<'a>(a: u64, b: u64, attributes: &'a [usize; 2], kinds: &'a [u64; 2]) -> bool
+pub fn link_legal<'a>(a: u64, b: u64, attributes: &'a CountBySide, kinds: &'a BySide) -> bool
     ensures { λ r. ⌜ r ≡ linkLegal a b (now (attributes .entry)) (now (kinds .entry)) ⌝ }
 {
     if attributes[0] as u64 <= a {
@@ -101,14 +105,14 @@ pub fn link_legal<'a>(a: u64, b: u64, attributes: &'a [usize; 2], kinds: &'a [u6
 }
 
 // The operations of a role that have the same resources as operation o.
-fn class_row(permissions: &[u64; 512], role: usize, operations: usize, o: usize) -> u64
+fn class_row(permissions: &ByRoleOperation, role: usize, operations: usize, o: usize) -> u64
     requires { ⌜ (role < 32) × (operations ≤ 16) × (o < 16) ⌝ }
     ensures { λ r. ⌜ r ≡ classRow (now (permissions .entry)) role operations o ⌝ }
 {
-    let row = permissions[16 * role + o];
+    let row = permissions[RoleFile::OPERATIONS * role + o];
     let mut m: u64 = 0;
     for q in 0..operations {
-        if permissions[16 * role + q] == row {
+        if permissions[RoleFile::OPERATIONS * role + q] == row {
             m = sets::with(m, q);
         }
     }
@@ -121,8 +125,8 @@ pub fn part_legal<'a>(
     m: u64,
     roles: usize,
     operations: usize,
-    holders: &'a [u64; 32],
-    permissions: &'a [u64; 512],
+    holders: &'a ByRole,
+    permissions: &'a ByRoleOperation,
 ) -> bool
     requires { ⌜ (roles ≤ 32) × (operations ≤ 16) ⌝ }
     ensures { λ r. ⌜ r ≡ partLegal role m roles operations (now (holders .entry)) (now (permissions .entry)) ⌝ }
@@ -138,7 +142,7 @@ pub fn part_legal<'a>(
     if operations <= o {
         return false;
     }
-    if permissions[16 * k + o] == 0 {
+    if permissions[RoleFile::OPERATIONS * k + o] == 0 {
         return false;
     }
     class_row(permissions, k, operations, o) == m
@@ -180,8 +184,8 @@ fn check_value<'a>(
     y: u64,
     roles: usize,
     resources: usize,
-    attributes: &'a [usize; 2],
-    kinds: &'a [u64; 2],
+    attributes: &'a CountBySide,
+    kinds: &'a BySide,
 ) -> Checked
     requires { ⌜ (side < 2) × (roles ≤ 32) ⌝ }
     ensures { λ r. ⌜ r ≡ checkedValue side set x y roles resources (now (attributes .entry)) (now (kinds .entry)) ⌝ }
@@ -204,7 +208,7 @@ fn check_operations(x: u64, operations: usize) -> Checked
 }
 
 // The atom of two attributes of a legal line: its form follows from their kinds.
-fn atom_of(a: usize, b: usize, kinds: &[u64; 2]) -> Atom
+fn atom_of(a: usize, b: usize, kinds: &BySide) -> Atom
     ensures { λ r. ⌜ r ≡ atomOf a b (now (kinds .entry)) ⌝ }
 {
     if sets::has(kinds[0], a) {
@@ -217,7 +221,7 @@ fn atom_of(a: usize, b: usize, kinds: &[u64; 2]) -> Atom
 }
 
 // Command 27.
-fn check_link<'a>(x: u64, y: u64, attributes: &'a [usize; 2], kinds: &'a [u64; 2]) -> Checked
+fn check_link<'a>(x: u64, y: u64, attributes: &'a CountBySide, kinds: &'a BySide) -> Checked
     ensures { λ r. ⌜ r ≡ checkedLink x y (now (attributes .entry)) (now (kinds .entry)) ⌝ }
 {
     if link_legal(x, y, attributes, kinds) {
@@ -232,8 +236,8 @@ fn check_part<'a>(
     y: u64,
     roles: usize,
     operations: usize,
-    holders: &'a [u64; 32],
-    permissions: &'a [u64; 512],
+    holders: &'a ByRole,
+    permissions: &'a ByRoleOperation,
 ) -> Checked
     requires { ⌜ (roles ≤ 32) × (operations ≤ 16) ⌝ }
     ensures { λ r. ⌜ r ≡ checkedPart x y roles operations (now (holders .entry)) (now (permissions .entry)) ⌝ }
@@ -255,10 +259,10 @@ pub fn check<'a>(
     resources: usize,
     operations: usize,
     roles: usize,
-    attributes: &'a [usize; 2],
-    kinds: &'a [u64; 2],
-    holders: &'a [u64; 32],
-    permissions: &'a [u64; 512],
+    attributes: &'a CountBySide,
+    kinds: &'a BySide,
+    holders: &'a ByRole,
+    permissions: &'a ByRoleOperation,
 ) -> Checked
     requires { ⌜ (roles ≤ 32) × (operations ≤ 16) ⌝ }
     ensures { λ r. ⌜ r ≡ checkedOf b x y resources operations roles (now (attributes .entry)) (now (kinds .entry)) (now (holders .entry)) (now (permissions .entry)) ⌝ }

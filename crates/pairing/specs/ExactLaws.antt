@@ -17,8 +17,10 @@ use Rattle.grants.specs.GridLaws.{triples-same, same-means}
 use Rattle.policy.specs.RuleLaws.{same-in, same-out}
 use Rattle.policy.specs.Rules.{Setting, by, sameBlock, user, resource}
 use Rattle.sets.specs.MaskLaws.{bit-out, mask-lt}
-use Rattle.sets.specs.Sets.{bit, subset, bit-none, subset-out, subset-self, maskOf, bit-mask}
-use Rattle.sets.specs.Tests.{Is, and-in, and-l, and-r, or-l, or-r, or-out, never, test, fails, same, imp, imp-in, imp-out, all, all-in, all-out, upTo, upTo-out, not-in, not-out}
+use Rattle.sets.specs.Sets.{bit, subset, maskOf}
+use Rattle.sets.specs.SetLaws.{bit-none, subset-out, subset-self, bit-mask}
+use Rattle.sets.specs.Tests.{Is, imp, all, upTo}
+use Rattle.sets.specs.TestLaws.{and-in, and-l, and-r, or-l, or-r, or-out, never, test, fails, same, imp-in, imp-out, all-in, all-out, upTo-out, not-in, not-out}
 use Rattle.words.specs.Words.{Words, joined}
 use Rattle.pairing.specs.FitLaws.{row-bit}
 use Rattle.pairing.specs.JoinLaws.{some-member, less-out, free-in, free-out}

@@ -8,30 +8,25 @@ use mathlib.Core.Bool.{Bool, true, false, _&&_, _||_}
 use mathlib.Core.List.{List}
 use mathlib.Core.Path.{_≡_, refl, sym, ap, ap₂, _∙_}
 use native.Mathlib.Omega.{arith}
-use Rattle.admit.specs.AdmitLaws.{Sized}
 use Rattle.conjuncts.specs.Summary.{linkedWith}
 use Rattle.files.specs.Calls.{first}
 use Rattle.grants.specs.Grid.{differAt, differenceOf, isSame}
 use Rattle.grants.specs.GridLaws.{triples-same, same-means}
 use Rattle.grants.specs.LinkLaws.{link-means}
-use Rattle.grants.specs.Links.{linkTable}
-use Rattle.loaded.specs.Record.{recordOf}
+use Rattle.grants.specs.Links.{linksOf}
+use Rattle.loaded.specs.Record.{Sized}
+use Rattle.pairing.specs.Pairing.{tableSpans, covering, covered, grouped, firstBeyond}
 use Rattle.policy.specs.Covering.{opIn, standsIn}
 use Rattle.policy.specs.Policy.{Policy, sideOf, settingOf}
 use Rattle.policy.specs.Rules.{Setting, Which, Block, attrsOf, ownAt, Triple, user, resource}
 use Rattle.rulegrants.specs.RuleGrid.{rowOf}
-use Rattle.sets.specs.LoopLaws.{narrowing}
 use Rattle.sets.specs.MaskLaws.{bit-maskOf, mask-lt, mask-same, mask-bits, mask-wide}
-use Rattle.sets.specs.Sets.{bit, bit-none, maskOf, bit-mask}
-use Rattle.sets.specs.Tests.{Is, and-l, and-r, test, imp, all, upTo}
+use Rattle.sets.specs.SetLaws.{bit-none, bit-mask}
+use Rattle.sets.specs.Sets.{narrowing, bit, maskOf}
+use Rattle.sets.specs.TestLaws.{and-l, and-r, test}
+use Rattle.sets.specs.Tests.{Is, imp, all, upTo}
 use Rattle.words.specs.WordLaws.{all-ext, same-tests}
 use Rattle.words.specs.Words.{Words, membersOf, Roomy, passes, joined, together, atomIn, wordsOf, atomsHold, coverGrants, spans, pairFits, ownFits}
-use Rattle.pairing.specs.Pairing.{tableSpans, covering, covered, grouped, firstBeyond}
-
--- a policy's table of links, from its record
-abbrev pub linksOf : Policy → List ℕ
-linksOf F = linkTable (recordOf F .known) (recordOf F .values) (recordOf F .kinds) (recordOf F .resources)
-
 -- every atom of a word is over declared attributes
 abbrev pub Declared : Setting → ℕ → Type 0
 Declared P m = (i : ℕ) → Is (bit m i) → (i < 36) × (i / 6 < P .side user .attrs) × (i % 6 < P .side resource .attrs)

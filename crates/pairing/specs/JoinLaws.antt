@@ -10,7 +10,7 @@ use mathlib.Core.List.{List}
 use mathlib.Core.Logic.{_⊎_, inl, inr}
 use mathlib.Core.Path.{_≡_, refl, sym, ap, _∙_, subst}
 use native.Mathlib.Omega.{arith}
-use Rattle.admit.specs.AdmitLaws.{Sized}
+use Rattle.loaded.specs.Record.{Sized}
 use Rattle.conjuncts.specs.Summary.{linkedWith}
 use Rattle.policy.specs.CoverLaws.{pair-out, stands-out, op-in}
 use Rattle.policy.specs.Covering.{allKnow, opIn, pairIn, standsIn, fits}
@@ -20,13 +20,15 @@ use Rattle.policy.specs.RuleLaws.{Lawful, same-out}
 use Rattle.policy.specs.Rules.{Side, Setting, Block, both, attrsOf, ownAt, Triple, Some, user, resource}
 use Rattle.policy.specs.SideLaws.{Ordered}
 use Rattle.rulegrants.specs.RuleGrid.{rowOf}
-use Rattle.sets.specs.LoopLaws.{narrowing}
+use Rattle.sets.specs.Sets.{narrowing, bit, maskOf, subset}
 use Rattle.sets.specs.MaskLaws.{bit-maskOf, mask-lt, mask-same, empty-law}
-use Rattle.sets.specs.Sets.{bit, bit-none, maskOf, bit-mask, subset, subset-in}
-use Rattle.sets.specs.Tests.{Is, and-in, and-l, and-r, or-l, or-r, or-out, never, test, imp, imp-in, all, all-in, all-out, any, any-in, any-out, keep-in, upTo, upTo-in, upTo-out, isSome, isSome-out, not-in, not-out}
+use Rattle.sets.specs.SetLaws.{bit-none, bit-mask, subset-in}
+use Rattle.sets.specs.Tests.{Is, imp, all, any, upTo, isSome}
+use Rattle.sets.specs.TestLaws.{and-in, and-l, and-r, or-l, or-r, or-out, never, test, imp-in, all-in, all-out, any-in, any-out, keep-in, upTo-in, upTo-out, isSome-out, not-in, not-out}
 use Rattle.words.specs.WordLaws.{all-ext, same-tests, spans-own, fits-words}
 use Rattle.words.specs.Words.{Words, Roomy, metBy, passes, joined, together, wordsOf, atomsHold, coverGrants, spans, pairFits}
-use Rattle.pairing.specs.FitLaws.{linksOf, Declared, declared-joined, row-bit, roomy, atoms-linked, words-same, words-declared}
+use Rattle.pairing.specs.FitLaws.{Declared, declared-joined, row-bit, roomy, atoms-linked, words-same, words-declared}
+use Rattle.grants.specs.Links.{linksOf}
 use Rattle.pairing.specs.Pairing.{less, cornerFree, reaches, cornersFree, mayJoin}
 
 -- a set that is not empty has a member

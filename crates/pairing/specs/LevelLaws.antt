@@ -9,24 +9,26 @@ use mathlib.Core.List.{List, _++_}
 use mathlib.Core.Path.{_≡_, refl, sym, ap, ap₂, _∙_, subst, fun-ext}
 use native.Mathlib.Numerals.{add-one}
 use native.Mathlib.Omega.{arith}
-use Rattle.admit.specs.AdmitLaws.{Sized}
+use Rattle.loaded.specs.Record.{Sized, attributeTable, recordWith, recordOf}
 use Rattle.grants.specs.Grid.{differenceOf, isSame}
-use Rattle.loaded.specs.Record.{attributeTable, recordWith, recordOf}
-use Rattle.matches.specs.MatchLaws.{knownIn, matchesIn, passing-means}
-use Rattle.matches.specs.Matches.{metOf, both, Met, passingOf}
+use Rattle.matches.specs.MatchLaws.{passing-means}
+use Rattle.matches.specs.Matches.{knownIn, matchesIn, metOf, both, Met, passingOf}
 use Rattle.policy.specs.Covering.{standsIn, fits, levelOf}
 use Rattle.policy.specs.Merging.{union, mergeable}
 use Rattle.policy.specs.Policy.{Policy, sideOf, settingOf}
 use Rattle.policy.specs.PolicyLaws.{lawful}
 use Rattle.policy.specs.Rules.{Which, by, Block, attrsOf, ownAt, Some, user, resource}
 use Rattle.sets.specs.LoopLaws.{any-found}
-use Rattle.sets.specs.Lowest.{lowest, lowest-most, lowest-least, lowest-some}
+use Rattle.sets.specs.Lowest.{lowest}
+use Rattle.sets.specs.LowestLaws.{lowest-most, lowest-least, lowest-some}
 use Rattle.sets.specs.MaskLaws.{and-true, bit-maskOf, mask-lt, mask-same, mask-wide}
 use Rattle.sets.specs.Sets.{bit, subset, maskOf}
-use Rattle.sets.specs.Tests.{Is, fails, never, test, imp, all, any, any-in, any-out, upTo, upTo-in}
+use Rattle.sets.specs.Tests.{Is, imp, all, any, upTo}
+use Rattle.sets.specs.TestLaws.{fails, never, test, any-in, any-out, upTo-in}
 use Rattle.words.specs.WordLaws.{words-joined, union-joined, fits-words, own-words}
 use Rattle.words.specs.Words.{Words, passes, joined, together, wordsOf, pairFits}
-use Rattle.pairing.specs.FitLaws.{linksOf, Declared, roomy, beyond-means, Bounded, joined-self, own-fits, words-bounded, words-declared}
+use Rattle.pairing.specs.FitLaws.{Declared, roomy, beyond-means, Bounded, joined-self, own-fits, words-bounded, words-declared}
+use Rattle.grants.specs.Links.{linksOf}
 use Rattle.pairing.specs.JoinLaws.{blocks-join}
 use Rattle.pairing.specs.Levels.{levelWithin, withOwn, tablesFit, pairLevel, groupLevel}
 use Rattle.pairing.specs.Pairing.{firstBeyond, grantsJust, mayJoin}

@@ -11,10 +11,11 @@ use native.Mathlib.Omega.{arith}
 use Rattle.conjuncts.specs.Summary.{linkedWith}
 use Rattle.matches.specs.Matches.{lessOne}
 use Rattle.matches.specs.MemberLaws.{bit-less}
-use Rattle.sets.specs.LoopLaws.{narrowing}
+use Rattle.sets.specs.Sets.{narrowing, bit, maskOf}
 use Rattle.sets.specs.MaskLaws.{and-true, bit-maskOf, mask-unique, mask-same, mask-none, mask-wide}
-use Rattle.sets.specs.Sets.{bit, bit-none, maskOf, bit-mask}
-use Rattle.sets.specs.Tests.{Is, and-in, and-l, and-r, never, test, same, imp, imp-in, imp-out, all, all-out, all-in, upTo, upTo-in, upTo-out, not-in}
+use Rattle.sets.specs.SetLaws.{bit-none, bit-mask}
+use Rattle.sets.specs.Tests.{Is, imp, all, upTo}
+use Rattle.sets.specs.TestLaws.{and-in, and-l, and-r, never, test, same, imp-in, imp-out, all-out, all-in, upTo-in, upTo-out, not-in}
 
 -- the atoms of a word, `meet(m, below(36))`
 pub atoms-cut : (m b s : ℕ) → b ≡ maskOf 64 (λ k. ltb k 36) → s ≡ maskOf 64 (λ k. bit m k && bit b k) → s ≡ maskOf 36 (bit m)

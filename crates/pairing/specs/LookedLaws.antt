@@ -7,8 +7,10 @@ use mathlib.Core.Path.{_≡_, refl, sym, ap, ap₂, _∙_}
 use native.Mathlib.Omega.{arith}
 use Rattle.conjuncts.specs.Summary.{linkedWith}
 use Rattle.rulegrants.specs.RuleGrid.{rowOf}
-use Rattle.sets.specs.Sets.{bit, subset, bit-none, subset-out, maskOf, bit-mask}
-use Rattle.sets.specs.Tests.{Is, never, test}
+use Rattle.sets.specs.Sets.{bit, subset, maskOf}
+use Rattle.sets.specs.SetLaws.{bit-none, subset-out, bit-mask}
+use Rattle.sets.specs.Tests.{Is}
+use Rattle.sets.specs.TestLaws.{never, test}
 use Rattle.words.specs.Words.{Words, joined}
 use Rattle.pairing.specs.ExactLaws.{Keeps, user-exactly}
 use Rattle.pairing.specs.Pairing.{tableSpans, covering, OthersSame, mayJoin, changedUsers}

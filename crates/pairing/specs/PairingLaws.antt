@@ -15,8 +15,10 @@ use Rattle.grants.specs.GridLaws.{UsersPassed, ResourcesPassed, OperationsPasse
 use Rattle.grants.specs.declared.Difference.the-variants.{Same, At}
 use Rattle.rulegrants.specs.RuleGrid.{rowOf}
 use Rattle.sets.specs.MaskLaws.{or-false}
-use Rattle.sets.specs.Sets.{bit, bit-none, maskOf, bit-mask}
-use Rattle.sets.specs.Tests.{Is, and-in, and-l, and-r, or-out, never, iff, iff-in, _∈_, each, each-out, map-out, upTo, upTo-out, not-in}
+use Rattle.sets.specs.Sets.{bit, maskOf}
+use Rattle.sets.specs.SetLaws.{bit-none, bit-mask}
+use Rattle.sets.specs.Tests.{Is, iff, _isIn_, each, upTo}
+use Rattle.sets.specs.TestLaws.{and-in, and-l, and-r, or-out, never, iff-in, each-out, map-out, upTo-out, not-in}
 use Rattle.words.specs.Words.{Words, joined}
 use Rattle.pairing.specs.Pairing.{tableSpans, covering, covered, grouped, firstBeyond, OthersSame, rowsAgree}
 
@@ -63,7 +65,7 @@ module _ (mine theirs c a b : ℕ) where
 -- ---- the search
 
 -- where no member passes there is no first
-first-never : {T : Type 0} (f : T → Bool) (l : List T) → ((x : T) → x ∈ l → f x ≡ false) → first f l ≡ none
+first-never : {T : Type 0} (f : T → Bool) (l : List T) → ((x : T) → x isIn l → f x ≡ false) → first f l ≡ none
 first-never f [] h = refl
 first-never f (x ∷ xs) h = rw (h x (List·Memᴰ·head refl)) (first-never f xs (λ y m. h y (List·Memᴰ·tail m)))
 
@@ -98,7 +100,7 @@ module _ (links : List ℕ) (W X : Words) (who what : ℕ) where
       user-passed (covered links W X who what) (grouped links W X) rs os n rs h
       (first-never (differAt (covered links W X who what) (grouped links W X)) (each (λ r. map (λ o. (n, r, o)) (upTo os)) (upTo rs)) alike) refl
     where
-      alike : (t : ℕ × ℕ × ℕ) → t ∈ each (λ r. map (λ o. (n, r, o)) (upTo os)) (upTo rs) → differAt (covered links W X who what) (grouped links W X) t ≡ false
+      alike : (t : ℕ × ℕ × ℕ) → t isIn each (λ r. map (λ o. (n, r, o)) (upTo os)) (upTo rs) → differAt (covered links W X who what) (grouped links W X) t ≡ false
       alike t m =
           let p = each-out (λ r. map (λ o. (n, r, o)) (upTo os)) (upTo rs) m in
           let k = map-out (λ o. (n, p .0, o)) (upTo os) (p .2) in

@@ -13,6 +13,11 @@ ghost use Rattle.rulegrants.specs.RuleGrid.{rowOf};
 ghost use Rattle.sets.specs.Sets.{bit};
 ghost use Rattle.sets.specs.Tests.{iff};
 use grants::Difference;
+use loaded::ByPlace;
+use loaded::ByPlaceMember;
+use loaded::CountBySide;
+use loaded::Links;
+use loaded::RoleFile;
 
 // A set of triples summed up: who stands in it on either side, its operations, and the atoms true of all its pairs.
 pub struct Group {
@@ -24,25 +29,25 @@ pub struct Group {
 
 // Which of some resources every atom joins with a user. Most groups have few atoms, so only those are looked at, and no more of them once no
 // resource is left.
-pub fn linked(links: &[u64; 2304], atoms: u64, user: usize, among: u64) -> u64
+pub fn linked(links: &Links, atoms: u64, user: usize, among: u64) -> u64
     requires { ⌜ user < 64 ⌝ }
     ensures { λ r. ⌜ r ≡ linkedWith (now (links .entry)) atoms user among ⌝ }
 {
     let mut m = among;
-    let mut rest = sets::meet(atoms, sets::below(36));
+    let mut rest = sets::meet(atoms, sets::below(RoleFile::ATOMS));
     while 0 < rest {
         if m == 0 {
             return 0;
         }
         let i = sets::least(rest);
-        m = sets::meet(m, links[64 * i + user]);
+        m = sets::meet(m, links[RoleFile::MEMBERS * i + user]);
         rest = matches::without_least(rest);
     }
     m
 }
 
 // The resources that stand in a pair with a user: none if the user is not one of these.
-pub fn row(links: &[u64; 2304], atoms: u64, users: u64, resources: u64, user: usize) -> u64
+pub fn row(links: &Links, atoms: u64, users: u64, resources: u64, user: usize) -> u64
     requires { ⌜ user < 64 ⌝ }
     ensures { λ r. ⌜ r ≡ rowOf (now (links .entry)) atoms users resources user ⌝ }
 {
@@ -84,7 +89,7 @@ fn agree(mine: u64, theirs: u64, c: u64, a: u64, b: u64) -> bool
 // The first triple, by user, then resource, then operation, at which the covering rule of two groups together and the groups differ. Who
 // and what pass its conjuncts is handed in, and among whom to look.
 pub fn first_beyond(
-    links: &[u64; 2304],
+    links: &Links,
     g: Group,
     h: Group,
     among: u64,
@@ -125,7 +130,7 @@ pub fn first_beyond(
 }
 
 // Whether no user of one set and resource of another are joined by all of these atoms.
-fn corner_free(links: &[u64; 2304], atoms: u64, users: u64, resources: u64) -> bool
+fn corner_free(links: &Links, atoms: u64, users: u64, resources: u64) -> bool
     ensures { λ s. ⌜ s ≡ cornerFree (now (links .entry)) atoms users resources ⌝ }
 {
     // Most corners have nothing on one side.
@@ -144,7 +149,7 @@ fn corner_free(links: &[u64; 2304], atoms: u64, users: u64, resources: u64) -> b
 }
 
 // Whether the atoms of both groups join no user of one group only with a resource of the other only.
-fn corners_free(links: &[u64; 2304], g: Group, h: Group) -> bool
+fn corners_free(links: &Links, g: Group, h: Group) -> bool
     ensures { λ s. ⌜ s ≡ cornersFree (now (links .entry)) (wordsIn g) (wordsIn h) ⌝ }
 {
     let atoms = sets::meet(g.atoms, h.atoms);
@@ -188,7 +193,7 @@ pub fn near(g: Group, h: Group) -> bool
 }
 
 // Whether nothing plain speaks against two groups becoming one. Two groups that this refuses need no comparison.
-pub fn may_join(links: &[u64; 2304], g: Group, h: Group) -> bool
+pub fn may_join(links: &Links, g: Group, h: Group) -> bool
     ensures { λ s. ⌜ s ≡ mayJoin (now (links .entry)) (wordsIn g) (wordsIn h) ⌝ }
 {
     if near(g, h) {
@@ -200,7 +205,7 @@ pub fn may_join(links: &[u64; 2304], g: Group, h: Group) -> bool
 // Whether a rule with the operations and the atoms of two groups grants just what they have. Who and what pass its conjuncts is handed in,
 // and among whom to look.
 fn grants_just(
-    links: &[u64; 2304],
+    links: &Links,
     g: Group,
     h: Group,
     among: u64,
@@ -237,7 +242,7 @@ fn changed(g: Group, h: Group) -> u64
 // Whether two groups that may become one would be granted just what they have if nobody but their users and nothing but their resources
 // passed. No level has a part in that.
 fn grants_exactly(
-    links: &[u64; 2304],
+    links: &Links,
     g: Group,
     h: Group,
     users: usize,
@@ -266,7 +271,7 @@ fn grants_exactly(
 
 // Whether these atoms join nobody who passes with anything that passes, but some of these users with some of these resources.
 fn rim_free(
-    links: &[u64; 2304],
+    links: &Links,
     atoms: u64,
     users: u64,
     resources: u64,
@@ -285,7 +290,7 @@ fn rim_free(
 // their own conjuncts, and every group has an operation that is declared; then only those who pass besides need a look. Any other tables
 // need the comparison.
 fn fits_with(
-    links: &[u64; 2304],
+    links: &Links,
     g: Group,
     h: Group,
     exactly: bool,
@@ -333,12 +338,12 @@ fn fits_with(
 }
 
 // Who passes with the 255 of a side, if that is asked for, of those who pass without.
-fn with_own(matches: &[u64; 896], side: usize, own: bool, members: u64, passing: u64) -> u64
+fn with_own(matches: &ByPlaceMember, side: usize, own: bool, members: u64, passing: u64) -> u64
     requires { ⌜ side < 2 ⌝ }
     ensures { λ r. ⌜ r ≡ withOwn (now (matches .entry)) side own members passing ⌝ }
 {
     if own {
-        return sets::meet(passing, matches::met_by(matches, 7 * side + 6, members));
+        return sets::meet(passing, matches::met_by(matches, RoleFile::CONJUNCTS * side + RoleFile::ATTRIBUTES, members));
     }
     passing
 }
@@ -346,12 +351,12 @@ fn with_own(matches: &[u64; 896], side: usize, own: bool, members: u64, passing:
 // The lowest level up to a limit that two groups together fit; 4 if there is none. Whether they would be granted exactly is handed in, and so
 // are the tables of who meets the values of both groups' users and of both groups' resources.
 fn level_within<'a>(
-    links: &'a [u64; 2304],
-    matches: &'a [u64; 896],
+    links: &'a Links,
+    matches: &'a ByPlaceMember,
     met_users: &'a [u64; 6],
     met_resources: &'a [u64; 6],
-    known: &'a [u64; 14],
-    attributes: &'a [usize; 2],
+    known: &'a ByPlace,
+    attributes: &'a CountBySide,
     users: usize,
     resources: usize,
     operations: usize,
@@ -380,12 +385,12 @@ fn level_within<'a>(
 
 // The level of two groups together, if they fit one up to a limit; else 4.
 pub fn level_of_pair<'a>(
-    links: &'a [u64; 2304],
-    matches: &'a [u64; 896],
+    links: &'a Links,
+    matches: &'a ByPlaceMember,
     met_users: &'a [u64; 6],
     met_resources: &'a [u64; 6],
-    known: &'a [u64; 14],
-    attributes: &'a [usize; 2],
+    known: &'a ByPlace,
+    attributes: &'a CountBySide,
     users: usize,
     resources: usize,
     operations: usize,
@@ -419,12 +424,12 @@ pub fn level_of_pair<'a>(
 
 // The level of a group.
 pub fn level_of_group<'a>(
-    links: &'a [u64; 2304],
-    matches: &'a [u64; 896],
+    links: &'a Links,
+    matches: &'a ByPlaceMember,
     met_users: &'a [u64; 6],
     met_resources: &'a [u64; 6],
-    known: &'a [u64; 14],
-    attributes: &'a [usize; 2],
+    known: &'a ByPlace,
+    attributes: &'a CountBySide,
     users: usize,
     resources: usize,
     operations: usize,

@@ -9,14 +9,13 @@ use mathlib.Core.List.{List, [], _∷_, _++_}
 use mathlib.Core.Path.{_≡_, refl, sym, ap, ap₂, _∙_}
 use native.Mathlib.Nat.{zero-add}
 use native.Mathlib.Omega.{arith}
-use Rattle.admit.specs.AdmitLaws.{Sized}
+use Rattle.loaded.specs.Record.{Sized, tableOf, permissionTable, recordWith, recordOf}
 use Rattle.files.specs.Calls.{partsGrant}
 use Rattle.files.specs.RuleFile.{RuleCommand, Lines, isPartLine, lists, partsIn, legal, opens, value, operations, link, part, ends}
 use Rattle.grants.specs.Grid.{gridOf}
 use Rattle.grants.specs.GridLaws.{grid-same}
 use Rattle.grants.specs.UpdateLaws.{updated-none, updated-same, updated-next, updated-twice}
 use Rattle.grants.specs.Updates.{updated}
-use Rattle.loaded.specs.Record.{tableOf, permissionTable, recordWith, recordOf}
 use Rattle.loaded.specs.RecordLaws.{table-get, table-length, table-ext}
 use Rattle.policy.specs.Merging.{union}
 use Rattle.policy.specs.Mined.{partCount, partAt, partBlock}
@@ -26,8 +25,10 @@ use Rattle.policy.specs.Roles.{Roles, Part, alike, parts, blockOf, classOf}
 use Rattle.policy.specs.Rules.{Setting, Block}
 use Rattle.sets.specs.LoopLaws.{table-unique}
 use Rattle.sets.specs.MaskLaws.{and-true, or-false, mask-same}
-use Rattle.sets.specs.Sets.{bit, maskOf, bit-mask}
-use Rattle.sets.specs.Tests.{Is, and-in, and-l, and-r, test, same, any, any-in, any-out, keep, upTo, any-places, any-ext}
+use Rattle.sets.specs.Sets.{bit, maskOf}
+use Rattle.sets.specs.SetLaws.{bit-mask}
+use Rattle.sets.specs.Tests.{Is, any, keep, upTo}
+use Rattle.sets.specs.TestLaws.{and-in, and-l, and-r, test, same, any-in, any-out, any-places, any-ext}
 use Rattle.partgrants.specs.PartGrid.{joinedWord, addedWord, addedWhere, addedColumn, addedPart, joinedGrid}
 
 -- ---- what one more line adds

@@ -6,11 +6,15 @@ ghost use mathlib.Core.Path.{_≡_};
 ghost use Prim.Native.Nat.{_<_};
 ghost use Rattle.grants.specs.Grid.{gridOf};
 ghost use Rattle.partgrants.specs.PartGrid.{addedColumn, addedPart, joinedGrid};
+use loaded::ByRole;
+use loaded::ByRoleOperation;
+use loaded::Grid;
+use loaded::RoleFile;
 
 // Joins, at one operation, the resources that the role is permitted to the word of each user who holds it.
 fn add_column(
     holding: u64,
-    permissions: &[u64; 512],
+    permissions: &ByRoleOperation,
     role: usize,
     operation: usize,
     grid: &mut [u64],
@@ -18,22 +22,22 @@ fn add_column(
     requires { ⌜ (role < 32) × (operation < 16) × (length (now grid) ≡ 1024) ⌝ }
     ensures { λ _. ⌜ now (grid .exit) ≡ addedColumn operation (now (permissions .entry)) role holding (now (grid .entry)) ⌝ }
 {
-    for u in 0..64 {
+    for u in 0..RoleFile::MEMBERS {
         if sets::has(holding, u) {
-            grid[16 * u + operation] = sets::union(
-                grid[16 * u + operation],
-                permissions[16 * role + operation],
+            grid[RoleFile::OPERATIONS * u + operation] = sets::union(
+                grid[RoleFile::OPERATIONS * u + operation],
+                permissions[RoleFile::OPERATIONS * role + operation],
             );
         }
     }
 }
 
 // Into a slice, since only a slice tells its length to a proof.
-fn add_columns(holding: u64, permissions: &[u64; 512], role: usize, class: u64, grid: &mut [u64])
+fn add_columns(holding: u64, permissions: &ByRoleOperation, role: usize, class: u64, grid: &mut [u64])
     requires { ⌜ (role < 32) × (length (now grid) ≡ 1024) ⌝ }
     ensures { λ _. ⌜ now (grid .exit) ≡ addedPart holding (now (permissions .entry)) role class (now (grid .entry)) ⌝ }
 {
-    for o in 0..16 {
+    for o in 0..RoleFile::OPERATIONS {
         // Most classes have few operations, and the words of the others stay as they are.
         if sets::has(class, o) {
             add_column(holding, permissions, role, o, grid);
@@ -43,11 +47,11 @@ fn add_columns(holding: u64, permissions: &[u64; 512], role: usize, class: u64, 
 
 // Joins a part's block to a grid: for each holder of the role and each operation of the class, the resources of that operation.
 pub fn add_part<'a>(
-    holders: &'a [u64; 32],
-    permissions: &'a [u64; 512],
+    holders: &'a ByRole,
+    permissions: &'a ByRoleOperation,
     role: usize,
     class: u64,
-    grid: &mut [u64; 1024],
+    grid: &mut Grid,
 )
     requires { ⌜ role < 32 ⌝ }
     ensures { λ _. ⌜ now (grid .exit) ≡ addedPart (getD (now (holders .entry)) role 0) (now (permissions .entry)) role class (now (grid .entry)) ⌝ }
@@ -56,24 +60,24 @@ pub fn add_part<'a>(
 }
 
 // The grid of no triples, whatever the table held.
-pub fn clear(grid: &mut [u64; 1024])
+pub fn clear(grid: &mut Grid)
     ensures { λ _. ⌜ now (grid .exit) ≡ gridOf (λ u r o. false) ⌝ }
 {
     grants::fill_none(grid);
 }
 
 // Into a slice, since only a slice tells its length to a proof.
-fn join_words(from: &[u64; 1024], to: &mut [u64])
+fn join_words(from: &Grid, to: &mut [u64])
     requires { ⌜ length (now to) ≡ 1024 ⌝ }
     ensures { λ _. ⌜ now (to .exit) ≡ joinedGrid (now (from .entry)) (now (to .entry)) ⌝ }
 {
-    for i in 0..1024 {
+    for i in 0..RoleFile::USERS * RoleFile::OPERATIONS {
         to[i] = sets::union(to[i], from[i]);
     }
 }
 
 // Joins the triples of one grid to another.
-pub fn join(from: &[u64; 1024], to: &mut [u64; 1024])
+pub fn join(from: &Grid, to: &mut Grid)
     ensures { λ _. ⌜ now (to .exit) ≡ joinedGrid (now (from .entry)) (now (to .entry)) ⌝ }
 {
     join_words(from, to);

@@ -15,9 +15,12 @@ use Rattle.policy.specs.PartLaws.{alike-out, alike-in, parts-out}
 use Rattle.policy.specs.Roles.{Roles, Part, alike, leads, isPart, parts, classOf}
 use Rattle.policy.specs.Rules.{Setting, user, resource}
 use Rattle.sets.specs.MaskLaws.{mask-lt}
-use Rattle.sets.specs.Sets.{bit, maskOf, bit-mask}
-use Rattle.sets.specs.Sorted.{Ascending, each-rising, only-rising, from-rising, none-left, and-then}
-use Rattle.sets.specs.Tests.{Is, and-l, and-r, never, test, fails, _∈_, any, any-in, any-out, each, each-out, only, only-out, upTo, upTo-in, upTo-out, getD-in, not-out}
+use Rattle.sets.specs.Sets.{bit, maskOf}
+use Rattle.sets.specs.SetLaws.{bit-mask}
+use Rattle.sets.specs.Sorted.{Ascending, none-left, and-then}
+use Rattle.sets.specs.SortedLaws.{each-rising, only-rising, from-rising}
+use Rattle.sets.specs.Tests.{Is, _isIn_, any, each, only, upTo}
+use Rattle.sets.specs.TestLaws.{and-l, and-r, never, test, fails, any-in, any-out, each-out, only-out, upTo-in, upTo-out, getD-in, not-out}
 
 -- in an ascending list a later place has a higher number
 pub asc-places : {A : Type 0} (key : A → ℕ) {l : List A} (d : A) → Ascending key l → (i j : ℕ) → i < j → j < length l → key (getD l i d) < key (getD l j d)
@@ -62,12 +65,12 @@ module _ (P : Setting) (R : Roles) where
       apart : (i j : ℕ) → i < j → j < length (parts P R) → getD (parts P R) i (record { role = 0; lead = 0 }) ≡ getD (parts P R) j (record { role = 0; lead = 0 }) → ⊥
       apart i j h l e = let k = asc-places partKey (record { role = 0; lead = 0 }) parts-ascending i j h l in let d = ap partKey e in omega arith
 
-  pub part-in : (p : ℕ) → p < partCount P R → partAt P R p ∈ parts P R
+  pub part-in : (p : ℕ) → p < partCount P R → partAt P R p isIn parts P R
   unfolding partCount partAt
   part-in p h = getD-in (parts P R) (record { role = 0; lead = 0 }) p h
 
   -- the lowest operation of a class is known by the class
-  lead-not-lower : (p q : Part) → p ∈ parts P R → q ∈ parts P R → p .role ≡ q .role → classOf P R p ≡ classOf P R q → p .lead < q .lead → ⊥
+  lead-not-lower : (p q : Part) → p isIn parts P R → q isIn parts P R → p .role ≡ q .role → classOf P R p ≡ classOf P R q → p .lead < q .lead → ⊥
   unfolding classOf isPart leads
   lead-not-lower p q mp mq er ec h =
       let tp = parts-out P R mp in
@@ -79,7 +82,7 @@ module _ (P : Setting) (R : Roles) where
       let likes : Is (alike P R (q .role) (p .lead) (q .lead)) = rw (← er) (sym (bit-mask (P .slots) (alike P R (p .role) (p .lead)) (q .lead) (tq .1)) ∙ same-class) in
       never (any-in (λ o. alike P R (q .role) o (q .lead)) (upTo-in h) likes) none-lower
 
-  pub class-part : (p q : Part) → p ∈ parts P R → q ∈ parts P R → p .role ≡ q .role → classOf P R p ≡ classOf P R q → p ≡ q
+  pub class-part : (p q : Part) → p isIn parts P R → q isIn parts P R → p .role ≡ q .role → classOf P R p ≡ classOf P R q → p ≡ q
   class-part p q mp mq er ec =
       test (ltb (p .lead) (q .lead))
       (λ h. absurd (lead-not-lower p q mp mq er ec (ltb-true (p .lead) (q .lead) h)))
@@ -108,7 +111,7 @@ module _ (P : Setting) (R : Roles) where
     pub class-has : Is (bit (classOf P R p) (p .lead))
     pub class-lowest : (q : ℕ) → q < p .lead → bit (classOf P R p) q ≡ false
 
-  pub part-facts : {p : Part} → p ∈ parts P R → PartFacts p
+  pub part-facts : {p : Part} → p isIn parts P R → PartFacts p
   unfolding isPart leads classOf
   part-facts {p} m =
       let t = parts-out P R m in

@@ -10,8 +10,9 @@ use Rattle.policy.specs.Covering.{allKnow, valuesOf, opIn, pairIn, stand
 use Rattle.policy.specs.RuleLaws.{Lawful, grants-in, grants-op, grants-cond, same-in, same-out}
 use Rattle.policy.specs.Rules.{Which, by, Setting, Cond, Rule, Block, attrsOf, ownAt, holds, grants, allowed, at, Triple, Within, Same, user, resource, conjunct, atom}
 use Rattle.policy.specs.SideLaws.{AllMeet, side-known, side-self, side-least}
-use Rattle.sets.specs.Sets.{bit-mask}
-use Rattle.sets.specs.Tests.{Is, and-l, and-r, same, imp, imp-in, imp-out, _∈_, all, any, all-out, all-in, any-in, any-out, each, each-in, each-out, only, only-in, only-out, upTo, upTo-in, upTo-out, elem-out}
+use Rattle.sets.specs.SetLaws.{bit-mask}
+use Rattle.sets.specs.Tests.{Is, imp, _isIn_, all, any, each, only, upTo}
+use Rattle.sets.specs.TestLaws.{and-l, and-r, same, imp-in, imp-out, all-out, all-in, any-in, any-out, each-in, each-out, only-in, only-out, upTo-in, upTo-out, elem-out}
 
 module _ (P : Setting) where
   -- ---- what these tests say
@@ -61,24 +62,24 @@ module _ (P : Setting) where
       (all-out (λ r. imp (pairIn P B u r) (holds P c u r)) (all-out (λ u. all (λ r. imp (pairIn P B u r) (holds P c u r)) (upTo (P .side resource .count))) h (upTo-in lu)) (upTo-in lr))
 
   -- the conditions of a covering rule
-  pub conjuncts-in : (B : Block) (l : ℕ) (w : Which) {a : ℕ} → a ∈ attrsOf (P .side w) (ownAt w l) → Is (allKnow (P .side w) (standsIn P B w) a) → conjunct w a (valuesOf (P .side w) (standsIn P B w) a) ∈ conjuncts P B l w
+  pub conjuncts-in : (B : Block) (l : ℕ) (w : Which) {a : ℕ} → a isIn attrsOf (P .side w) (ownAt w l) → Is (allKnow (P .side w) (standsIn P B w) a) → conjunct w a (valuesOf (P .side w) (standsIn P B w) a) isIn conjuncts P B l w
   unfolding conjuncts
   conjuncts-in B l w {a} m h = each-in (λ a. only (allKnow (P .side w) (standsIn P B w) a) (conjunct w a (valuesOf (P .side w) (standsIn P B w) a))) m (only-in _ h)
 
-  pub conjuncts-out : (B : Block) (l : ℕ) (w : Which) {c : Cond} → c ∈ conjuncts P B l w → (a : ℕ) × (a ∈ attrsOf (P .side w) (ownAt w l)) × Is (allKnow (P .side w) (standsIn P B w) a) × (c ≡ conjunct w a (valuesOf (P .side w) (standsIn P B w) a))
+  pub conjuncts-out : (B : Block) (l : ℕ) (w : Which) {c : Cond} → c isIn conjuncts P B l w → (a : ℕ) × (a isIn attrsOf (P .side w) (ownAt w l)) × Is (allKnow (P .side w) (standsIn P B w) a) × (c ≡ conjunct w a (valuesOf (P .side w) (standsIn P B w) a))
   unfolding conjuncts
   conjuncts-out B l w m =
       let t = each-out (λ a. only (allKnow (P .side w) (standsIn P B w) a) (conjunct w a (valuesOf (P .side w) (standsIn P B w) a))) _ m in
       let s = only-out (allKnow (P .side w) (standsIn P B w) (t .0)) (t .2) in
       (t .0, t .1, s .0, s .1)
 
-  pub atomConds-in : (B : Block) {a b : ℕ} → a < P .side user .attrs → b < P .side resource .attrs → Is (everywhere P B (atom a b)) → atom a b ∈ atomConds P B
+  pub atomConds-in : (B : Block) {a b : ℕ} → a < P .side user .attrs → b < P .side resource .attrs → Is (everywhere P B (atom a b)) → atom a b isIn atomConds P B
   unfolding atomConds
   atomConds-in B {a} {b} la lb h =
       each-in (λ a. each (λ b. only (everywhere P B (atom a b)) (atom a b)) (upTo (P .side resource .attrs))) (upTo-in la)
       (each-in (λ b. only (everywhere P B (atom a b)) (atom a b)) (upTo-in lb) (only-in _ h))
 
-  pub atomConds-out : (B : Block) {c : Cond} → c ∈ atomConds P B → (a b : ℕ) × (a < P .side user .attrs) × (b < P .side resource .attrs) × Is (everywhere P B (atom a b)) × (c ≡ atom a b)
+  pub atomConds-out : (B : Block) {c : Cond} → c isIn atomConds P B → (a b : ℕ) × (a < P .side user .attrs) × (b < P .side resource .attrs) × Is (everywhere P B (atom a b)) × (c ≡ atom a b)
   unfolding atomConds
   atomConds-out B m =
       let t = each-out (λ a. each (λ b. only (everywhere P B (atom a b)) (atom a b)) (upTo (P .side resource .attrs))) _ m in
@@ -87,19 +88,19 @@ module _ (P : Setting) where
       (t .0, s .0, upTo-out _ (t .1), upTo-out _ (s .1), k .0, k .1)
 
   -- a condition of a covering rule is a conjunct of one side or an atom
-  pub cover-cases : (B : Block) (l : ℕ) {c : Cond} → c ∈ cover P B l .conds → ((w : Which) × (c ∈ conjuncts P B l w)) ⊎ (c ∈ atomConds P B)
+  pub cover-cases : (B : Block) (l : ℕ) {c : Cond} → c isIn cover P B l .conds → ((w : Which) × (c isIn conjuncts P B l w)) ⊎ (c isIn atomConds P B)
   unfolding cover
   cover-cases B l {c} m = go (List·Memᴰ·append-cases (conjuncts P B l user ++ conjuncts P B l resource) m)
     where
-      side : (c ∈ conjuncts P B l user) ⊎ (c ∈ conjuncts P B l resource) → (w : Which) × (c ∈ conjuncts P B l w)
+      side : (c isIn conjuncts P B l user) ⊎ (c isIn conjuncts P B l resource) → (w : Which) × (c isIn conjuncts P B l w)
       side (inl k) = (user, k)
       side (inr k) = (resource, k)
 
-      go : (c ∈ (conjuncts P B l user ++ conjuncts P B l resource)) ⊎ (c ∈ atomConds P B) → ((w : Which) × (c ∈ conjuncts P B l w)) ⊎ (c ∈ atomConds P B)
+      go : (c isIn (conjuncts P B l user ++ conjuncts P B l resource)) ⊎ (c isIn atomConds P B) → ((w : Which) × (c isIn conjuncts P B l w)) ⊎ (c isIn atomConds P B)
       go (inl k) = inl (side (List·Memᴰ·append-cases (conjuncts P B l user) k))
       go (inr k) = inr k
 
-  pub cover-conjunct : (B : Block) (l : ℕ) (w : Which) {c : Cond} → c ∈ conjuncts P B l w → c ∈ cover P B l .conds
+  pub cover-conjunct : (B : Block) (l : ℕ) (w : Which) {c : Cond} → c isIn conjuncts P B l w → c isIn cover P B l .conds
   unfolding cover
   cover-conjunct B l user m = Memᴰ·append-left _ (Memᴰ·append-left _ m)
   cover-conjunct B l resource m = Memᴰ·append-left _ (Memᴰ·append-right (conjuncts P B l user) m)
@@ -111,7 +112,7 @@ module _ (P : Setting) where
 
   module _ (L : Lawful P) where
     -- every condition of the covering rule holds everywhere in B
-    pub cover-holds : (B : Block) (l : ℕ) (c : Cond) → c ∈ cover P B l .conds → Everywhere B c
+    pub cover-holds : (B : Block) (l : ℕ) (c : Cond) → c isIn cover P B l .conds → Everywhere B c
     unfolding holds
     cover-holds B l c m u r lu lr p = go (cover-cases B l m)
       where
@@ -119,7 +120,7 @@ module _ (P : Setting) where
         place user = lu
         place resource = lr
 
-        go : ((w : Which) × (c ∈ conjuncts P B l w)) ⊎ (c ∈ atomConds P B) → Is (holds P c u r)
+        go : ((w : Which) × (c isIn conjuncts P B l w)) ⊎ (c isIn atomConds P B) → Is (holds P c u r)
         go (inl k) =
             let w = k .0 in
             let t = conjuncts-out B l w (k .1) in
@@ -132,7 +133,7 @@ module _ (P : Setting) where
     cover-grants B l u r o t h = grants-in P (cover P B l) u r o (bit-mask (P .slots) (opIn P B) o (t .op) ∙ op-in B t h) λ c m. cover-holds B l c m u r (t .user) (t .resource) (pair-in B (t .op) h)
 
     -- a condition of the level that holds everywhere in B holds wherever the covering rule's conditions do
-    pub cover-least : (B : Block) (l : ℕ) (c : Cond) → Is (allowed P l c) → Everywhere B c → (u r : ℕ) → ((d : Cond) → d ∈ cover P B l .conds → Is (holds P d u r)) → Is (holds P c u r)
+    pub cover-least : (B : Block) (l : ℕ) (c : Cond) → Is (allowed P l c) → Everywhere B c → (u r : ℕ) → ((d : Cond) → d isIn cover P B l .conds → Is (holds P d u r)) → Is (holds P c u r)
     unfolding cover allowed holds
     cover-least B l (conjunct w a vs) q h u r k =
         let m = all-meet B w a vs h in

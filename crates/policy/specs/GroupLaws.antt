@@ -13,15 +13,16 @@ use native.Mathlib.Omega.{arith}
 use Rattle.policy.specs.CoverLaws.{exact-fits}
 use Rattle.policy.specs.Covering.{fits, levelOf}
 use Rattle.policy.specs.MergeLaws.{total, Every, Runs, run-runs, runs-apart, runs-count, runs-total, runs-every, runs-ascending, apart-at}
-use Rattle.policy.specs.Merging.{ones, union, mergeable, groups, mergesMade}
+use Rattle.policy.specs.Merging.{startGroups, union, mergeable, groups, mergesMade, lowPart}
 use Rattle.policy.specs.RuleLaws.{Lawful}
 use Rattle.policy.specs.Rules.{Setting, Rule, Block, grants, at, ruleLevel, Some, Same}
 use Rattle.policy.specs.ThinLaws.{written-exact, fits-same, written-level}
 use Rattle.policy.specs.Thinning.{written}
-use Rattle.sets.specs.Lowest.{lowest-most, lowest-passes, lowest-some}
+use Rattle.sets.specs.LowestLaws.{lowest-most, lowest-passes, lowest-some}
 use Rattle.sets.specs.MaskLaws.{or-false}
 use Rattle.sets.specs.Sorted.{Ascending, none-left, and-then}
-use Rattle.sets.specs.Tests.{Is, or-l, never, test, same, _∈_, any, any-in, any-out, from, upTo, from-out, upTo-in, upTo-out, map-out, getD-in}
+use Rattle.sets.specs.TestLaws.{or-l, never, test, same, any-in, any-out, from-out, upTo-in, upTo-out, map-out, getD-in}
+use Rattle.sets.specs.Tests.{Is, _isIn_, any, from, upTo}
 
 -- how often a part stands in a group
 abbrev pub times : ℕ → List ℕ → ℕ
@@ -32,22 +33,17 @@ pub times-append : (p : ℕ) (g h : List ℕ) → times p (g ++ h) ≡ times p g
 times-append p [] h = omega arith
 times-append p (q ∷ t) h = let e = times-append p t h in omega arith
 
-pub times-in : (p : ℕ) {g : List ℕ} → p ∈ g → 0 < times p g
+pub times-in : (p : ℕ) {g : List ℕ} → p isIn g → 0 < times p g
 times-in p (List·Memᴰ·head {x = q} e) = rw (eq-eqb p q e) (omega arith)
 times-in p (List·Memᴰ·tail m) = let h = times-in p m in omega arith
 
-pub times-out : (p : ℕ) (g : List ℕ) → 0 < times p g → p ∈ g
+pub times-out : (p : ℕ) (g : List ℕ) → 0 < times p g → p isIn g
 times-out p [] h = absurd (omega arith)
 times-out p (q ∷ t) h = go (eqb p q) refl (times-out p t) h
   where
-    go : (b : Bool) → eqb p q ≡ b → (0 < times p t → p ∈ t) → 0 < cond b 1 0 + times p t → p ∈ (q ∷ t)
+    go : (b : Bool) → eqb p q ≡ b → (0 < times p t → p isIn t) → 0 < cond b 1 0 + times p t → p isIn (q ∷ t)
     go true e r h = List·Memᴰ·head (eqb-true p q e)
     go false e r h = List·Memᴰ·tail (r (omega arith))
-
--- the lowest part of a group of n parts in all
-abbrev pub lowPart : ℕ → List ℕ → ℕ
-lowPart n [] = n
-lowPart n (p ∷ t) = min p (lowPart n t)
 
 lowPart-most : (n : ℕ) (g : List ℕ) → lowPart n g ≤ n
 lowPart-most n [] = omega arith
@@ -57,30 +53,30 @@ pub lowPart-append : (n : ℕ) (g h : List ℕ) → lowPart n (g ++ h) ≡ min (
 lowPart-append n [] h = let k = lowPart-most n h in omega arith
 lowPart-append n (p ∷ t) h = let e = lowPart-append n t h in omega arith
 
-ones-length : (k n : ℕ) → length (ones k n) ≡ n
-ones-length k zero = refl
-ones-length k (suc n) = ap suc (ones-length (suc k) n)
+start-length : (k n : ℕ) → length (startGroups k n) ≡ n
+start-length k zero = refl
+start-length k (suc n) = ap suc (start-length (suc k) n)
 
-ones-before : (p k n : ℕ) → p < k → total _+_ 0 (times p) (ones k n) ≡ 0
-ones-before p k zero h = refl
-ones-before p k (suc n) h = let e = ones-before p (suc k) n (omega arith) in rw (ne-eqb p k (omega arith)) (omega arith)
+start-before : (p k n : ℕ) → p < k → total _+_ 0 (times p) (startGroups k n) ≡ 0
+start-before p k zero h = refl
+start-before p k (suc n) h = let e = start-before p (suc k) n (omega arith) in rw (ne-eqb p k (omega arith)) (omega arith)
 
-ones-count : (p k n : ℕ) → k ≤ p → p < k + n → total _+_ 0 (times p) (ones k n) ≡ 1
-ones-count p k zero h l = absurd (omega arith)
-ones-count p k (suc n) h l =
+start-count : (p k n : ℕ) → k ≤ p → p < k + n → total _+_ 0 (times p) (startGroups k n) ≡ 1
+start-count p k zero h l = absurd (omega arith)
+start-count p k (suc n) h l =
     test (eqb p k)
-    (λ e. let d = ones-before p (suc k) n (let x = eqb-true p k e in omega arith) in rw e (omega arith))
-    (λ e. let d = ones-count p (suc k) n (let x = eqb-false p k e in omega arith) (omega arith) in rw e (omega arith))
+    (λ e. let d = start-before p (suc k) n (let x = eqb-true p k e in omega arith) in rw e (omega arith))
+    (λ e. let d = start-count p (suc k) n (let x = eqb-false p k e in omega arith) (omega arith) in rw e (omega arith))
 
-ones-after : (n x k m : ℕ) → x < k → k + m ≤ n → Every (λ h. x < lowPart n h) (ones k m)
-ones-after n x k m l b g i =
+start-after : (n x k m : ℕ) → x < k → k + m ≤ n → Every (λ h. x < lowPart n h) (startGroups k m)
+start-after n x k m l b g i =
     let t = map-out (λ p. p ∷ []) (from k m) i in
     let d = from-out k m (t .1) in
     rw (t .2) (omega arith)
 
-ones-ascending : (n k m : ℕ) → k + m ≤ n → Ascending (lowPart n) (ones k m)
-ones-ascending n k zero h = none-left
-ones-ascending n k (suc m) h = and-then {x = k ∷ []} (λ g i. let e = ones-after n k (suc k) m (omega arith) (omega arith) g i in omega arith) (ones-ascending n (suc k) m (omega arith))
+start-ascending : (n k m : ℕ) → k + m ≤ n → Ascending (lowPart n) (startGroups k m)
+start-ascending n k zero h = none-left
+start-ascending n k (suc m) h = and-then {x = k ∷ []} (λ g i. let e = start-after n k (suc k) m (omega arith) (omega arith) g i in omega arith) (start-ascending n (suc k) m (omega arith))
 
 total-any : {A : Type 0} (f : A → Bool) (l : List A) → total _||_ false f l ≡ any f l
 total-any f [] = refl
@@ -93,7 +89,7 @@ module _ (P : Setting) (block : ℕ → Block) where
   union-append (p ∷ t) h u r o = ap (λ (b : Bool). block p u r o || b) (union-append t h u r o) ∙ sym (or-assoc (block p u r o) (any (λ p. block p u r o) t) (any (λ p. block p u r o) h))
 
   -- a group's block goes by its members, in any order
-  pub union-same : (g h : List ℕ) → ((p : ℕ) → p ∈ g → p ∈ h) → ((p : ℕ) → p ∈ h → p ∈ g) → union P block g ≡ union P block h
+  pub union-same : (g h : List ℕ) → ((p : ℕ) → p isIn g → p isIn h) → ((p : ℕ) → p isIn h → p isIn g) → union P block g ≡ union P block h
   unfolding union
   union-same g h a b =
       fun-ext λ u. fun-ext λ r. fun-ext λ o.
@@ -101,17 +97,17 @@ module _ (P : Setting) (block : ℕ → Block) where
       (λ k. let t = any-out (λ p. block p u r o) g k in any-in (λ p. block p u r o) (a (t .0) (t .1)) (t .2))
       (λ k. let t = any-out (λ p. block p u r o) h k in any-in (λ p. block p u r o) (b (t .0) (t .1)) (t .2))
 
-  mined : (n : ℕ) → Runs (mergeable P block) _++_ (ones 0 n) (groups P block n) (mergesMade P block n)
+  mined : (n : ℕ) → Runs (mergeable P block) _++_ (startGroups 0 n) (groups P block n) (mergesMade P block n)
   unfolding groups mergesMade
-  mined n = run-runs (mergeable P block) _++_ n (ones 0 n) (let e = ones-length 0 n in omega arith)
+  mined n = run-runs (mergeable P block) _++_ n (startGroups 0 n) (let e = start-length 0 n in omega arith)
 
   -- parts = rules + merges
   pub parts-count : (n : ℕ) → n ≡ length (groups P block n) + mergesMade P block n
-  parts-count n = let e = runs-count (mergeable P block) _++_ (mined n) in let d = ones-length 0 n in omega arith
+  parts-count n = let e = runs-count (mergeable P block) _++_ (mined n) in let d = start-length 0 n in omega arith
 
   -- every part stands in exactly one group, and there once
   pub part-once : (n p : ℕ) → p < n → total _+_ 0 (times p) (groups P block n) ≡ 1
-  part-once n p h = sym (runs-total (mergeable P block) _++_ _+_ 0 add-assoc add-comm (times p) (times-append p) (mined n)) ∙ ones-count p 0 n (omega arith) (omega arith)
+  part-once n p h = sym (runs-total (mergeable P block) _++_ _+_ 0 add-assoc add-comm (times p) (times-append p) (mined n)) ∙ start-count p 0 n (omega arith) (omega arith)
 
   -- and the groups have no other members
   pub groups-parts : (n : ℕ) → Every (Every (λ p. p < n)) (groups P block n)
@@ -120,39 +116,39 @@ module _ (P : Setting) (block : ℕ → Block) where
       joined : (g h : List ℕ) → Every (λ p. p < n) g → Every (λ p. p < n) h → Is (mergeable P block g h) → Every (λ p. p < n) (g ++ h)
       joined g h a b m p k = go (List·Memᴰ·append-cases g k)
         where
-          go : (p ∈ g) ⊎ (p ∈ h) → p < n
+          go : (p isIn g) ⊎ (p isIn h) → p < n
           go (inl i) = a p i
           go (inr i) = b p i
 
-      alone : Every (Every (λ p. p < n)) (ones 0 n)
+      alone : Every (Every (λ p. p < n)) (startGroups 0 n)
       alone g m p k =
           let t = map-out (λ p. p ∷ []) (from 0 n) m in
           let e = member-one (rw (t .2) at k) in
           rw e (upTo-out n (t .1))
         where
-          member-one : {q : ℕ} → p ∈ (q ∷ []) → p ≡ q
+          member-one : {q : ℕ} → p isIn (q ∷ []) → p ≡ q
           member-one (List·Memᴰ·head e) = e
           member-one (List·Memᴰ·tail m) = absurd (List·Memᴰ·not-nil m)
 
   -- the groups stand in the order of their lowest parts
   pub groups-ascending : (n : ℕ) → Ascending (lowPart n) (groups P block n)
-  groups-ascending n = runs-ascending (mergeable P block) _++_ (lowPart n) (λ g h l. let e = lowPart-append n g h in omega arith) (mined n) (ones-ascending n 0 n (omega arith))
+  groups-ascending n = runs-ascending (mergeable P block) _++_ (lowPart n) (λ g h l. let e = lowPart-append n g h in omega arith) (mined n) (start-ascending n 0 n (omega arith))
 
   union-one : (p u r o : ℕ) → union P block (p ∷ []) u r o ≡ block p u r o
   unfolding union
   union-one p u r o = or-false (block p u r o)
 
-  ones-union : (k n u r o : ℕ) → any (λ g. union P block g u r o) (ones k n) ≡ any (λ p. block p u r o) (from k n)
-  ones-union k zero u r o = refl
-  ones-union k (suc n) u r o = ap₂ _||_ (union-one k u r o) (ones-union (suc k) n u r o)
+  start-union : (k n u r o : ℕ) → any (λ g. union P block g u r o) (startGroups k n) ≡ any (λ p. block p u r o) (from k n)
+  start-union k zero u r o = refl
+  start-union k (suc n) u r o = ap₂ _||_ (union-one k u r o) (start-union (suc k) n u r o)
 
   -- the groups' unions make up the union of all parts
   pub groups-union : (n u r o : ℕ) → any (λ g. union P block g u r o) (groups P block n) ≡ any (λ p. block p u r o) (upTo n)
   groups-union n u r o =
       sym (total-any (λ g. union P block g u r o) (groups P block n))
       ∙ sym (runs-total (mergeable P block) _++_ _||_ false or-assoc or-comm (λ g. union P block g u r o) (λ g h. union-append g h u r o) (mined n))
-      ∙ total-any (λ g. union P block g u r o) (ones 0 n)
-      ∙ ones-union 0 n u r o
+      ∙ total-any (λ g. union P block g u r o) (startGroups 0 n)
+      ∙ start-union 0 n u r o
 
   -- no group is empty of triples
   pub groups-some : (n : ℕ) → ((p : ℕ) → p < n → Some P (block p)) → Every (λ g. Some P (union P block g)) (groups P block n)
@@ -161,7 +157,7 @@ module _ (P : Setting) (block : ℕ → Block) where
       joined : (g k : List ℕ) → Some P (union P block g) → Some P (union P block k) → Is (mergeable P block g k) → Some P (union P block (g ++ k))
       joined g k s _ _ = record { u = s .u; r = s .r; o = s .o; triple = s .triple; inside = union-append g k (s .u) (s .r) (s .o) ∙ or-l _ (s .inside) }
 
-      first : Every (λ g. Some P (union P block g)) (ones 0 n)
+      first : Every (λ g. Some P (union P block g)) (startGroups 0 n)
       first g m =
           let t = map-out (λ p. p ∷ []) (from 0 n) m in
           let s = h (t .0) (upTo-out n (t .1)) in
@@ -192,7 +188,7 @@ module _ (P : Setting) (block : ℕ → Block) where
         joined : (g h : List ℕ) → Fitting g → Fitting h → Is (mergeable P block g h) → Fitting (g ++ h)
         joined g h p q m = joined-fits g h m
 
-        first : Every Fitting (ones 0 n)
+        first : Every Fitting (startGroups 0 n)
         first g m =
             let t = map-out (λ p. p ∷ []) (from 0 n) m in
             rw (t .2) (first-fits (t .0) (upTo-out n (t .1)))

@@ -7,9 +7,10 @@ use mathlib.Core.List.{List, [], _∷_, List·Memᴰ·head, List·Memᴰ·tail, 
 use mathlib.Core.Option.{Option, none, some, Option·map}
 use mathlib.Core.Path.{_≡_, refl, sym, ap, _∙_, subst, fun-ext}
 use native.Mathlib.Omega.{arith}
-use Rattle.policy.specs.Merging.{absorb, step, run, merges}
+use Rattle.policy.specs.Merging.{absorb, step, mergeAll}
 use Rattle.sets.specs.Sorted.{Ascending, and-then}
-use Rattle.sets.specs.Tests.{Is, _∈_, getD-in}
+use Rattle.sets.specs.Tests.{Is, _isIn_}
+use Rattle.sets.specs.TestLaws.{getD-in}
 
 -- what all members make together
 abbrev pub total {ℓ} : {A : Type ℓ} {M : Type 0} → (M → M → M) → M → (A → M) → List A → M
@@ -18,7 +19,7 @@ total op unit f (g ∷ t) = op (f g) (total op unit f t)
 
 -- every member has a property
 abbrev pub Every {ℓ} : {A : Type ℓ} → (A → Type 0) → List A → Type ℓ
-Every {A = A} Q l = (g : A) → g ∈ l → Q g
+Every {A = A} Q l = (g : A) → g isIn l → Q g
 
 pub every-cons {ℓ} : {A : Type ℓ} (Q : A → Type 0) (h : A) (t : List A) → Q h → Every Q t → Every Q (h ∷ t)
 every-cons Q h t q e k (List·Memᴰ·head p) = subst Q (sym p) q
@@ -28,7 +29,7 @@ module _ {A : Type 0} (ok : A → A → Bool) (join : A → A → A) where
   -- ---- the same as relations
 
   abbrev pub NoneFor : A → List A → Type 0
-  NoneFor g t = (h : A) → h ∈ t → ok g h ≡ false
+  NoneFor g t = (h : A) → h isIn t → ok g h ≡ false
 
   pub data Absorbs (g : A) : List A → A → List A → Type 0 where
     here : {h : A} {t : List A} → Is (ok g h) → Absorbs g (h ∷ t) (join g h) t
@@ -94,13 +95,21 @@ module _ {A : Type 0} (ok : A → A → Bool) (join : A → A → A) where
   steps-length (now a) = ap suc (absorbs-length a)
   steps-length (later n s) = ap suc (steps-length s)
 
+  -- the two halves of a run: the groups that it leaves, and the merges that it makes
+  abbrev pub run : ℕ → List A → List A
+  run n gs = mergeAll ok join n gs .0
+
+  abbrev pub merges : ℕ → List A → ℕ
+  merges n gs = mergeAll ok join n gs .1
+
   -- enough fuel: the run comes to rest
-  pub run-runs : (n : ℕ) (gs : List A) → length gs ≤ n → Runs gs (run ok join n gs) (merges ok join n gs)
+  pub run-runs : (n : ℕ) (gs : List A) → length gs ≤ n → Runs gs (run n gs) (merges n gs)
   run-runs zero [] h = stop nil
   run-runs zero (g ∷ t) h = absurd (omega arith)
   run-runs (suc n) gs h = go (λ s. run-runs n s) (step ok join gs) (step-view gs)
     where
-      go : ((s : List A) → length s ≤ n → Runs s (run ok join n s) (merges ok join n s)) → (o : Option (List A)) → StepView gs o → Runs gs (elim o as (λ _. List A) [ none ↦ gs | some s ↦ run ok join n s ]) (elim o as (λ _. ℕ) [ none ↦ 0 | some s ↦ suc (merges ok join n s) ])
+      go : ((s : List A) → length s ≤ n → Runs s (run n s) (merges n s)) → (o : Option (List A)) → StepView gs o
+          → let e = elim o as (λ _. List A × ℕ) [ none ↦ (gs, 0) | some s ↦ (run n s, suc (merges n s)) ] in Runs gs (e .0) (e .1)
       go r o (at-rest a) = stop a
       go r o (moved {s = s} k) = more k (r s (let e = steps-length k in omega arith))
 

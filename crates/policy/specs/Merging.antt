@@ -1,6 +1,6 @@
 -- Merging: the first pair that may be joined is joined, and the search begins afresh. 01, section "Covering, merging, striking".
 -- Assumes nothing.
-use Prim.Native.Nat.{ℕ, zero, suc, max}
+use Prim.Native.Nat.{ℕ, zero, suc, max, min}
 use mathlib.Core.Bool.{Bool, cond}
 use mathlib.Core.List.{List, [], _∷_, _++_, map}
 use mathlib.Core.Option.{Option, none, some, Option·map}
@@ -22,19 +22,15 @@ module _ {A : Type 0} (ok : A → A → Bool) (join : A → A → A) where
   step [] = none
   step (g ∷ t) = elim (absorb g t) [ none ↦ Option·map (λ (s : List A). g ∷ s) (step t) | some p ↦ some (p .0 ∷ p .1) ]
 
-  -- "That is one merge; the search then begins afresh and ends when no pair is left." n is at least the number of merges
-  abbrev pub run : ℕ → List A → List A
-  run zero gs = gs
-  run (suc n) gs = elim (step gs) [ none ↦ gs | some s ↦ run n s ]
-
-  -- how many merges were made
-  abbrev pub merges : ℕ → List A → ℕ
-  merges zero gs = 0
-  merges (suc n) gs = elim (step gs) [ none ↦ 0 | some s ↦ suc (merges n s) ]
+  -- "That is one merge; the search then begins afresh and ends when no pair is left": the groups that are left, and how many merges
+  -- were made. n is at least so many
+  abbrev pub mergeAll : ℕ → List A → List A × ℕ
+  mergeAll zero gs = (gs, 0)
+  mergeAll (suc n) gs = elim (step gs) [ none ↦ (gs, 0) | some s ↦ let r = mergeAll n s in (r .0, suc (r .1)) ]
 
 -- "Groups start as one part each": the parts k, k + 1, ..., n of them
-abbrev pub ones : ℕ → ℕ → List (List ℕ)
-ones k n = map (λ p. p ∷ []) (from k n)
+abbrev pub startGroups : ℕ → ℕ → List (List ℕ)
+startGroups k n = map (λ p. p ∷ []) (from k n)
 
 module _ (P : Setting) (block : ℕ → Block) where
   -- the blocks of a group's parts together
@@ -47,7 +43,12 @@ module _ (P : Setting) (block : ℕ → Block) where
 
   -- the groups that merging leaves of n parts, and how many merges were made
   unfoldable pub groups : ℕ → List (List ℕ)
-  groups n = run mergeable _++_ n (ones 0 n)
+  groups n = mergeAll mergeable _++_ n (startGroups 0 n) .0
 
   unfoldable pub mergesMade : ℕ → ℕ
-  mergesMade n = merges mergeable _++_ n (ones 0 n)
+  mergesMade n = mergeAll mergeable _++_ n (startGroups 0 n) .1
+
+-- "ordered by lowest part": the lowest part of a group, of n parts in all
+abbrev pub lowPart : ℕ → List ℕ → ℕ
+lowPart n [] = n
+lowPart n (p ∷ t) = min p (lowPart n t)

@@ -7,7 +7,8 @@ use mathlib.Core.List.{List, []}
 use mathlib.Core.Path.{_≡_, refl, ap, _∙_}
 use native.Mathlib.Nat.{zero-add}
 use Rattle.policy.specs.Covering.{cover, fits, levelOf}
-use Rattle.policy.specs.GroupLaws.{times, lowPart, parts-count, part-once, groups-parts, groups-ascending, groups-union, groups-some, groups-fit, rule, no-pair}
+use Rattle.policy.specs.GroupLaws.{times, parts-count, part-once, groups-parts, groups-ascending, groups-union, groups-some, groups-fit, rule, no-pair}
+use Rattle.policy.specs.Merging.{lowPart}
 use Rattle.policy.specs.MergeLaws.{total}
 use Rattle.policy.specs.Mined.{partCount, partAt, partBlock, minedGroups, mergeCount, groupBlock, ruleOf}
 use Rattle.policy.specs.PartLaws.{part-some, Own, part-fits}
@@ -17,7 +18,8 @@ use Rattle.policy.specs.Rules.{Setting, Rule, grants, at, ruleLevel, Tri
 use Rattle.policy.specs.ThinLaws.{written-exact, written-thin, written-level, no-lower}
 use Rattle.policy.specs.Thinning.{thinned, written}
 use Rattle.sets.specs.Sorted.{Ascending}
-use Rattle.sets.specs.Tests.{Is, _∈_, any, upTo, getD-in, any-places, any-ext}
+use Rattle.sets.specs.Tests.{Is, _isIn_, any, upTo}
+use Rattle.sets.specs.TestLaws.{getD-in, any-places, any-ext}
 
 module _ (P : Setting) (R : Roles) where
   pub record MinedRules : Type 0 where
@@ -25,24 +27,24 @@ module _ (P : Setting) (R : Roles) where
     pub triples : (u r o : ℕ) → Triple P u r o → any (λ g. grants P (ruleOf P R g) u r o) (minedGroups P R) ≡ rolesGrant P R u r o
     -- every part stands in exactly one group, and there once; the groups have no other members
     pub once : (p : ℕ) → p < partCount P R → total _+_ 0 (times p) (minedGroups P R) ≡ 1
-    pub members : (g : List ℕ) → g ∈ minedGroups P R → (p : ℕ) → p ∈ g → p < partCount P R
+    pub members : (g : List ℕ) → g isIn minedGroups P R → (p : ℕ) → p isIn g → p < partCount P R
     -- a group's block is not empty, and fits its level
-    pub filled : (g : List ℕ) → g ∈ minedGroups P R → Some P (groupBlock P R g)
-    pub fitting : (g : List ℕ) → g ∈ minedGroups P R → Is (fits P (groupBlock P R g) (levelOf P (groupBlock P R g)))
+    pub filled : (g : List ℕ) → g isIn minedGroups P R → Some P (groupBlock P R g)
+    pub fitting : (g : List ℕ) → g isIn minedGroups P R → Is (fits P (groupBlock P R g) (levelOf P (groupBlock P R g)))
     -- a rule grants what its parts do
-    pub exact : (g : List ℕ) → g ∈ minedGroups P R → Same P (grants P (ruleOf P R g)) (groupBlock P R g)
+    pub exact : (g : List ℕ) → g isIn minedGroups P R → Same P (grants P (ruleOf P R g)) (groupBlock P R g)
     -- no rule of a lower level could grant the same
-    pub lower : (g : List ℕ) → g ∈ minedGroups P R → (ρ : Rule) → Is (at P 3 ρ) → ruleLevel P ρ < ruleLevel P (ruleOf P R g) → Same P (grants P ρ) (grants P (ruleOf P R g)) → ⊥
+    pub lower : (g : List ℕ) → g isIn minedGroups P R → (ρ : Rule) → Is (at P 3 ρ) → ruleLevel P ρ < ruleLevel P (ruleOf P R g) → Same P (grants P ρ) (grants P (ruleOf P R g)) → ⊥
     -- for no two rules could a single one
     pub pairs : (i j : ℕ) → i < j → j < length (minedGroups P R) → (ρ : Rule) → Is (at P 3 ρ)
         → ruleLevel P ρ ≤ max (ruleLevel P (ruleOf P R (getD (minedGroups P R) i []))) (ruleLevel P (ruleOf P R (getD (minedGroups P R) j [])))
         → Same P (grants P ρ) (λ u r o. grants P (ruleOf P R (getD (minedGroups P R) i [])) u r o || grants P (ruleOf P R (getD (minedGroups P R) j [])) u r o) → ⊥
     -- striking one conjunct or atom would change the grants
-    pub thin : (g : List ℕ) → g ∈ minedGroups P R → (i : ℕ) → i < length (ruleOf P R g .conds) → Same P (grants P (struck i (ruleOf P R g))) (grants P (ruleOf P R g)) → ⊥
+    pub thin : (g : List ℕ) → g isIn minedGroups P R → (i : ℕ) → i < length (ruleOf P R g .conds) → Same P (grants P (struck i (ruleOf P R g))) (grants P (ruleOf P R g)) → ⊥
     -- the level of a rule is that of its parts' union
-    pub level : (g : List ℕ) → g ∈ minedGroups P R → ruleLevel P (ruleOf P R g) ≡ levelOf P (groupBlock P R g)
+    pub level : (g : List ℕ) → g isIn minedGroups P R → ruleLevel P (ruleOf P R g) ≡ levelOf P (groupBlock P R g)
     -- a rule is the covering rule of its parts at its level, thinned
-    pub shape : (g : List ℕ) → g ∈ minedGroups P R → ruleOf P R g ≡ thinned P (groupBlock P R g) (cover P (groupBlock P R g) (ruleLevel P (ruleOf P R g)))
+    pub shape : (g : List ℕ) → g isIn minedGroups P R → ruleOf P R g ≡ thinned P (groupBlock P R g) (cover P (groupBlock P R g) (ruleLevel P (ruleOf P R g)))
     -- the groups stand by lowest part
     pub order : Ascending (lowPart (partCount P R)) (minedGroups P R)
     pub counted : partCount P R ≡ length (minedGroups P R) + mergeCount P R
@@ -56,7 +58,7 @@ module _ (P : Setting) (R : Roles) where
     unfolding partBlock partAt partCount
     numbered-some p h = part-some P R (getD-in (parts P R) (record { role = 0; lead = 0 }) p h)
 
-    group-fits : (g : List ℕ) → g ∈ minedGroups P R → Is (fits P (groupBlock P R g) (levelOf P (groupBlock P R g)))
+    group-fits : (g : List ℕ) → g isIn minedGroups P R → Is (fits P (groupBlock P R g) (levelOf P (groupBlock P R g)))
     unfolding minedGroups groupBlock
     group-fits = groups-fit P (partBlock P R) L (partCount P R) numbered-fits
 
@@ -66,7 +68,7 @@ module _ (P : Setting) (R : Roles) where
         any-places (λ p. blockOf P R p u r o) (record { role = 0; lead = 0 }) 0 (parts P R) (λ p. getD (parts P R) p (record { role = 0; lead = 0 }))
         (λ i l. ap (λ (k : ℕ). getD (parts P R) k (record { role = 0; lead = 0 })) (zero-add i))
 
-    group-some : (g : List ℕ) → g ∈ minedGroups P R → Some P (groupBlock P R g)
+    group-some : (g : List ℕ) → g isIn minedGroups P R → Some P (groupBlock P R g)
     unfolding minedGroups groupBlock
     group-some = groups-some P (partBlock P R) (partCount P R) numbered-some
 

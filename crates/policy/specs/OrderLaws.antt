@@ -15,8 +15,10 @@ use Rattle.policy.specs.SideLaws.{admits-out, values-rising}
 use Rattle.policy.specs.StrikeLaws.{strike-within}
 use Rattle.policy.specs.ThinLaws.{written-exact}
 use Rattle.policy.specs.Thinning.{trim, strike, trimCond, grantsJust, thinned, written}
-use Rattle.sets.specs.Sorted.{Rising, Ascending, Before, keep-rising, append-rising, each-rising, only-rising, from-rising, none-left, and-then}
-use Rattle.sets.specs.Tests.{Is, _∈_, each, each-out, only, only-out, from, upTo, from-out, upTo-out, map-out}
+use Rattle.sets.specs.Sorted.{Rising, Ascending, none-left, and-then}
+use Rattle.sets.specs.SortedLaws.{Before, keep-rising, append-rising, each-rising, only-rising, from-rising}
+use Rattle.sets.specs.Tests.{Is, _isIn_, each, only, from, upTo}
+use Rattle.sets.specs.TestLaws.{each-out, only-out, from-out, upTo-out, map-out}
 
 -- ---- ascending lists
 
@@ -52,15 +54,15 @@ attrs-rising S N b = go 0 (S .attrs) (omega arith) b
     go k zero h false = none-left
     go k (suc n) h b = and-then {x = k} (λ y m. above y (List·Memᴰ·append-cases (from (suc k) n) m)) (go (suc k) n (omega arith) b)
       where
-        above : (y : ℕ) → (y ∈ from (suc k) n) ⊎ (y ∈ only b own) → k < y
+        above : (y : ℕ) → (y isIn from (suc k) n) ⊎ (y isIn only b own) → k < y
         above y (inl m) = let t = from-out (suc k) n m in omega arith
         above y (inr m) = let t = only-out b m in omega (arith, t .1)
 
-pub attrs-below : (S : Side) → Numbered S → (b : Bool) {a : ℕ} → a ∈ attrsOf S b → a < 256
+pub attrs-below : (S : Side) → Numbered S → (b : Bool) {a : ℕ} → a isIn attrsOf S b → a < 256
 unfolding attrsOf
 attrs-below S N b {a} m = go (List·Memᴰ·append-cases (upTo (S .attrs)) m)
   where
-    go : (a ∈ upTo (S .attrs)) ⊎ (a ∈ only b own) → a < 256
+    go : (a isIn upTo (S .attrs)) ⊎ (a isIn only b own) → a < 256
     go (inl k) = let t = upTo-out (S .attrs) k in omega arith
     go (inr k) = let t = only-out b k in omega (arith, t .1)
 
@@ -110,7 +112,7 @@ module _ (P : Setting) (N : (w : Which) → Numbered (P .side w)) where
       omega arith)
       (atoms-asc B) λ x y mx my. last x y (List·Memᴰ·append-cases (conjuncts P B l user) mx) my
     where
-      before : (w : Which) (x y : Cond) → x ∈ conjuncts P B l w → y ∈ atomConds P B → key x < key y
+      before : (w : Which) (x y : Cond) → x isIn conjuncts P B l w → y isIn atomConds P B → key x < key y
       before w x y m k =
           let s = conjuncts-out P B l w m in
           let t = atomConds-out P B k in
@@ -124,7 +126,7 @@ module _ (P : Setting) (N : (w : Which) → Numbered (P .side w)) where
           base user = omega arith
           base resource = omega arith
 
-      last : (x y : Cond) → (x ∈ conjuncts P B l user) ⊎ (x ∈ conjuncts P B l resource) → y ∈ atomConds P B → key x < key y
+      last : (x y : Cond) → (x isIn conjuncts P B l user) ⊎ (x isIn conjuncts P B l resource) → y isIn atomConds P B → key x < key y
       last x y (inl m) k = before user x y m k
       last x y (inr m) k = before resource x y m k
 
@@ -150,15 +152,15 @@ module _ (P : Setting) where
   trimmed (conjunct resource a vs) h = h
   trimmed (atom a b) h = tt
 
-  cover-values : (B : Block) (l : ℕ) (c : Cond) → c ∈ cover P B l .conds → Ordinary c
+  cover-values : (B : Block) (l : ℕ) (c : Cond) → c isIn cover P B l .conds → Ordinary c
   cover-values B l c m = go (cover-cases P B l m)
     where
-      go : ((w : Which) × (c ∈ conjuncts P B l w)) ⊎ (c ∈ atomConds P B) → Ordinary c
+      go : ((w : Which) × (c isIn conjuncts P B l w)) ⊎ (c isIn atomConds P B) → Ordinary c
       go (inl k) = let t = conjuncts-out P B l (k .0) (k .1) in subst Ordinary (sym (t .3)) (values-rising (P .side (k .0)) (standsIn P B (k .0)) (t .0))
       go (inr k) = let t = atomConds-out P B k in subst Ordinary (sym (t .5)) tt
 
   -- the values of a written conjunct ascend strictly
-  pub written-values : (B : Block) (c : Cond) → c ∈ written P B .conds → Ordinary c
+  pub written-values : (B : Block) (c : Cond) → c isIn written P B .conds → Ordinary c
   unfolding written thinned
   written-values B c m =
       let t = map-out (trimCond P) (cover P B (levelOf P B) .conds) (strike-within (grantsJust P B (cover P B (levelOf P B) .ops)) [] (map (trimCond P) (cover P B (levelOf P B) .conds)) c m) in
@@ -166,11 +168,11 @@ module _ (P : Setting) where
 
 -- a conjunct lists a value
 abbrev pub Says : Cond → Type 0
-Says (conjunct w a vs) = (v : ℕ) × (v ∈ vs)
+Says (conjunct w a vs) = (v : ℕ) × (v isIn vs)
 Says (atom a b) = Unit {0}
 
 -- a conjunct that somebody meets lists a value
-pub met-says : (S : Side) (a : ℕ) (vs : List ℕ) (w : ℕ) → Is (meets S a vs w) → (v : ℕ) × (v ∈ vs)
+pub met-says : (S : Side) (a : ℕ) (vs : List ℕ) (w : ℕ) → Is (meets S a vs w) → (v : ℕ) × (v isIn vs)
 unfolding meets
 met-says S a vs w h = let t = admits-out (S .below a) vs (S .value a w) h in (t .2, t .3)
 
@@ -181,8 +183,8 @@ module _ (P : Setting) (L : Lawful P) where
   holds-says (atom a b) u r h = tt
 
   -- each conjunct of a rule that grants something lists a value
-  pub grants-says : (ρ : Rule) (u r o : ℕ) → Is (grants P ρ u r o) → (c : Cond) → c ∈ ρ .conds → Says c
+  pub grants-says : (ρ : Rule) (u r o : ℕ) → Is (grants P ρ u r o) → (c : Cond) → c isIn ρ .conds → Says c
   grants-says ρ u r o g c m = holds-says c u r (grants-cond P ρ u r o g m)
 
-  pub written-says : (B : Block) → Is (fits P B (levelOf P B)) → Some P B → (c : Cond) → c ∈ written P B .conds → Says c
+  pub written-says : (B : Block) → Is (fits P B (levelOf P B)) → Some P B → (c : Cond) → c isIn written P B .conds → Says c
   written-says B f s = grants-says (written P B) (s .u) (s .r) (s .o) (written-exact P L B f (s .u) (s .r) (s .o) (s .triple) ∙ s .inside)

@@ -10,9 +10,12 @@ use Rattle.policy.specs.Covering.{fits}
 use Rattle.policy.specs.Roles.{Roles, Part, alike, leads, isPart, parts, blockOf, rolesGrant, someRoleGives}
 use Rattle.policy.specs.RuleLaws.{Lawful}
 use Rattle.policy.specs.Rules.{own, Setting, Rule, meets, attrsOf, holds, grants, allowed, at, Triple, Some, Same, user, resource, conjunct}
-use Rattle.sets.specs.Lowest.{lowestFrom, lowestFrom-misses, lowestFrom-passes, lowestFrom-most}
-use Rattle.sets.specs.Sets.{maskOf, bit-mask}
-use Rattle.sets.specs.Tests.{Is, and-in, and-l, and-r, never, fails, same, iff, iff-in, iff-out, _∈_, any, all-out, all-in, any-in, any-out, keep, keep-in, keep-out, each, each-in, each-out, only, only-in, only-out, upTo, upTo-in, upTo-out, elem, elem-in, elem-out, not-in}
+use Rattle.sets.specs.Lowest.{lowestFrom}
+use Rattle.sets.specs.LowestLaws.{lowestFrom-misses, lowestFrom-passes, lowestFrom-most}
+use Rattle.sets.specs.Sets.{maskOf}
+use Rattle.sets.specs.SetLaws.{bit-mask}
+use Rattle.sets.specs.Tests.{Is, iff, _isIn_, any, keep, each, only, upTo, elem}
+use Rattle.sets.specs.TestLaws.{and-in, and-l, and-r, never, fails, same, iff-in, iff-out, all-out, all-in, any-in, any-out, keep-in, keep-out, each-in, each-out, only-in, only-out, upTo-in, upTo-out, elem-in, elem-out, not-in}
 
 shuffle : (a b c : Bool) → (a && (b && (c && true))) ≡ (b && (c && a))
 shuffle true true true = refl
@@ -60,7 +63,7 @@ module _ (P : Setting) (R : Roles) where
         let e = lowestFrom-misses (λ q. alike P R k q o) 0 o (s .0) (omega arith) l in
         never (alike-in k (s .0) o (λ r lr. alike-out k (s .0) first r lr (s .2) ∙ alike-out k first o r lr first-alike)) e))
 
-    first-part : record { role = k; lead = first } ∈ parts P R
+    first-part : record { role = k; lead = first } isIn parts P R
     unfolding parts isPart
     first-part =
         let l = first-most in
@@ -69,7 +72,7 @@ module _ (P : Setting) (R : Roles) where
         (each-in (λ o. only (isPart P R k o) (record { role = k; lead = o })) (upTo-in {n = P .slots} {i = first} (omega arith))
         (only-in _ (and-in (any-in (λ u. R .held k u) (upTo-in (t .user)) hu) first-leads)))
 
-  pub parts-out : {p : Part} → p ∈ parts P R → (p .role < R .number) × (p .lead < P .slots) × Is (isPart P R (p .role) (p .lead))
+  pub parts-out : {p : Part} → p isIn parts P R → (p .role < R .number) × (p .lead < P .slots) × Is (isPart P R (p .role) (p .lead))
   unfolding parts
   parts-out {p} m =
       let t = each-out (λ k. each (λ o. only (isPart P R k o) (record { role = k; lead = o })) (upTo (P .slots))) (upTo (R .number)) m in
@@ -78,7 +81,7 @@ module _ (P : Setting) (R : Roles) where
       rw (q .1) (upTo-out (R .number) (t .1), upTo-out (P .slots) (s .1), q .0)
 
   -- a role with a holder and the lowest operation of a class of it make a part
-  pub parts-in : (k o : ℕ) → k < R .number → o < P .slots → Is (any (λ u. R .held k u) (upTo (P .side user .count))) → Is (any (λ r. R .gives k r o) (upTo (P .side resource .count))) → any (λ q. alike P R k q o) (upTo o) ≡ false → record { role = k; lead = o } ∈ parts P R
+  pub parts-in : (k o : ℕ) → k < R .number → o < P .slots → Is (any (λ u. R .held k u) (upTo (P .side user .count))) → Is (any (λ r. R .gives k r o) (upTo (P .side resource .count))) → any (λ q. alike P R k q o) (upTo o) ≡ false → record { role = k; lead = o } isIn parts P R
   unfolding parts isPart leads
   parts-in k o lk lo hu hr hn =
       each-in (λ k. each (λ o. only (isPart P R k o) (record { role = k; lead = o })) (upTo (P .slots))) (upTo-in lk)
@@ -104,7 +107,7 @@ module _ (P : Setting) (R : Roles) where
       any-in (λ p. blockOf P R p u r o) (first-part k u r o t lk hu ho) (and-in hu (and-in (first-gives k u r o t lk hu ho) (first-alike k u r o t lk hu ho))))
 
   -- a part's block is not empty
-  pub part-some : {p : Part} → p ∈ parts P R → Some P (blockOf P R p)
+  pub part-some : {p : Part} → p isIn parts P R → Some P (blockOf P R p)
   unfolding isPart leads blockOf
   part-some {p} m =
       let t = parts-out m in
@@ -143,5 +146,5 @@ module _ (P : Setting) (R : Roles) where
         (shuffle (alike P R (p .role) (p .lead) o) (R .held (p .role) u) (R .gives (p .role) r (p .lead)))
 
     -- a part fits level 3
-    pub part-fits : (p : Part) → p ∈ parts P R → Is (fits P (blockOf P R p) 3)
+    pub part-fits : (p : Part) → p isIn parts P R → Is (fits P (blockOf P R p) 3)
     part-fits p m = exact-fits P L (blockOf P R p) 3 (ownRule p) (ownRule-at p) (ownRule-exact p (parts-out m .0))

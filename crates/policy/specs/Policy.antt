@@ -7,7 +7,7 @@ use mathlib.Core.Bool.{Bool, true, false, cond, _&&_, _||_}
 use mathlib.Core.List.{List}
 use mathlib.Core.Option.{Option, some}
 use Rattle.policy.specs.Roles.{Roles}
-use Rattle.policy.specs.Rules.{own, Side, Which, by, Setting}
+use Rattle.policy.specs.Rules.{own, Side, Which, by, Setting, user, resource}
 use Rattle.sets.specs.Sets.{subset, maskOf}
 use Rattle.sets.specs.Tests.{Is, any, upTo}
 
@@ -48,10 +48,12 @@ module _ (line : ℕ → ℕ → Bool) where
   reach zero i j = line i j
   reach (suc n) i j = reach n i j || (reach n i n && reach n n j)
 
--- whether a listed value is met: containment, or equality
-abbrev pub order : Bool → ℕ → ℕ → Bool
-order true x y = subset x y
-order false x y = eqb x y
+-- side, is it a set; a listed value, somebody's value: "A single attribute must equal one value. A user set must contain one
+-- listed set whole; a resource set must equal one."
+abbrev pub meetsValue : Which → Bool → ℕ → ℕ → Bool
+meetsValue user true v x = subset v x
+meetsValue user false v x = eqb v x
+meetsValue resource set v x = eqb v x
 
 module _ (F : Policy) where
   -- role k has the senior s
@@ -77,14 +79,14 @@ module _ (F : Policy) where
   unfoldable pub valueAt : Which → ℕ → ℕ → Option ℕ
   valueAt w a x = cond (eqb a own) (some (by w (rolesOf x) x)) (F .table w .value a x)
 
-  -- "A single attribute must equal one value. A user set must contain one listed set whole; a resource set must equal one."
+  -- one side of the policy
   unfoldable pub sideOf : Which → Side
   sideOf w = record {
     count = F .table w .count;
     attrs = length (F .table w .kinds);
     isSet = isSetAt w;
     value = valueAt w;
-    below = λ a. order (by w (isSetAt w a) false);
+    below = λ a. meetsValue w (isSetAt w a);
   }
 
   unfoldable pub settingOf : Setting

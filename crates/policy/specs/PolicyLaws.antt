@@ -7,28 +7,32 @@ use mathlib.Core.Bool.{Bool, true, false, _&&_}
 use mathlib.Core.Path.{_≡_, refl, sym, _∙_}
 use Rattle.policy.specs.MinedLaws.{MinedRules, mined-rules}
 use Rattle.policy.specs.PartLaws.{alike-out, roles-grant, Own}
-use Rattle.policy.specs.Policy.{Policy, order, senior, held, rolesOf, isSetAt, valueAt, sideOf, settingOf, rolesIn}
+use Rattle.policy.specs.Policy.{Policy, meetsValue, senior, held, rolesOf, isSetAt, valueAt, sideOf, settingOf, rolesIn}
 use Rattle.policy.specs.Roles.{Part, blockOf, rolesGrant, someRoleGives}
 use Rattle.policy.specs.RuleLaws.{Lawful}
-use Rattle.policy.specs.Rules.{by, meets, Triple, resource}
+use Rattle.policy.specs.Rules.{Which, meets, Triple, user, resource}
 use Rattle.sets.specs.MaskLaws.{or-false}
-use Rattle.sets.specs.Sets.{subset, subset-self, subset-chain, one-subset, bit-mask}
-use Rattle.sets.specs.Tests.{Is, and-in, and-l, and-r, or-r, same, any, any-in, upTo, upTo-in, any-ext}
+use Rattle.sets.specs.Sets.{subset}
+use Rattle.sets.specs.SetLaws.{subset-self, subset-chain, one-subset, bit-mask}
+use Rattle.sets.specs.Tests.{Is, any, upTo}
+use Rattle.sets.specs.TestLaws.{and-in, and-l, and-r, or-r, same, any-in, upTo-in, any-ext}
 
-order-self : (b : Bool) (x : ℕ) → Is (order b x x)
-order-self true x = subset-self x
-order-self false x = eq-eqb x x refl
+value-self : (w : Which) (set : Bool) (x : ℕ) → Is (meetsValue w set x x)
+value-self user true x = subset-self x
+value-self user false x = eq-eqb x x refl
+value-self resource set x = eq-eqb x x refl
 
-order-chain : (b : Bool) (x y z : ℕ) → Is (order b x y) → Is (order b y z) → Is (order b x z)
-order-chain true x y z p q = subset-chain x y z p q
-order-chain false x y z p q = rw (eqb-true x y p) q
+value-chain : (w : Which) (set : Bool) (x y z : ℕ) → Is (meetsValue w set x y) → Is (meetsValue w set y z) → Is (meetsValue w set x z)
+value-chain user true x y z p q = subset-chain x y z p q
+value-chain user false x y z p q = rw (eqb-true x y p) q
+value-chain resource set x y z p q = rw (eqb-true x y p) q
 
 module _ (F : Policy) where
   pub lawful : Lawful (settingOf F)
   unfolding settingOf sideOf
   lawful w = record {
-    self = λ a x. order-self (by w (isSetAt F w a) false) x;
-    chain = λ a x y z. order-chain (by w (isSetAt F w a) false) x y z;
+    self = λ a x. value-self w (isSetAt F w a) x;
+    chain = λ a x y z. value-chain w (isSetAt F w a) x y z;
   }
 
   pub owned : Own (settingOf F) (rolesIn F)

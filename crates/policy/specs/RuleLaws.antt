@@ -4,14 +4,15 @@ use Prim.Native.Nat.{ℕ}
 use Rattle.policy.specs.Rules.{Which, Setting, Cond, Rule, Block, holds, grants, Same, sameBlock, user, resource}
 use Rattle.policy.specs.SideLaws.{Ordered}
 use Rattle.sets.specs.Sets.{bit}
-use Rattle.sets.specs.Tests.{Is, and-in, and-l, and-r, iff, iff-in, iff-out, _∈_, all, all-out, all-in, upTo, upTo-in, upTo-out}
+use Rattle.sets.specs.Tests.{Is, iff, _isIn_, all, upTo}
+use Rattle.sets.specs.TestLaws.{and-in, and-l, and-r, iff-in, iff-out, all-out, all-in, upTo-in, upTo-out}
 
 -- what the theory asks of both sides
 abbrev pub Lawful : Setting → Type 0
 Lawful P = (w : Which) → Ordered (P .side w)
 
 module _ (P : Setting) where
-  pub grants-in : (ρ : Rule) (u r o : ℕ) → Is (bit (ρ .ops) o) → ((c : Cond) → c ∈ ρ .conds → Is (holds P c u r)) → Is (grants P ρ u r o)
+  pub grants-in : (ρ : Rule) (u r o : ℕ) → Is (bit (ρ .ops) o) → ((c : Cond) → c isIn ρ .conds → Is (holds P c u r)) → Is (grants P ρ u r o)
   unfolding grants
   grants-in ρ u r o p q = and-in p (all-in (λ c. holds P c u r) (ρ .conds) q)
 
@@ -19,7 +20,7 @@ module _ (P : Setting) where
   unfolding grants
   grants-op ρ u r o h = and-l (bit (ρ .ops) o) _ h
 
-  pub grants-cond : (ρ : Rule) (u r o : ℕ) → Is (grants P ρ u r o) → {c : Cond} → c ∈ ρ .conds → Is (holds P c u r)
+  pub grants-cond : (ρ : Rule) (u r o : ℕ) → Is (grants P ρ u r o) → {c : Cond} → c isIn ρ .conds → Is (holds P c u r)
   unfolding grants
   grants-cond ρ u r o h m = all-out (λ c. holds P c u r) (and-r (bit (ρ .ops) o) _ h) m
 

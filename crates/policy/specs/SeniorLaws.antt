@@ -8,7 +8,8 @@ use mathlib.Core.Logic.{_⊎_, inl, inr}
 use mathlib.Core.Path.{_≡_}
 use native.Mathlib.Omega.{arith}
 use Rattle.policy.specs.Policy.{Senior, reach, one, more}
-use Rattle.sets.specs.Tests.{Is, and-in, and-l, and-r, or-l, or-r, or-out, test}
+use Rattle.sets.specs.Tests.{Is}
+use Rattle.sets.specs.TestLaws.{and-in, and-l, and-r, or-l, or-r, or-out, test}
 
 module _ (line : ℕ → ℕ → Bool) where
   join : {i j k : ℕ} → Senior line i k → Senior line k j → Senior line i j

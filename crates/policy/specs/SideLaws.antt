@@ -8,32 +8,34 @@ use mathlib.Core.Option.{Option, none, some}
 use mathlib.Core.Path.{_≡_, refl, sym, ap}
 use Rattle.policy.specs.Covering.{known, allKnow, valuesOf}
 use Rattle.policy.specs.Rules.{Side, admits, meets}
-use Rattle.sets.specs.Sorted.{Rising, Before, sort-in, sort-out, sort-rising, numbers}
-use Rattle.sets.specs.Tests.{Is, _∈_, all-out, all-in, any-in, any-out, keep, keep-in, keep-out, each, each-in, each-out, upTo, upTo-in, upTo-out, isSome, isSome-out}
+use Rattle.sets.specs.Sorted.{Rising}
+use Rattle.sets.specs.SortedLaws.{Before, sort-in, sort-out, sort-rising, numbers}
+use Rattle.sets.specs.Tests.{Is, _isIn_, keep, each, upTo, isSome}
+use Rattle.sets.specs.TestLaws.{all-out, all-in, any-in, any-out, keep-in, keep-out, each-in, each-out, upTo-in, upTo-out, isSome-out}
 
 -- what the theory asks of `below`
 pub record Ordered (S : Side) : Type 0 where
   pub self : (a x : ℕ) → Is (S .below a x x)
   pub chain : (a x y z : ℕ) → Is (S .below a x y) → Is (S .below a y z) → Is (S .below a x z)
 
-pub known-out : (o : Option ℕ) {x : ℕ} → x ∈ known o → o ≡ some x
+pub known-out : (o : Option ℕ) {x : ℕ} → x isIn known o → o ≡ some x
 known-out none m = absurd (List·Memᴰ·not-nil m)
 known-out (some y) (List·Memᴰ·head e) = ap some (sym e)
 known-out (some y) (List·Memᴰ·tail m) = absurd (List·Memᴰ·not-nil m)
 
-pub admits-out : (le : ℕ → ℕ → Bool) (vs : List ℕ) (o : Option ℕ) → Is (admits le vs o) → (x : ℕ) × (o ≡ some x) × (v : ℕ) × (v ∈ vs) × Is (le v x)
+pub admits-out : (le : ℕ → ℕ → Bool) (vs : List ℕ) (o : Option ℕ) → Is (admits le vs o) → (x : ℕ) × (o ≡ some x) × (v : ℕ) × (v isIn vs) × Is (le v x)
 admits-out le vs none h = absurd (false≢true h)
 admits-out le vs (some x) h = let t = any-out (λ v. le v x) vs h in (x, refl, t .0, t .1, t .2)
 
-pub admits-in : (le : ℕ → ℕ → Bool) {vs : List ℕ} {o : Option ℕ} {x v : ℕ} → o ≡ some x → v ∈ vs → Is (le v x) → Is (admits le vs o)
+pub admits-in : (le : ℕ → ℕ → Bool) {vs : List ℕ} {o : Option ℕ} {x v : ℕ} → o ≡ some x → v isIn vs → Is (le v x) → Is (admits le vs o)
 admits-in le {vs} {o} {x} {v} e m h = rw e (any-in (λ v. le v x) m h)
 
 module _ (S : Side) where
-  pub values-in : (W : ℕ → Bool) (a : ℕ) {w x : ℕ} → w < S .count → Is (W w) → S .value a w ≡ some x → x ∈ valuesOf S W a
+  pub values-in : (W : ℕ → Bool) (a : ℕ) {w x : ℕ} → w < S .count → Is (W w) → S .value a w ≡ some x → x isIn valuesOf S W a
   unfolding valuesOf
   values-in W a l h e = sort-in ltb numbers (each-in (λ w. known (S .value a w)) (keep-in W (upTo-in l) h) (rw e (List·Memᴰ·head refl)))
 
-  pub values-out : (W : ℕ → Bool) (a : ℕ) {x : ℕ} → x ∈ valuesOf S W a → (w : ℕ) × (w < S .count) × Is (W w) × (S .value a w ≡ some x)
+  pub values-out : (W : ℕ → Bool) (a : ℕ) {x : ℕ} → x isIn valuesOf S W a → (w : ℕ) × (w < S .count) × Is (W w) × (S .value a w ≡ some x)
   unfolding valuesOf
   values-out W a m =
       let t = each-out (λ w. known (S .value a w)) (keep W (upTo (S .count))) (sort-out ltb _ m) in
@@ -52,7 +54,7 @@ module _ (S : Side) where
   unfolding allKnow meets
   side-known W a vs h = all-in (λ w. isSome (S .value a w)) (keep W (upTo (S .count))) one
     where
-      one : (w : ℕ) → w ∈ keep W (upTo (S .count)) → Is (isSome (S .value a w))
+      one : (w : ℕ) → w isIn keep W (upTo (S .count)) → Is (isSome (S .value a w))
       one w m =
           let k = keep-out W (upTo (S .count)) m in
           let t = admits-out (S .below a) vs (S .value a w) (h w (upTo-out (S .count) (k .0)) (k .1)) in

@@ -8,17 +8,18 @@ use mathlib.Core.Logic.{_⊎_, inl, inr}
 use mathlib.Core.Path.{_≡_, refl}
 use native.Mathlib.Omega.{arith}
 use Rattle.policy.specs.Thinning.{strike}
-use Rattle.sets.specs.Tests.{Is, never, fails, _∈_, without}
+use Rattle.sets.specs.Tests.{Is, _isIn_, without}
+use Rattle.sets.specs.TestLaws.{never, fails}
 
 -- all members of one list stand in the other
 abbrev pub _⊑_ {ℓ} : {A : Type ℓ} → List A → List A → Type ℓ
-_⊑_ {A = A} s t = (c : A) → c ∈ s → c ∈ t
+_⊑_ {A = A} s t = (c : A) → c isIn s → c isIn t
 
 infix 50 _⊑_
 pub sub-append {ℓ} : {A : Type ℓ} (p : List A) {s t : List A} → s ⊑ t → p ++ s ⊑ p ++ t
 sub-append p {s} {t} h c m = go (List·Memᴰ·append-cases p m)
   where
-    go : (c ∈ p) ⊎ (c ∈ s) → c ∈ p ++ t
+    go : (c isIn p) ⊎ (c isIn s) → c isIn p ++ t
     go (inl k) = Memᴰ·append-left t k
     go (inr k) = Memᴰ·append-right p (h c k)
 
@@ -27,7 +28,7 @@ module _ {C : Type 0} (ok : List C → Bool) where
   strike-within pre [] c m = m
   strike-within pre (c ∷ t) k m = go (ok (pre ++ t)) (strike-within pre t) (strike-within (pre ++ (c ∷ [])) t) m
     where
-      go : (b : Bool) → strike ok pre t ⊑ t → strike ok (pre ++ (c ∷ [])) t ⊑ t → k ∈ cond b (strike ok pre t) (c ∷ (strike ok) (pre ++ (c ∷ [])) t) → k ∈ (c ∷ t)
+      go : (b : Bool) → strike ok pre t ⊑ t → strike ok (pre ++ (c ∷ [])) t ⊑ t → k isIn cond b (strike ok pre t) (c ∷ (strike ok) (pre ++ (c ∷ [])) t) → k isIn (c ∷ t)
       go true f g m = List·Memᴰ·tail (f k m)
       go false f g (List·Memᴰ·head e) = List·Memᴰ·head e
       go false f g (List·Memᴰ·tail n) = List·Memᴰ·tail (g k n)

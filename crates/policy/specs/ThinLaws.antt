@@ -17,16 +17,17 @@ use Rattle.policy.specs.SideLaws.{admits-out, admits-in}
 use Rattle.policy.specs.StrikeLaws.{_⊑_, strike-within, strike-passes, strike-final}
 use Rattle.policy.specs.Thinning.{trim, trimCond, grantsJust, thinned, written}
 use Rattle.policy.specs.TrimLaws.{trim-out, trim-in}
-use Rattle.sets.specs.Lowest.{lowest-passes, lowest-least}
-use Rattle.sets.specs.Tests.{Is, and-in, never, same, _∈_, all-out, all-in, only, only-out, upTo, elem, elem-in, elem-out, map-in, map-out}
+use Rattle.sets.specs.LowestLaws.{lowest-passes, lowest-least}
+use Rattle.sets.specs.Tests.{Is, _isIn_, only, upTo, elem}
+use Rattle.sets.specs.TestLaws.{and-in, never, same, all-out, all-in, only-out, elem-in, elem-out, map-in, map-out}
 
 module _ (P : Setting) where
   -- the conditions of a covering rule are of its level, and trimming leaves them there
-  pub cover-allowed : (B : Block) (l : ℕ) {c : Cond} → c ∈ cover P B l .conds → Is (allowed P l c)
+  pub cover-allowed : (B : Block) (l : ℕ) {c : Cond} → c isIn cover P B l .conds → Is (allowed P l c)
   unfolding allowed
   cover-allowed B l {c} m = go (cover-cases P B l m)
     where
-      go : ((w : Which) × (c ∈ conjuncts P B l w)) ⊎ (c ∈ atomConds P B) → Is (allowed P l c)
+      go : ((w : Which) × (c isIn conjuncts P B l w)) ⊎ (c isIn atomConds P B) → Is (allowed P l c)
       go (inl k) = let t = conjuncts-out P B l (k .0) (k .1) in rw (t .3) (elem-in (t .1))
       go (inr k) = let t = atomConds-out P B k in rw (t .5) (and-in (lt-ltb (t .0) _ (t .2)) (lt-ltb (t .1) _ (t .3)))
 
@@ -44,7 +45,7 @@ module _ (P : Setting) where
   unfolding attrsOf
   attrs-3 S b a h = go (List·Memᴰ·append-cases (upTo (S .attrs)) (elem-out a _ h))
     where
-      go : (a ∈ upTo (S .attrs)) ⊎ (a ∈ only b own) → Is (elem a (upTo (S .attrs) ++ only true own))
+      go : (a isIn upTo (S .attrs)) ⊎ (a isIn only b own) → Is (elem a (upTo (S .attrs) ++ only true own))
       go (inl k) = elem-in (Memᴰ·append-left (only true own) k)
       go (inr k) = elem-in (Memᴰ·append-right (upTo (S .attrs)) (List·Memᴰ·head (only-out b k .1)))
 

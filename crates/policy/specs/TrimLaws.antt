@@ -6,10 +6,11 @@ use mathlib.Core.List.{List, [], _∷_, List·Memᴰ·head, List·Memᴰ·tail, 
 use mathlib.Core.Logic.{_⊎_, inl, inr}
 use mathlib.Core.Path.{_≡_, refl, sym}
 use Rattle.policy.specs.Thinning.{strictly, trim}
-use Rattle.sets.specs.Tests.{Is, and-l, and-r, never, test, fails, _∈_, any, any-out, keep-in, keep-out}
+use Rattle.sets.specs.Tests.{Is, _isIn_, any}
+use Rattle.sets.specs.TestLaws.{and-l, and-r, never, test, fails, any-out, keep-in, keep-out}
 
 module _ (le : ℕ → ℕ → Bool) where
-  pub trim-out : (vs : List ℕ) {v : ℕ} → v ∈ trim le vs → v ∈ vs
+  pub trim-out : (vs : List ℕ) {v : ℕ} → v isIn trim le vs → v isIn vs
   unfolding trim
   trim-out vs m = keep-out (λ v. not (any (λ w. strictly le w v) vs)) vs m .0
 
@@ -24,23 +25,23 @@ module _ (le : ℕ → ℕ → Bool) where
     -- below each value lies one that no member of the list lies strictly below
     record Bottom (s : List ℕ) (x : ℕ) : Type 0 where
       low : ℕ
-      place : (low ≡ x) ⊎ (low ∈ s)
+      place : (low ≡ x) ⊎ (low isIn s)
       under : Is (le low x)
-      least : (w : ℕ) → w ∈ s → strictly le w low ≡ false
+      least : (w : ℕ) → w isIn s → strictly le w low ≡ false
 
     bottom : (s : List ℕ) (x : ℕ) → Bottom s x
     bottom [] x = record { low = x; place = inl refl; under = self x; least = λ w m. absurd (List·Memᴰ·not-nil m) }
     bottom (w ∷ s) x = test (strictly le w (bottom s x .low)) (lower (bottom s x) (bottom s w)) (stay (bottom s x))
       where
-        up : {y : ℕ} → (y ≡ x) ⊎ (y ∈ s) → (y ≡ x) ⊎ (y ∈ (w ∷ s))
+        up : {y : ℕ} → (y ≡ x) ⊎ (y isIn s) → (y ≡ x) ⊎ (y isIn (w ∷ s))
         up (inl e) = inl e
         up (inr m) = inr (List·Memᴰ·tail m)
 
-        down : {y : ℕ} → (y ≡ w) ⊎ (y ∈ s) → y ∈ (w ∷ s)
+        down : {y : ℕ} → (y ≡ w) ⊎ (y isIn s) → y isIn (w ∷ s)
         down (inl e) = List·Memᴰ·head e
         down (inr m) = List·Memᴰ·tail m
 
-        grow : (y : ℕ) → strictly le w y ≡ false → ((k : ℕ) → k ∈ s → strictly le k y ≡ false) → (k : ℕ) → k ∈ (w ∷ s) → strictly le k y ≡ false
+        grow : (y : ℕ) → strictly le w y ≡ false → ((k : ℕ) → k isIn s → strictly le k y ≡ false) → (k : ℕ) → k isIn (w ∷ s) → strictly le k y ≡ false
         grow y e f k (List·Memᴰ·head q) = rw q e
         grow y e f k (List·Memᴰ·tail m) = f k m
 
@@ -55,13 +56,13 @@ module _ (le : ℕ → ℕ → Bool) where
           least = grow (d .low) (not-strictly w (d .low) (d .under)) (d .least);
         }
 
-    pub trim-in : (vs : List ℕ) {v : ℕ} → v ∈ vs → (m : ℕ) × (m ∈ trim le vs) × Is (le m v)
+    pub trim-in : (vs : List ℕ) {v : ℕ} → v isIn vs → (m : ℕ) × (m isIn trim le vs) × Is (le m v)
     unfolding trim
     trim-in vs {v} k =
         let b = bottom vs v in
         (b .low, keep-in (λ v. not (any (λ w. strictly le w v) vs)) (place-in (b .place)) (passes b), b .under)
       where
-        place-in : {y : ℕ} → (y ≡ v) ⊎ (y ∈ vs) → y ∈ vs
+        place-in : {y : ℕ} → (y ≡ v) ⊎ (y isIn vs) → y isIn vs
         place-in (inl e) = rw e k
         place-in (inr m) = m
 

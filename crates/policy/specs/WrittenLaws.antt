@@ -21,8 +21,10 @@ use Rattle.policy.specs.ThinLaws.{at-3, written-exact, written-at}
 use Rattle.policy.specs.Thinning.{trimCond, grantsJust, thinned, written}
 use Rattle.policy.specs.TrimLaws.{trim-out}
 use Rattle.sets.specs.MaskLaws.{mask-lt}
-use Rattle.sets.specs.Sets.{bit, bit-none, maskOf, bit-mask}
-use Rattle.sets.specs.Tests.{Is, and-in, never, test, _∈_, all-out, all-in, map-out, isSome}
+use Rattle.sets.specs.Sets.{bit, maskOf}
+use Rattle.sets.specs.SetLaws.{bit-none, bit-mask}
+use Rattle.sets.specs.Tests.{Is, _isIn_, isSome}
+use Rattle.sets.specs.TestLaws.{and-in, never, test, all-out, all-in, map-out}
 
 -- ---- masks
 
@@ -34,7 +36,7 @@ mask-some n f i l h = test (ltb 0 (maskOf n f)) (λ p. ltb-true 0 (maskOf n f) p
 
 -- ---- a list with a member
 
-pub member-length {ℓ} : {A : Type ℓ} {l : List A} {x : A} → x ∈ l → 0 < length l
+pub member-length {ℓ} : {A : Type ℓ} {l : List A} {x : A} → x isIn l → 0 < length l
 member-length (List·Memᴰ·head e) = omega arith
 member-length (List·Memᴰ·tail m) = omega arith
 
@@ -45,7 +47,7 @@ module _ (P : Setting) where
 
   -- each listed value is somebody's
   abbrev pub AllHad : Cond → Type 0
-  AllHad (conjunct w a vs) = (v : ℕ) → v ∈ vs → Had w a v
+  AllHad (conjunct w a vs) = (v : ℕ) → v isIn vs → Had w a v
   AllHad (atom a b) = Unit {0}
 
   trim-had : (c : Cond) → AllHad c → AllHad (trimCond P c)
@@ -54,15 +56,15 @@ module _ (P : Setting) where
   trim-had (conjunct resource a vs) h = h
   trim-had (atom a b) h = tt
 
-  cover-had : (B : Block) (l : ℕ) (c : Cond) → c ∈ cover P B l .conds → AllHad c
+  cover-had : (B : Block) (l : ℕ) (c : Cond) → c isIn cover P B l .conds → AllHad c
   cover-had B l c m = go (cover-cases P B l m)
     where
-      go : ((w : Which) × (c ∈ conjuncts P B l w)) ⊎ (c ∈ atomConds P B) → AllHad c
+      go : ((w : Which) × (c isIn conjuncts P B l w)) ⊎ (c isIn atomConds P B) → AllHad c
       go (inl k) = let t = conjuncts-out P B l (k .0) (k .1) in subst AllHad (sym (t .3)) (λ v n. let s = values-out (P .side (k .0)) (standsIn P B (k .0)) (t .0) n in (s .0, s .1, s .3))
       go (inr k) = let t = atomConds-out P B k in subst AllHad (sym (t .5)) tt
 
   -- each value that a written rule lists is somebody's
-  pub written-had : (B : Block) (c : Cond) → c ∈ written P B .conds → AllHad c
+  pub written-had : (B : Block) (c : Cond) → c isIn written P B .conds → AllHad c
   unfolding written thinned
   written-had B c m =
       let t = map-out (trimCond P) (cover P B (levelOf P B) .conds) (strike-within (grantsJust P B (cover P B (levelOf P B) .ops)) [] (map (trimCond P) (cover P B (levelOf P B) .conds)) c m) in
@@ -94,11 +96,11 @@ module _ (P : Setting) where
 
   module _ (L : Lawful P) (B : Block) (fit : Is (fits P B (levelOf P B))) where
     -- all of a written rule's conditions are of this section
-    pub written-allowed : (c : Cond) → c ∈ written P B .conds → Is (allowed P 3 c)
+    pub written-allowed : (c : Cond) → c isIn written P B .conds → Is (allowed P 3 c)
     unfolding at
     written-allowed c m = all-out (allowed P 3) (at-3 P (levelOf P B) (written P B) (written-at P L B fit)) m
 
-    pub written-formed : Some P B → (c : Cond) → c ∈ written P B .conds → Is (wellFormed P c)
+    pub written-formed : Some P B → (c : Cond) → c isIn written P B .conds → Is (wellFormed P c)
     written-formed s c m = holds-formed c (s .u) (s .r) (grants-cond P (written P B) (s .u) (s .r) (s .o) (written-exact P L B fit (s .u) (s .r) (s .o) (s .triple) ∙ s .inside) m)
 
     -- a written rule is a rule of 01's section

@@ -10,19 +10,20 @@ use mathlib.Core.Logic.{_⊎_, inl, inr}
 use mathlib.Core.Option.{some}
 use mathlib.Core.Path.{_≡_, refl, sym, ap, ap₂, _∙_, subst}
 use native.Mathlib.Omega.{arith}
-use Rattle.admit.specs.AdmitLaws.{phaseCode, Sized, side-attributes}
+use Rattle.admit.specs.AdmitLaws.{phaseCode, side-attributes}
+use Rattle.loaded.specs.Record.{Sized, knownTable, valueTable, assignedTable, lineTable, permissionTable, attributeTable, kindTable, recordWith, recordSoFar, setKinds, setValues, setAssigned, setLines, setPermissions}
 use Rattle.commands.specs.DecodeLaws.{meaning}
 use Rattle.files.specs.Answer.{Answer, unless, andThen, outOfPlace, beyond, wrongKind, accepted}
 use Rattle.files.specs.BytesLaws.{Carries, unless-carries, then-carries}
 use Rattle.files.specs.LineLaws.{same-side}
 use Rattle.files.specs.RoleFile.{Phase, Loading, blank, sideBy, sameSide, withTable, withKind, withValue, withAssigned, withPermitted, withLine, isNothing, isDeclaring, enter, takeKind, takeValue, takeAssignment, takePermission, takeLine, takeSizes, obeyRole, nothing, declaring, telling}
 use Rattle.files.specs.RuleFile.{value}
-use Rattle.loaded.specs.Record.{knownTable, valueTable, assignedTable, lineTable, permissionTable, attributeTable, kindTable, recordWith, recordSoFar, setKinds, setValues, setAssigned, setLines, setPermissions}
 use Rattle.loaded.specs.RecordLaws.{assigned-marked, line-marked, permission-marked, known-marked, value-stored, kind-marked, attribute-counted, kind-values}
 use Rattle.policy.specs.Policy.{Table, Policy, kindOf}
 use Rattle.policy.specs.Rules.{Which, by, user, resource}
 use Rattle.rolefile.specs.Reading.{applied, phaseAfter}
-use Rattle.sets.specs.Tests.{Is, and-l, and-r, or-out, iff, isSome}
+use Rattle.sets.specs.Tests.{Is, iff, isSome}
+use Rattle.sets.specs.TestLaws.{and-l, and-r, or-out}
 use Rattle.loaded.specs.declared.RoleFile.{RoleFile}
 use Rattle.commands.specs.declared.Command.{Command}
 use Rattle.commands.specs.declared.Command.the-variants.{Sizes, Declare, Give, Assign, Permit, Line, End}

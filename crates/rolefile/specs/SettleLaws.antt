@@ -6,9 +6,8 @@ use mathlib.Core.Bool.{Bool, true, false, cond, _&&_, _||_, not}
 use mathlib.Core.List.{List}
 use mathlib.Core.Path.{_≡_, refl, sym, ap, ap₂, _∙_}
 use native.Mathlib.Omega.{arith}
-use Rattle.admit.specs.AdmitLaws.{Sized}
+use Rattle.loaded.specs.Record.{Sized, tableOf, assignedTable, lineTable, recordWith, recordSoFar, recordOf, setDerived}
 use Rattle.files.specs.Answer.{unless, ownSenior, accepted}
-use Rattle.loaded.specs.Record.{tableOf, assignedTable, lineTable, recordWith, recordSoFar, recordOf, setDerived}
 use Rattle.loaded.specs.RecordLaws.{table-bits}
 use Rattle.policy.specs.Policy.{Policy, reach, senior, circular, held}
 use Rattle.policy.specs.Rules.{user}

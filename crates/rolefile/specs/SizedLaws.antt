@@ -3,11 +3,12 @@
 use Prim.Native.Nat.{ℕ, suc}
 use lib.Dec.{leb}
 use lib.ListN.{length, set}
-use mathlib.Core.Bool.{not}
+use mathlib.Core.Bool.{not, false}
 use mathlib.Core.List.{List}
 use mathlib.Core.Path.{_≡_, refl, sym, ap, _∙_, subst}
 use native.Mathlib.Omega.{arith}
-use Rattle.admit.specs.AdmitLaws.{phaseCode, Sized}
+use Rattle.admit.specs.AdmitLaws.{phaseCode}
+use Rattle.loaded.specs.Record.{Sized}
 use Rattle.commands.specs.DecodeLaws.{meaning}
 use Rattle.files.specs.Answer.{Answer, andThen, tooLong, ownSenior, refused, accepted}
 use Rattle.files.specs.Bytes.{readOn, read}
@@ -60,9 +61,9 @@ kept L c K = go (obeyRole 2 L c) (subst (λ (d : RoleCommand). Carries (After L 
     go (accepted M) a = record { sized = a .sized; unread = λ y. absurd (started (codeFor c) (sym (a .phased) ∙ ap phaseCode y)) }
 
 -- reading keeps what every command keeps
-read-kept : (n : ℕ) (L : Loading) (bs : List ℕ) → Kept L → Carries Kept (readOn (roleFormat 2) n L bs)
+read-kept : (n : ℕ) (L : Loading) (bs : List ℕ) → Kept L → Carries Kept (readOn (roleFormat 2) n false L bs)
 unfolding roleFormat
-read-kept n L bs K = read-carries (roleFormat 2) Kept kept n L bs K
+read-kept n L bs K = read-carries (roleFormat 2) Kept kept n false L bs K
 
 -- THE LAW
 pub accepted-sized : (bytes : List ℕ) → Carries Sized (readRoles 2 bytes)

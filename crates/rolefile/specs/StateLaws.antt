@@ -9,14 +9,14 @@ use mathlib.Core.List.{List, [], _∷_}
 use mathlib.Core.Path.{_≡_, refl, sym, ap, ap₂, _∙_, subst}
 use native.Mathlib.Omega.{arith}
 use Rattle.admit.specs.Admit.{admitOf}
-use Rattle.admit.specs.AdmitLaws.{codeOf, phaseCode, Sized, admit-means}
+use Rattle.admit.specs.AdmitLaws.{codeOf, phaseCode, admit-means}
+use Rattle.loaded.specs.Record.{Sized, emptyRecord, tableOf, knownTable, valueTable, assignedTable, lineTable, permissionTable, attributeTable, kindTable, recordWith, recordSoFar, setValues, setAssigned, setLines, setPermissions}
 use Rattle.commands.specs.Decode.{decodedOf}
 use Rattle.commands.specs.DecodeLaws.{meaning, turn-short, turn-unknown, Front, turn-whole}
 use Rattle.files.specs.Answer.{Answer, unless, andThen, ownSenior, refused, accepted}
-use Rattle.files.specs.Bytes.{close, follow, readOn, read}
-use Rattle.files.specs.BytesLaws.{Carries, number-positive}
+use Rattle.files.specs.Bytes.{behind, readOn, read}
+use Rattle.files.specs.BytesLaws.{read-behind, follow, Carries, number-positive}
 use Rattle.files.specs.RoleFile.{Loading, blank, isEnd, fresh, settle, obeyRole, roleFormat, readRoles, nothing}
-use Rattle.loaded.specs.Record.{emptyRecord, tableOf, knownTable, valueTable, assignedTable, lineTable, permissionTable, attributeTable, kindTable, recordWith, recordSoFar, setValues, setAssigned, setLines, setPermissions}
 use Rattle.loaded.specs.RecordLaws.{table-none}
 use Rattle.policy.specs.Policy.{Policy, circular}
 use Rattle.policy.specs.Rules.{Which, by, at, user, resource}
@@ -44,7 +44,7 @@ pub record State (s : List ℕ) (f : RoleFile) (p at : ℕ) : Type 0 where
   pub shows : f ≡ recordSoFar (loading .policy)
   pub phased : p ≡ phaseCode (loading .phase)
   pub unread : loading .phase ≡ nothing → loading .policy ≡ blank 0 0 0 0
-  pub same : readOn (roleFormat 2) (suc fuel) loading (drop at s) ≡ read (roleFormat 2) fresh s
+  pub same : readOn (roleFormat 2) (suc fuel) false loading (drop at s) ≡ read (roleFormat 2) fresh s
 
 -- what reading from a state comes to for the whole file
 abbrev finish : Answer Loading → Loaded
@@ -111,7 +111,7 @@ module _ (s : List ℕ) (f : RoleFile) (p at : ℕ) (t : State s f p at) where
     not-past = rw length-drop at (front .inside)
 
     -- what comes of the whole file
-    outcome : finish (andThen (obeyRole 2 (t .loading) (meaning c)) (follow (roleFormat 2) (isEnd (meaning c)) (readOn (roleFormat 2) (t .fuel)) (drop w (drop at s)))) ≡ loadedOf (readRoles 2 s)
+    outcome : finish (andThen (obeyRole 2 (t .loading) (meaning c)) (follow (roleFormat 2) (isEnd (meaning c)) (t .fuel) (drop w (drop at s)))) ≡ loadedOf (readRoles 2 s)
     outcome = ap finish (sym (front .turned) ∙ t .same) ∙ whole-file s (t .short)
 
     -- a refused command
@@ -119,7 +119,7 @@ module _ (s : List ℕ) (f : RoleFile) (p at : ℕ) (t : State s f p at) where
     unfolding loadedOf
     turn-refused h = go (obeyRole 2 (t .loading) (meaning c)) (judged c) outcome
       where
-        go : (r : Answer Loading) → verdictAt c p f ≡ codeOf r → finish (andThen r (follow (roleFormat 2) (isEnd (meaning c)) (readOn (roleFormat 2) (t .fuel)) (drop w (drop at s)))) ≡ loadedOf (readRoles 2 s) → refusal (verdictAt c p f) ≡ loadedOf (readRoles 2 s)
+        go : (r : Answer Loading) → verdictAt c p f ≡ codeOf r → finish (andThen r (follow (roleFormat 2) (isEnd (meaning c)) (t .fuel) (drop w (drop at s)))) ≡ loadedOf (readRoles 2 s) → refusal (verdictAt c p f) ≡ loadedOf (readRoles 2 s)
         go (refused d) k o = ap refusal k ∙ o
         go (accepted M) k o = absurd (h k)
 
@@ -141,8 +141,8 @@ module _ (s : List ℕ) (f : RoleFile) (p at : ℕ) (t : State s f p at) where
       bounded = subst (λ (g : RoleFile). Bounded g c) (sym (t .shows)) (admitted h .after .bounded)
 
       -- what follows an obeyed command
-      followed : finish (follow (roleFormat 2) (isEnd (meaning c)) (readOn (roleFormat 2) (t .fuel)) (drop w (drop at s)) (admitted h .next)) ≡ loadedOf (readRoles 2 s)
-      followed = ap (λ (r : Answer Loading). finish (andThen r (follow (roleFormat 2) (isEnd (meaning c)) (readOn (roleFormat 2) (t .fuel)) (drop w (drop at s))))) (sym (admitted h .so)) ∙ outcome
+      followed : finish (follow (roleFormat 2) (isEnd (meaning c)) (t .fuel) (drop w (drop at s)) (admitted h .next)) ≡ loadedOf (readRoles 2 s)
+      followed = ap (λ (r : Answer Loading). finish (andThen r (follow (roleFormat 2) (isEnd (meaning c)) (t .fuel) (drop w (drop at s))))) (sym (admitted h .so)) ∙ outcome
 
       -- the state after a command that is not the end. Each command is at least one byte, so the fuel lasts
       pub go-on : isEnd (meaning c) ≡ false → (g : RoleFile) → applied f c ≡ g → State s g (phaseAfter c) (at + w)
@@ -160,11 +160,11 @@ module _ (s : List ℕ) (f : RoleFile) (p at : ℕ) (t : State s f p at) where
           M : Loading
           M = admitted h .next
 
-          reached : readOn (roleFormat 2) (t .fuel) M (drop w (drop at s)) ≡ read (roleFormat 2) fresh s
+          reached : readOn (roleFormat 2) (t .fuel) false M (drop w (drop at s)) ≡ read (roleFormat 2) fresh s
           reached =
               sym (front .turned
-              ∙ ap (λ (r : Answer Loading). andThen r (follow (roleFormat 2) (isEnd (meaning c)) (readOn (roleFormat 2) (t .fuel)) (drop w (drop at s)))) (admitted h .so)
-              ∙ ap (λ (b : Bool). follow (roleFormat 2) b (readOn (roleFormat 2) (t .fuel)) (drop w (drop at s)) M) on)
+              ∙ ap (λ (r : Answer Loading). andThen r (follow (roleFormat 2) (isEnd (meaning c)) (t .fuel) (drop w (drop at s)))) (admitted h .so)
+              ∙ ap (λ (b : Bool). follow (roleFormat 2) b (t .fuel) (drop w (drop at s)) M) on)
               ∙ t .same
 
           next : (n : ℕ) → length s - at ≤ n → t .fuel ≡ n → State s g (phaseAfter c) (at + w)
@@ -183,15 +183,16 @@ module _ (s : List ℕ) (f : RoleFile) (p at : ℕ) (t : State s f p at) where
                 shows = sym q ∙ ap (λ (r : RoleFile). applied r c) (t .shows) ∙ admitted h .after .shows;
                 phased = sym (admitted h .after .phased);
                 unread = λ y. absurd (later c (sym (admitted h .after .phased) ∙ ap phaseCode y));
-                same = ap (readOn (roleFormat 2) (suc n) M) (sym (drop-drop w at s)) ∙ ap (λ (k : ℕ). readOn (roleFormat 2) k M (drop w (drop at s))) (sym z) ∙ reached;
+                same = ap (readOn (roleFormat 2) (suc n) false M) (sym (drop-drop w at s)) ∙ ap (λ (k : ℕ). readOn (roleFormat 2) k false M (drop w (drop at s))) (sym z) ∙ reached;
               }
 
       -- bytes behind the end
       pub turn-trailing : isEnd (meaning c) ≡ true → (length s ≡ at + w → ⊥) → refusal 4 ≡ loadedOf (readRoles 2 s)
       unfolding loadedOf roleFormat
-      turn-trailing on d = go (drop w (drop at s)) refl (ap (λ (b : Bool). finish (follow (roleFormat 2) b (readOn (roleFormat 2) (t .fuel)) (drop w (drop at s)) (admitted h .next))) (sym on) ∙ followed)
+      turn-trailing on d = go (drop w (drop at s)) refl
+          (ap finish (sym (read-behind (roleFormat 2) (t .fuel) (admitted h .next) (drop w (drop at s)))) ∙ ap (λ (b : Bool). finish (follow (roleFormat 2) b (t .fuel) (drop w (drop at s)) (admitted h .next))) (sym on) ∙ followed)
         where
-          go : (l : List ℕ) → drop w (drop at s) ≡ l → finish (close (roleFormat 2) l (admitted h .next)) ≡ loadedOf (readRoles 2 s) → refusal 4 ≡ loadedOf (readRoles 2 s)
+          go : (l : List ℕ) → drop w (drop at s) ≡ l → finish (behind (roleFormat 2) (admitted h .next) l) ≡ loadedOf (readRoles 2 s) → refusal 4 ≡ loadedOf (readRoles 2 s)
           go [] k o = let n = ap length k in let a = not-past in let i = t .inside in let b = length-drop w (drop at s) in let c = length-drop at s in absurd (d (omega arith))
           go (x ∷ l) k o = o
 
@@ -201,7 +202,9 @@ module _ (s : List ℕ) (f : RoleFile) (p at : ℕ) (t : State s f p at) where
         admitted h .next .policy,
         admitted h .after .sized,
         sym q ∙ ap (λ (r : RoleFile). applied r c) (t .shows) ∙ admitted h .after .shows,
-        ap (λ (l : List ℕ). finish (close (roleFormat 2) l (admitted h .next))) (sym nothing-left) ∙ ap (λ (b : Bool). finish (follow (roleFormat 2) b (readOn (roleFormat 2) (t .fuel)) (drop w (drop at s)) (admitted h .next))) (sym on) ∙ followed,
+        ap (λ (l : List ℕ). finish (behind (roleFormat 2) (admitted h .next) l)) (sym nothing-left)
+        ∙ ap finish (sym (read-behind (roleFormat 2) (t .fuel) (admitted h .next) (drop w (drop at s))))
+        ∙ ap (λ (b : Bool). finish (follow (roleFormat 2) b (t .fuel) (drop w (drop at s)) (admitted h .next))) (sym on) ∙ followed,
       )
         where
           empty : (l : List ℕ) → length l ≡ 0 → l ≡ []

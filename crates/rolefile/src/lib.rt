@@ -92,7 +92,7 @@ pub fn read(s: &[u8]) -> Loaded
                     } => {
                         let slot = RoleFile::ATTRIBUTES * side + attribute;
                         f.known[slot] = sets::with(f.known[slot], who);
-                        f.values[64 * slot + who] = value;
+                        f.values[RoleFile::MEMBERS * slot + who] = value;
                         phase = 2;
                     }
                     Command::Assign { role, user } => {
@@ -122,7 +122,7 @@ pub fn read(s: &[u8]) -> Loaded
                         if seniority::circular(&above, f.roles) {
                             return refuse(7);
                         }
-                        let mut held = [0u64; 32];
+                        let mut held = [0u64; RoleFile::ROLES];
                         seniority::holders(&f.assigned, &above, f.roles, &mut held);
                         f.seniors = above;
                         f.holders = held;

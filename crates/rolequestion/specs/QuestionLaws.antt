@@ -5,21 +5,20 @@ use borrow.Author.Tests.{eq-eqb, ne-eqb, ltb-true}
 use lib.Dec.{eqb, ltb}
 use lib.ListN.{getD}
 use mathlib.Core.Bool.{Bool, true, false, cond, _&&_}
-use mathlib.Core.List.{List}
+use mathlib.Core.List.{List, [], _∷_}
 use mathlib.Core.Path.{_≡_, refl, sym, ap, _∙_, subst}
-use Rattle.admit.specs.AdmitLaws.{Sized}
+use Rattle.loaded.specs.Record.{Sized, recordWith, recordOf}
 use Rattle.admit.specs.TableLaws.{record-grants}
-use Rattle.files.specs.Answer.{Refusal, numberOf, Answer, unless, andThen, beyond, refused, accepted}
+use Rattle.files.specs.Answer.{Refusal, numberOf, Answer, told, unless, andThen, beyond, refused, accepted}
 use Rattle.files.specs.BytesLaws.{Carries, number-positive}
-use Rattle.files.specs.Calls.{isTriple, roleQuestion}
+use Rattle.files.specs.Calls.{yesNo, isTriple, roleQuestion}
 use Rattle.files.specs.RoleFile.{readRoles}
-use Rattle.loaded.specs.Record.{recordWith, recordOf}
 use Rattle.policy.specs.Policy.{Policy, sideOf, settingOf, rolesIn}
 use Rattle.policy.specs.Roles.{rolesGrant}
 use Rattle.policy.specs.Rules.{user, resource}
 use Rattle.rolefile.specs.Reading.{refusal, loadedOf}
 use Rattle.rolefile.specs.SizedLaws.{accepted-sized}
-use Rattle.rolequestion.specs.Reply.{replyOf}
+use Rattle.rolequestion.specs.Reply.{replyNumbers}
 use Rattle.sets.specs.Sets.{bit}
 use Rattle.sets.specs.Tests.{any, upTo}
 use Rattle.rolefile.specs.declared.Loaded.{Loaded}
@@ -36,9 +35,14 @@ asked l u r o =
     (cond (any (λ k. bit (getD (l .file .holders) k 0) u && bit (getD (l .file .permissions) (16 * k + o) 0) r) (upTo (l .file .roles))) Yes No)
     (Refused 5)) (Refused 5)) (Refused 5)) (Refused (l .code))
 
+-- yes or no in numbers
+pub yes-no : (b : Bool) → replyNumbers (cond b Yes No) ≡ 0 ∷ yesNo b
+yes-no true = refl
+yes-no false = refl
+
 module _ (F : Policy) (Z : Sized F) where
-  answered : (u r o : ℕ) → asked (record { code = 0; file = recordOf F }) u r o ≡ replyOf (unless (isTriple (settingOf F) u r o) beyond (accepted (rolesGrant (settingOf F) (rolesIn F) u r o)))
-  unfolding asked replyOf isTriple recordOf recordWith settingOf sideOf
+  answered : (u r o : ℕ) → replyNumbers (asked (record { code = 0; file = recordOf F }) u r o) ≡ told yesNo (unless (isTriple (settingOf F) u r o) beyond (accepted (rolesGrant (settingOf F) (rolesIn F) u r o)))
+  unfolding asked isTriple recordOf recordWith settingOf sideOf
   answered u r o = go (ltb u (F .table user .count)) refl (ltb r (F .table resource .count)) refl (ltb o (F .operations)) refl
     where
       grants : Bool
@@ -48,21 +52,21 @@ module _ (F : Policy) (Z : Sized F) where
       inside p q s = record-grants F Z u r o (record { user = ltb-true u (F .table user .count) p; resource = ltb-true r (F .table resource .count) q; op = ltb-true o (F .operations) s })
 
       go : (a : Bool) → ltb u (F .table user .count) ≡ a → (b : Bool) → ltb r (F .table resource .count) ≡ b → (c : Bool) → ltb o (F .operations) ≡ c
-          → cond a (cond b (cond c (cond grants Yes No) (Refused 5)) (Refused 5)) (Refused 5) ≡ replyOf (unless (a && (b && c)) beyond (accepted (rolesGrant (settingOf F) (rolesIn F) u r o)))
-      go true p true q true s = ap (λ (x : Bool). cond x Yes No) (inside p q s)
+          → replyNumbers (cond a (cond b (cond c (cond grants Yes No) (Refused 5)) (Refused 5)) (Refused 5)) ≡ told yesNo (unless (a && (b && c)) beyond (accepted (rolesGrant (settingOf F) (rolesIn F) u r o)))
+      go true p true q true s = yes-no grants ∙ ap (λ (x : Bool). 0 ∷ yesNo x) (inside p q s)
       go true p true q false s = refl
       go true p false q c s = refl
       go false p b q c s = refl
 
 -- THE LAW: what was loaded answers the question
-pub asked-means : (bytes : List ℕ) (u r o : ℕ) → asked (loadedOf (readRoles 2 bytes)) u r o ≡ replyOf (roleQuestion 2 bytes u r o)
-unfolding roleQuestion asked loadedOf refusal replyOf
+pub asked-means : (bytes : List ℕ) (u r o : ℕ) → replyNumbers (asked (loadedOf (readRoles 2 bytes)) u r o) ≡ told yesNo (roleQuestion 2 bytes u r o)
+unfolding roleQuestion asked loadedOf refusal
 asked-means bytes u r o = go (readRoles 2 bytes) (accepted-sized bytes)
   where
-    go : (a : Answer Policy) → Carries Sized a → asked (loadedOf a) u r o ≡ replyOf (andThen a (λ F. unless (isTriple (settingOf F) u r o) beyond (accepted (rolesGrant (settingOf F) (rolesIn F) u r o))))
+    go : (a : Answer Policy) → Carries Sized a → replyNumbers (asked (loadedOf a) u r o) ≡ told yesNo (andThen a (λ F. unless (isTriple (settingOf F) u r o) beyond (accepted (rolesGrant (settingOf F) (rolesIn F) u r o))))
     go (refused e) z = refused-so e
       where
-        refused-so : (e : Refusal) → asked (loadedOf (refused e)) u r o ≡ replyOf (refused e)
+        refused-so : (e : Refusal) → replyNumbers (asked (loadedOf (refused e)) u r o) ≡ told yesNo (refused e)
         refused-so e = rw (ne-eqb (numberOf e) 0 (number-positive e)) refl
     go (accepted F) z = answered F z u r o
 

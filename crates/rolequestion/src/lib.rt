@@ -3,10 +3,14 @@ ghost use mathlib.Core.Path.{_≡_};
 ghost use mathlib.Core.Bool.{_&&_};
 ghost use Prim.Native.Nat.{_+_, _*_, _≤_, _<_};
 ghost use lib.ListN.{length, getD};
-ghost use Rattle.files.specs.Calls.{roleQuestion};
+ghost use Rattle.files.specs.Answer.{told};
+ghost use Rattle.files.specs.Calls.{yesNo, roleQuestion};
 ghost use Rattle.sets.specs.Sets.{bit};
 ghost use Rattle.sets.specs.Tests.{any, upTo};
-ghost use Rattle.rolequestion.specs.Reply.{replyOf};
+ghost use Rattle.rolequestion.specs.Reply.{replyNumbers};
+use loaded::ByRole;
+use loaded::ByRoleOperation;
+use loaded::RoleFile;
 
 pub enum Reply {
     Yes,
@@ -26,8 +30,8 @@ fn in_both(a: u64, x: usize, b: u64, y: usize) -> bool
 
 // Whether a role that the user holds has the permission.
 fn granted<'a>(
-    holders: &'a [u64; 32],
-    permissions: &'a [u64; 512],
+    holders: &'a ByRole,
+    permissions: &'a ByRoleOperation,
     roles: usize,
     user: usize,
     resource: usize,
@@ -37,7 +41,7 @@ fn granted<'a>(
     ensures { λ r. ⌜ r ≡ any (λ k. bit (getD (now (holders .entry)) k 0) user && bit (getD (now (permissions .entry)) (16 * k + operation) 0) resource) (upTo roles) ⌝ }
 {
     for k in 0..roles {
-        if in_both(holders[k], user, permissions[16 * k + operation], resource) {
+        if in_both(holders[k], user, permissions[RoleFile::OPERATIONS * k + operation], resource) {
             return true;
         }
     }
@@ -46,7 +50,7 @@ fn granted<'a>(
 
 // Any numbers may be handed in: a number beyond the sizes is refused, after the file's own refusals.
 pub fn ask(file: &[u8], user: usize, resource: usize, operation: usize) -> Reply
-    ensures { λ r. ⌜ r ≡ replyOf (roleQuestion 2 (now (file .entry)) user resource operation) ⌝ }
+    ensures { λ r. ⌜ replyNumbers r ≡ told yesNo (roleQuestion 2 (now (file .entry)) user resource operation) ⌝ }
 {
     let l = rolefile::read(file);
     if l.code != 0 {

@@ -10,10 +10,11 @@ use mathlib.Core.Path.{_≡_, refl, sym, ap, ap₂, _∙_}
 use native.Mathlib.Omega.{arith}
 use Rattle.files.specs.Bytes.{before}
 use Rattle.files.specs.RuleFile.{byteOf, operandsOf, precedes, Lines}
-use Rattle.rulecommands.specs.Raw.{rawBefore, commandOf}
-use Rattle.rulecommands.specs.RawLaws.{Shape, shape-second, raw-before}
+use Rattle.rulecommands.specs.Raw.{rawBefore, commandOf, InOrder, Shape}
+use Rattle.rulecommands.specs.RawLaws.{shape-second, raw-before}
 use Rattle.sets.specs.MaskLaws.{and-true}
-use Rattle.sets.specs.Tests.{Is, and-in, and-l, and-r, or-l, or-r, or-out, test, all, all-out, all-in}
+use Rattle.sets.specs.TestLaws.{and-in, and-l, and-r, or-l, or-r, or-out, test, all-out, all-in}
+use Rattle.sets.specs.Tests.{Is, all}
 
 -- one list of numbers before another, and that before a third
 before-trans : (x y z : List ℕ) → Is (before x y) → Is (before y z) → Is (before x z)
@@ -29,10 +30,6 @@ before-trans (a ∷ x) (b ∷ y) (c ∷ z) h k = go (before-trans x y z) (or-out
     go r (inl p) (inr q) = let l = ltb-true a b p in let m = eqb-true b c (and-l (eqb b c) _ q) in or-l _ (lt-ltb a c (omega arith))
     go r (inr p) (inl q) = let l = eqb-true a b (and-l (eqb a b) _ p) in let m = ltb-true b c q in or-l _ (lt-ltb a c (omega arith))
     go r (inr p) (inr q) = let l = eqb-true a b (and-l (eqb a b) _ p) in let m = eqb-true b c (and-l (eqb b c) _ q) in or-r (ltb a c) (and-in (eq-eqb a c (omega arith)) (r (and-r (eqb a b) _ p) (and-r (eqb b c) _ q)))
-
--- the command of these numbers stands before another of a rule exactly if all these lines do
-abbrev pub InOrder : ℕ → ℕ → ℕ → Lines → Type 0
-InOrder b x y ls = (c z w : ℕ) → Shape c z w → 0x22 ≤ c → c ≤ 0x28 → all (λ d. precedes d (commandOf c z w)) ls ≡ rawBefore b x y c z w
 
 -- behind a 21
 pub order-none : (x y : ℕ) → InOrder 0x21 x y []

@@ -1,14 +1,14 @@
 -- The next command of a rule file as numbers, and what the numbers and the code's commands stand for. 01, section "The rule file".
 -- Assumes nothing.
-use Prim.Native.Nat.{ℕ, suc}
+use Prim.Native.Nat.{ℕ, suc, _≤_}
 use lib.Dec.{eqb, ltb}
 use lib.ListN.{length, getD}
 use mathlib.Core.Bool.{Bool, true, false, cond, _&&_, _||_}
 use mathlib.Core.List.{List, [], _∷_}
 use mathlib.Core.Option.{Option, none, some}
-use Rattle.commands.specs.Decode.{numberAt}
-use Rattle.commands.specs.DecodeLaws.{totalOf, numbersAt}
-use Rattle.files.specs.RuleFile.{RuleCommand as Command, ruleCommand, ruleWidths, opens, value, operations, link, part, ends}
+use mathlib.Core.Path.{_≡_}
+use Rattle.commands.specs.Decode.{numberAt, totalOf, numbersAt}
+use Rattle.files.specs.RuleFile.{RuleCommand as Command, ruleCommand, ruleWidths, opens, value, operations, link, part, ends, precedes, Lines}
 use Rattle.policy.specs.Rules.{user, resource}
 use Rattle.rulecommands.specs.declared.Atom.{Atom}
 use Rattle.rulecommands.specs.declared.Atom.the-variants.{SetContainsSet, SetContainsSingle, SingleEqualsSingle}
@@ -16,6 +16,7 @@ use Rattle.rulecommands.specs.declared.Raw.{Raw}
 use Rattle.rulecommands.specs.declared.Raw.the-variants.{Whole, Unknown, Short}
 use Rattle.rulecommands.specs.declared.RuleCommand.{RuleCommand}
 use Rattle.rulecommands.specs.declared.RuleCommand.the-variants.{Opens, UserSingle, UserSet, ResourceSingle, ResourceSet, Operations, Link, Part, Ends}
+use Rattle.sets.specs.Tests.{all}
 
 -- ---- the next command, as numbers
 
@@ -59,3 +60,19 @@ ruleMeaning (Operations m) = operations m
 ruleMeaning (Link t) = linkMeaning t
 ruleMeaning (Part k m) = part k m
 ruleMeaning Ends = ends
+
+-- the byte of a known command, its first and its second operand: 0 where it has none
+pub data Shape : ℕ → ℕ → ℕ → Type 0 where
+  shape-opens : Shape 0x21 0 0
+  shape-user-single : (a v : ℕ) → Shape 0x22 a v
+  shape-user-set : (a v : ℕ) → Shape 0x23 a v
+  shape-resource-single : (a v : ℕ) → Shape 0x24 a v
+  shape-resource-set : (a v : ℕ) → Shape 0x25 a v
+  shape-operations : (m : ℕ) → Shape 0x26 m 0
+  shape-link : (a b : ℕ) → Shape 0x27 a b
+  shape-part : (k m : ℕ) → Shape 0x28 k m
+  shape-ends : Shape 0x2F 0 0
+
+-- the command of these numbers stands before another of a rule exactly if all these lines do
+abbrev pub InOrder : ℕ → ℕ → ℕ → Lines → Type 0
+InOrder b x y ls = (c z w : ℕ) → Shape c z w → 0x22 ≤ c → c ≤ 0x28 → all (λ d. precedes d (commandOf c z w)) ls ≡ rawBefore b x y c z w

@@ -9,32 +9,18 @@ use mathlib.Core.List.{List, [], _∷_}
 use mathlib.Core.Option.{Option, none, some}
 use mathlib.Core.Path.{_≡_, refl, sym, ap, _∙_, subst}
 use native.Mathlib.Omega.{arith}
-use Rattle.commands.specs.Decode.{numberAt}
-use Rattle.commands.specs.DecodeLaws.{totalOf, numbersAt, operands-at, operands-short, first-byte}
+use Rattle.commands.specs.Decode.{numberAt, totalOf, numbersAt}
+use Rattle.commands.specs.DecodeLaws.{operands-at, operands-short, first-byte}
 use Rattle.files.specs.Answer.{andThen, rulesCutOff, rulesUnknown, refused}
-use Rattle.files.specs.Bytes.{operands, follow, turn, decode, readOn}
+use Rattle.files.specs.Bytes.{operands, turn, decode, readOn}
+use Rattle.files.specs.BytesLaws.{follow}
 use Rattle.files.specs.RuleFile.{byteOf, precedes, Reading, endsFile, obeyRule, ruleWidths, ruleFormat, opens, value, operations, link, part, ends}
 use Rattle.policy.specs.Roles.{Roles}
 use Rattle.policy.specs.Rules.{Setting, user, resource}
-use Rattle.sets.specs.Tests.{test}
-use Rattle.rulecommands.specs.Raw.{takenBy, rawBy, rawOf, rawBefore, commandOf}
+use Rattle.rulecommands.specs.Raw.{shape-opens, shape-user-single, shape-user-set, shape-resource-single, shape-resource-set, shape-operations, shape-link, shape-part, shape-ends, takenBy, rawBy, rawOf, rawBefore, commandOf, Shape}
 use Rattle.rulecommands.specs.declared.Raw.{Raw}
 use Rattle.rulecommands.specs.declared.Raw.the-variants.{Whole, Unknown, Short}
-
--- ---- the commands as numbers
-
--- the byte of a known command, its first and its second operand: 0 where it has none
-pub data Shape : ℕ → ℕ → ℕ → Type 0 where
-  shape-opens : Shape 0x21 0 0
-  shape-user-single : (a v : ℕ) → Shape 0x22 a v
-  shape-user-set : (a v : ℕ) → Shape 0x23 a v
-  shape-resource-single : (a v : ℕ) → Shape 0x24 a v
-  shape-resource-set : (a v : ℕ) → Shape 0x25 a v
-  shape-operations : (m : ℕ) → Shape 0x26 m 0
-  shape-link : (a b : ℕ) → Shape 0x27 a b
-  shape-part : (k m : ℕ) → Shape 0x28 k m
-  shape-ends : Shape 0x2F 0 0
-
+use Rattle.sets.specs.TestLaws.{test}
 -- the command of each byte
 pub command-opens : (x y : ℕ) → commandOf 0x21 x y ≡ opens
 unfolding commandOf
@@ -149,7 +135,7 @@ raw-at l b o h e k = rw (ne-eqb (length l) 0 h, ← e, k) refl
 -- ---- one turn of reading, by what was taken from the front
 
 module _ (P : Setting) (R : Roles) (n : ℕ) (s : Reading) where
-  pub raw-short : (l : List ℕ) → rawOf l ≡ Short → readOn (ruleFormat 2 P R) (suc n) s l ≡ refused rulesCutOff
+  pub raw-short : (l : List ℕ) → rawOf l ≡ Short → readOn (ruleFormat 2 P R) (suc n) false s l ≡ refused rulesCutOff
   unfolding ruleFormat rawBy takenBy
   raw-short [] e = refl
   raw-short (b ∷ bs) e = go (ruleWidths 2 b) (sym (raw-cons b bs) ∙ e)
@@ -164,7 +150,7 @@ module _ (P : Setting) (R : Roles) (n : ℕ) (s : Reading) where
       go none k = let z : _≡_ {A = ℕ} 0 1 = cc in absurd (omega arith)
       go (some ws) k = cut ws (ltb (suc (length bs)) (suc (totalOf ws))) refl k
 
-  pub raw-unknown : (l : List ℕ) → rawOf l ≡ Unknown → readOn (ruleFormat 2 P R) (suc n) s l ≡ refused rulesUnknown
+  pub raw-unknown : (l : List ℕ) → rawOf l ≡ Unknown → readOn (ruleFormat 2 P R) (suc n) false s l ≡ refused rulesUnknown
   unfolding ruleFormat rawOf rawBy takenBy
   raw-unknown [] e = let z : _≡_ {A = ℕ} 0 1 = cc in absurd (omega arith)
   raw-unknown (b ∷ bs) e = go (ruleWidths 2 b) (sym (raw-cons b bs) ∙ e)
@@ -183,7 +169,7 @@ module _ (P : Setting) (R : Roles) (n : ℕ) (s : Reading) where
     pub some-bytes : 0 < w
     pub inside : w ≤ length l
     pub shape : Shape b x y
-    pub turned : readOn (ruleFormat 2 P R) (suc n) s l ≡ andThen (obeyRule P R s (commandOf b x y)) (follow (ruleFormat 2 P R) (endsFile (commandOf b x y)) (readOn (ruleFormat 2 P R) n) (drop w l))
+    pub turned : readOn (ruleFormat 2 P R) (suc n) false s l ≡ andThen (obeyRule P R s (commandOf b x y)) (follow (ruleFormat 2 P R) (endsFile (commandOf b x y)) n (drop w l))
 
   pub raw-whole : (l : List ℕ) (b x y w : ℕ) → rawOf l ≡ Whole b x y w → RawFront l b x y w
   unfolding ruleFormat rawOf rawBy takenBy commandOf

@@ -2,32 +2,32 @@
 -- Assumes nothing.
 use Prim.Native.Nat.{ℕ, suc, _≤_}
 use lib.ListN.{length}
-use mathlib.Core.Bool.{true}
+use mathlib.Core.Bool.{true, false}
 use mathlib.Core.List.{List, [], _∷_, _++_, List·Memᴰ·not-nil, List·Memᴰ·append-cases}
 use mathlib.Core.Logic.{⊎-elim}
 use mathlib.Core.Option.{Option, none, some}
 use mathlib.Core.Path.{_≡_, sym, ap, _∙_, subst}
-use Rattle.admit.specs.AdmitLaws.{Sized}
+use Rattle.loaded.specs.Record.{Sized, recordWith, recordOf}
 use Rattle.files.specs.Answer.{Answer, andThen, unless, rulesOrder, rulesOperand, accepted, refused}
 use Rattle.files.specs.Bytes.{read}
 use Rattle.files.specs.BytesLaws.{Carries, unless-carries, then-carries, number-positive, read-carries}
 use Rattle.files.specs.Calls.{readBoth}
 use Rattle.files.specs.RoleFile.{readRoles}
 use Rattle.files.specs.RuleFile.{RuleCommand as Line, Lines, Reading, whole, finished, follows, legal, addLine, obeyRule, ruleFormat, readRules, opens, value, operations, link, part, ends}
-use Rattle.loaded.specs.Record.{recordWith, recordOf}
 use Rattle.policy.specs.Policy.{Policy, settingOf, rolesIn}
 use Rattle.policy.specs.Roles.{Roles}
 use Rattle.policy.specs.Rules.{Setting, user, resource}
 use Rattle.rolefile.specs.SizedLaws.{accepted-sized}
 use Rattle.rulefile.specs.BothFiles.{nothingRead, bothOf}
 use Rattle.rulefile.specs.StateLaws.{openLines, start}
-use Rattle.rulegrants.specs.SummaryMeans.{Legal}
-use Rattle.sets.specs.Tests.{Is, _∈_, only-out}
+use Rattle.rulegrants.specs.RuleGrid.{Legal}
+use Rattle.sets.specs.Tests.{Is, _isIn_}
+use Rattle.sets.specs.TestLaws.{only-out}
 use Rattle.rulefile.specs.declared.BothFiles.{BothFiles}
 
 module _ (P : Setting) (R : Roles) where
   abbrev pub AllLegal : List Lines → Type 0
-  AllLegal rules = (ls : Lines) → ls ∈ rules → Legal P R ls
+  AllLegal rules = (ls : Lines) → ls isIn rules → Legal P R ls
 
   record LegalSoFar (s : Reading) : Type 0 where
     before : AllLegal (s .complete)
@@ -74,7 +74,7 @@ module _ (P : Setting) (R : Roles) where
   pub rules-legal : (bytes : List ℕ) → Carries AllLegal (readRules 2 P R bytes)
   unfolding readRules ruleFormat
   rules-legal bytes =
-      then-carries LegalSoFar AllLegal (read (ruleFormat 2 P R) start bytes) (λ s. accepted (s .complete)) (read-carries (ruleFormat 2 P R) LegalSoFar obeyed-legal (suc (length bytes)) start bytes (record { before = λ ls m. absurd (List·Memᴰ·not-nil m); current = none-legal }))
+      then-carries LegalSoFar AllLegal (read (ruleFormat 2 P R) start bytes) (λ s. accepted (s .complete)) (read-carries (ruleFormat 2 P R) LegalSoFar obeyed-legal (suc (length bytes)) false start bytes (record { before = λ ls m. absurd (List·Memᴰ·not-nil m); current = none-legal }))
       (λ s h. h .before)
 
 -- of both files

@@ -7,7 +7,7 @@ use lib.ListN.{length, drop, replicate}
 use mathlib.Core.Bool.{true, false, _||_}
 use mathlib.Core.List.{List}
 use mathlib.Core.Path.{_≡_, refl, sym, ap, ap₂, _∙_, subst}
-use Rattle.admit.specs.AdmitLaws.{Sized}
+use Rattle.loaded.specs.Record.{Sized, emptyRecord, recordWith, recordOf}
 use Rattle.files.specs.Answer.{Answer, andThen, refused, accepted}
 use Rattle.files.specs.BytesLaws.{Carries, number-positive}
 use Rattle.files.specs.Calls.{readBoth}
@@ -15,7 +15,6 @@ use Rattle.files.specs.RoleFile.{readRoles}
 use Rattle.files.specs.RuleFile.{Lines, readRules}
 use Rattle.grants.specs.Grid.{gridOf}
 use Rattle.grants.specs.Links.{linkTable}
-use Rattle.loaded.specs.Record.{emptyRecord, recordWith, recordOf}
 use Rattle.operands.specs.Checked.{checkedOf, checkedBeside}
 use Rattle.policy.specs.Policy.{Policy, settingOf, rolesIn}
 use Rattle.policy.specs.Rules.{user, resource}

@@ -10,14 +10,14 @@ use mathlib.Core.List.{List, [], _∷_, _++_}
 use mathlib.Core.Option.{Option, none, some}
 use mathlib.Core.Path.{_≡_, refl, sym, ap, ap₂, _∙_, subst}
 use native.Mathlib.Omega.{arith}
-use Rattle.admit.specs.AdmitLaws.{Sized}
+use Rattle.loaded.specs.Record.{Sized, knownTable, valueTable, permissionTable, recordOf}
 use Rattle.files.specs.Answer.{Answer, unless, andThen, rulesOrder, rulesOperand, refused, accepted}
-use Rattle.files.specs.Bytes.{close, follow, readOn, read}
+use Rattle.files.specs.BytesLaws.{read-behind, follow}
+use Rattle.files.specs.Bytes.{behind, readOn, read}
 use Rattle.files.specs.Calls.{readBoth}
 use Rattle.files.specs.RoleFile.{readRoles}
 use Rattle.files.specs.RuleFile.{RuleCommand as Line, Lines, isOperations, precedes, Reading, endsFile, whole, finished, follows, legal, addLine, obeyRule, ruleFormat, readRules, opens, ends}
 use Rattle.grants.specs.Grid.{gridOf}
-use Rattle.loaded.specs.Record.{knownTable, valueTable, permissionTable, recordOf}
 use Rattle.loaded.specs.RecordLaws.{table-none}
 use Rattle.operands.specs.Checked.{checkedBeside}
 use Rattle.operands.specs.CheckedLaws.{checked-illegal, checked-legal}
@@ -25,9 +25,9 @@ use Rattle.partgrants.specs.PartGrid.{joinedGrid}
 use Rattle.policy.specs.Policy.{Policy, settingOf, rolesIn}
 use Rattle.policy.specs.Roles.{Roles}
 use Rattle.policy.specs.Rules.{Setting, user, resource}
-use Rattle.rulecommands.specs.OrderLaws.{InOrder, order-more}
-use Rattle.rulecommands.specs.Raw.{rawOf, rawBefore, commandOf, ruleMeaning}
-use Rattle.rulecommands.specs.RawLaws.{Shape, raw-short, raw-unknown, RawFront, raw-whole, shape-opens, shape-user-single, shape-user-set, shape-resource-single, shape-resource-set, shape-operations, shape-link, shape-part, shape-ends}
+use Rattle.rulecommands.specs.OrderLaws.{order-more}
+use Rattle.rulecommands.specs.Raw.{InOrder, rawOf, rawBefore, commandOf, ruleMeaning, Shape, shape-opens, shape-user-single, shape-user-set, shape-resource-single, shape-resource-set, shape-operations, shape-link, shape-part, shape-ends}
+use Rattle.rulecommands.specs.RawLaws.{raw-short, raw-unknown, RawFront, raw-whole}
 use Rattle.rulefile.specs.BothFiles.{nothingRead, bothOf}
 use Rattle.rulesteps.specs.Kept.{begunWith, openedWith, ruleGrid, closedWith, finishedWith, finishedGrid, mayClose, followsWith}
 use Rattle.rulesteps.specs.KeptLaws.{finish-inside, finish-outside}
@@ -35,7 +35,8 @@ use Rattle.rulesteps.specs.Lines.{notedWith, metAfter, listedAfter, seenBy, aga
 use Rattle.rulesteps.specs.Shows.{linksIn, Stored, Shows}
 use Rattle.rulesteps.specs.ShowsLaws.{nothing-granted, stored-begun, shows-opened, stored-closed, stored-outside, may-close-means, follows-means, shows-line}
 use Rattle.rulesteps.specs.StrayLaws.{rules-long}
-use Rattle.sets.specs.Tests.{Is, and-l, and-r, or-l, or-r, never, fails, all, any, isSome}
+use Rattle.sets.specs.Tests.{Is, all, any, isSome}
+use Rattle.sets.specs.TestLaws.{and-l, and-r, or-l, or-r, never, fails}
 use Rattle.operands.specs.declared.Checked.the-variants.{Legal, Illegal}
 use Rattle.rulecommands.specs.declared.Raw.the-variants.{Whole, Unknown, Short}
 use Rattle.rulecommands.specs.declared.RuleCommand.{RuleCommand}
@@ -60,7 +61,7 @@ pub record State (F : Policy) (s : List ℕ) (k : Kept) (met listed grid seen ag
   pub few : k .rules ≤ at
   pub inside : k .inside ≡ isSome (reading .current)
   pub shows : Shows F (reading .complete) (openLines (reading .current)) k met listed grid seen again
-  pub same : readOn (ruleFormat 2 (settingOf F) (rolesIn F)) (suc fuel) reading (drop at s) ≡ read (ruleFormat 2 (settingOf F) (rolesIn F)) start s
+  pub same : readOn (ruleFormat 2 (settingOf F) (rolesIn F)) (suc fuel) false reading (drop at s) ≡ read (ruleFormat 2 (settingOf F) (rolesIn F)) start s
 
 -- what reading the rule file comes to beside a policy
 unfoldable pub outcome : Policy → Answer Reading → BothFiles
@@ -165,7 +166,7 @@ module _ (F : Policy) (Z : Sized F) (s : List ℕ) (k : Kept) (met listed grid s
 
     -- what follows the command
     abbrev onward : Reading → Answer Reading
-    onward = follow (ruleFormat 2 (settingOf F) (rolesIn F)) (endsFile (commandOf b x y)) (readOn (ruleFormat 2 (settingOf F) (rolesIn F)) (t .fuel)) (drop w (drop at s))
+    onward = follow (ruleFormat 2 (settingOf F) (rolesIn F)) (endsFile (commandOf b x y)) (t .fuel) (drop w (drop at s))
 
     turned : outcome F (andThen (obeyRule (settingOf F) (rolesIn F) (t .reading) (commandOf b x y)) onward) ≡ answer
     turned = ap (outcome F) (sym (front .turned) ∙ t .same)
@@ -176,11 +177,11 @@ module _ (F : Policy) (Z : Sized F) (s : List ℕ) (k : Kept) (met listed grid s
         → State F s n met₁ listed₁ grid₁ seen₁ again₁ (at + w)
     stepped M n met₁ listed₁ grid₁ seen₁ again₁ on so few inside shows = next (t .fuel) (t .enough) refl
       where
-        reached : readOn (ruleFormat 2 (settingOf F) (rolesIn F)) (t .fuel) M (drop w (drop at s)) ≡ read (ruleFormat 2 (settingOf F) (rolesIn F)) start s
+        reached : readOn (ruleFormat 2 (settingOf F) (rolesIn F)) (t .fuel) false M (drop w (drop at s)) ≡ read (ruleFormat 2 (settingOf F) (rolesIn F)) start s
         reached =
             sym (front .turned
             ∙ ap (λ (r : Answer Reading). andThen r onward) so
-            ∙ ap (λ (c : Bool). follow (ruleFormat 2 (settingOf F) (rolesIn F)) c (readOn (ruleFormat 2 (settingOf F) (rolesIn F)) (t .fuel)) (drop w (drop at s)) M) on)
+            ∙ ap (λ (c : Bool). follow (ruleFormat 2 (settingOf F) (rolesIn F)) c (t .fuel) (drop w (drop at s)) M) on)
             ∙ t .same
 
         next : (m : ℕ) → length s - at ≤ m → t .fuel ≡ m → State F s n met₁ listed₁ grid₁ seen₁ again₁ (at + w)
@@ -197,7 +198,7 @@ module _ (F : Policy) (Z : Sized F) (s : List ℕ) (k : Kept) (met listed grid s
               few = few;
               inside = inside;
               shows = shows;
-              same = ap (readOn (ruleFormat 2 (settingOf F) (rolesIn F)) (suc m) M) (sym (drop-drop w at s)) ∙ ap (λ (f : ℕ). readOn (ruleFormat 2 (settingOf F) (rolesIn F)) f M (drop w (drop at s))) (sym z) ∙ reached;
+              same = ap (readOn (ruleFormat 2 (settingOf F) (rolesIn F)) (suc m) false M) (sym (drop-drop w at s)) ∙ ap (λ (f : ℕ). readOn (ruleFormat 2 (settingOf F) (rolesIn F)) f false M (drop w (drop at s))) (sym z) ∙ reached;
             }
 
     -- ---- closing the open rule, if there is one
@@ -313,9 +314,10 @@ module _ (F : Policy) (Z : Sized F) (s : List ℕ) (k : Kept) (met listed grid s
           go (lining p q u v) = absurd (omega arith)
 
       -- what follows a 2F
-      followed : (q : commandOf b x y ≡ ends) → outcome F (close (ruleFormat 2 (settingOf F) (rolesIn F)) (drop w (drop at s)) (record { complete = closed h .rules; current = none })) ≡ answer
+      followed : (q : commandOf b x y ≡ ends) → outcome F (behind (ruleFormat 2 (settingOf F) (rolesIn F)) (record { complete = closed h .rules; current = none }) (drop w (drop at s))) ≡ answer
       followed q =
-          ap (λ (c : Bool). outcome F (follow (ruleFormat 2 (settingOf F) (rolesIn F)) c (readOn (ruleFormat 2 (settingOf F) (rolesIn F)) (t .fuel)) (drop w (drop at s)) (record { complete = closed h .rules; current = none }))) (sym (ap endsFile q))
+          ap (outcome F) (sym (read-behind (ruleFormat 2 (settingOf F) (rolesIn F)) (t .fuel) (record { complete = closed h .rules; current = none }) (drop w (drop at s))))
+          ∙ ap (λ (c : Bool). outcome F (follow (ruleFormat 2 (settingOf F) (rolesIn F)) c (t .fuel) (drop w (drop at s)) (record { complete = closed h .rules; current = none }))) (sym (ap endsFile q))
           ∙ ap (λ (r : Answer Reading). outcome F (andThen r onward)) (sym (obey-ends q (accepted (closed h .rules)) (closed h .so)))
           ∙ turned
 
@@ -329,7 +331,7 @@ module _ (F : Policy) (Z : Sized F) (s : List ℕ) (k : Kept) (met listed grid s
       unfolding outcome bothOf ruleFormat
       ended-late z d = go (drop w (drop at s)) refl (followed (is-end (kind-of (front .shape)) z))
         where
-          go : (l : List ℕ) → drop w (drop at s) ≡ l → outcome F (close (ruleFormat 2 (settingOf F) (rolesIn F)) l (record { complete = closed h .rules; current = none })) ≡ answer → nothingRead 12 ≡ answer
+          go : (l : List ℕ) → drop w (drop at s) ≡ l → outcome F (behind (ruleFormat 2 (settingOf F) (rolesIn F)) (record { complete = closed h .rules; current = none }) l) ≡ answer → nothingRead 12 ≡ answer
           go [] q o = let n = ap length q in let a = not-past in let i = t .within in let c = length-drop w (drop at s) in let g = length-drop at s in absurd (d (omega arith))
           go (y ∷ l) q o = o
 
@@ -338,7 +340,7 @@ module _ (F : Policy) (Z : Sized F) (s : List ℕ) (k : Kept) (met listed grid s
       unfolding outcome bothOf
       ended z d =
           shown (closed h .rules) doneWith doneGrid (closed h .stored)
-          ∙ ap (λ (l : List ℕ). outcome F (close (ruleFormat 2 (settingOf F) (rolesIn F)) l (record { complete = closed h .rules; current = none }))) (sym nothing-left)
+          ∙ ap (λ (l : List ℕ). outcome F (behind (ruleFormat 2 (settingOf F) (rolesIn F)) (record { complete = closed h .rules; current = none }) l)) (sym nothing-left)
           ∙ followed (is-end (kind-of (front .shape)) z)
         where
           empty : (l : List ℕ) → length l ≡ 0 → l ≡ []

@@ -7,6 +7,8 @@ ghost use Rattle.rulefile.specs.BothFiles.{nothingRead, bothOf};
 use loaded::RoleFile;
 use operands::Checked;
 use rulecommands::Raw;
+use loaded::ByRole;
+use loaded::Grid;
 
 // Both files read: 0, the record of the role file, how many rules there are, what they grant together (word 16 * user + operation is a set
 // of resources), whether some rule grants other than its parts and which is the first of them, and by role the lowest operations of the parts that the
@@ -15,11 +17,11 @@ pub struct BothFiles {
     pub code: usize,
     pub file: RoleFile,
     pub rules: usize,
-    pub grid: [u64; 1024],
+    pub grid: Grid,
     pub strays: bool,
     pub stray: usize,
-    pub seen: [u64; 32],
-    pub again: [u64; 32],
+    pub seen: ByRole,
+    pub again: ByRole,
 }
 
 fn refuse(n: usize) -> BothFiles
@@ -30,11 +32,11 @@ fn refuse(n: usize) -> BothFiles
         code: n,
         file: e,
         rules: 0,
-        grid: [0u64; 1024],
+        grid: [0u64; RoleFile::USERS * RoleFile::OPERATIONS],
         strays: false,
         stray: 0,
-        seen: [0u64; 32],
-        again: [0u64; 32],
+        seen: [0u64; RoleFile::ROLES],
+        again: [0u64; RoleFile::ROLES],
     }
 }
 
@@ -57,14 +59,14 @@ pub fn read(file: &[u8], rules: &[u8]) -> BothFiles
         return refuse(l.code);
     }
     let f = l.file;
-    let mut links = [0u64; 2304];
+    let mut links = [0u64; RoleFile::ATOMS * RoleFile::USERS];
     grants::links(&f.known, &f.values, &f.kinds, f.resources, &mut links);
     let mut k = rulesteps::begun();
-    let mut met = [0u64; 14];
-    let mut listed = [0u64; 1024];
-    let mut grid = [0u64; 1024];
-    let mut seen = [0u64; 32];
-    let mut again = [0u64; 32];
+    let mut met = [0u64; RoleFile::PLACES];
+    let mut listed = [0u64; RoleFile::USERS * RoleFile::OPERATIONS];
+    let mut grid = [0u64; RoleFile::USERS * RoleFile::OPERATIONS];
+    let mut seen = [0u64; RoleFile::ROLES];
+    let mut again = [0u64; RoleFile::ROLES];
     let mut at: usize = 0;
     loop {
         match rulecommands::next(&rules[at..]) {
@@ -106,7 +108,7 @@ pub fn read(file: &[u8], rules: &[u8]) -> BothFiles
                         };
                     }
                     k = rulesteps::opened(k);
-                    met = [0u64; 14];
+                    met = [0u64; RoleFile::PLACES];
                     partgrants::clear(&mut listed);
                 } else {
                     if !rulesteps::follows(k, b, x, y) {

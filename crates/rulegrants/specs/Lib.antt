@@ -1,3 +1,3 @@
 pub mod RuleGrid
 pub mod RuleGridLaws
-pub mod SummaryMeans
+pub mod SummaryLaws

@@ -15,10 +15,9 @@ use Rattle.grants.specs.Updates.{updated}
 use Rattle.loaded.specs.Record.{tableOf}
 use Rattle.loaded.specs.RecordLaws.{table-get, table-length, table-ext}
 use Rattle.rulegrants.specs.RuleGrid.{rowOf, cellOf, withColumn, summaryGrants}
-use Rattle.sets.specs.LoopLaws.{narrowing}
+use Rattle.sets.specs.Sets.{narrowing, bit, maskOf}
 use Rattle.sets.specs.MaskLaws.{and-true, mask-lt, mask-bits, mask-none}
-use Rattle.sets.specs.Sets.{bit, maskOf}
-use Rattle.sets.specs.Tests.{and-in, test, same}
+use Rattle.sets.specs.TestLaws.{and-in, test, same}
 
 -- ---- the code's steps
 

@@ -1,7 +1,5 @@
 pub mod ListLaws
 pub mod RuleLines
 pub mod RuleLinesLaws
-pub mod PartLines
-pub mod RuleBytes
-pub mod WrittenValues
-pub mod RuleBounds
+pub mod PartLinesLaws
+pub mod RuleBytesLaws

@@ -11,14 +11,16 @@ use mathlib.Core.Path.{_≡_, refl, sym, ap, ap₂, _∙_}
 use native.Mathlib.Nat.{add-zero, zero-add}
 use native.Mathlib.Omega.{arith}
 use Rattle.sets.specs.LoopLaws.{upTo-more}
-use Rattle.sets.specs.Sorted.{Rising, insert, sort, Before, Strict, sort-in, sort-out, sort-rising, keep-rising, rising-ext, numbers, none-left, and-then}
-use Rattle.sets.specs.Tests.{Is, test, _∈_, keep, keep-in, keep-out, each, only, upTo, map-in, map-out, sum}
+use Rattle.sets.specs.Sorted.{Rising, insert, sort, none-left, and-then}
+use Rattle.sets.specs.SortedLaws.{Before, Strict, sort-in, sort-out, sort-rising, keep-rising, rising-ext, numbers}
+use Rattle.sets.specs.Tests.{Is, _isIn_, keep, each, only, upTo, sum}
+use Rattle.sets.specs.TestLaws.{test, keep-in, keep-out, map-in, map-out}
 
 -- ---- a list for each member
 
 module _ {A C : Type 0} where
   -- lists that agree at each member
-  pub each-ext : (f g : A → List C) (l : List A) → ((a : A) → a ∈ l → f a ≡ g a) → each f l ≡ each g l
+  pub each-ext : (f g : A → List C) (l : List A) → ((a : A) → a isIn l → f a ≡ g a) → each f l ≡ each g l
   each-ext f g [] h = refl
   each-ext f g (x ∷ xs) h = ap₂ _++_ (h x (List·Memᴰ·head refl)) (each-ext f g xs (λ a m. h a (List·Memᴰ·tail m)))
 
@@ -64,12 +66,12 @@ each-more {C} f n =
 
 module _ {A : Type 0} where
   -- numbers that agree at each member
-  pub sum-ext : (f g : A → ℕ) (l : List A) → ((a : A) → a ∈ l → f a ≡ g a) → sum f l ≡ sum g l
+  pub sum-ext : (f g : A → ℕ) (l : List A) → ((a : A) → a isIn l → f a ≡ g a) → sum f l ≡ sum g l
   sum-ext f g [] h = refl
   sum-ext f g (x ∷ xs) h = ap₂ _+_ (h x (List·Memᴰ·head refl)) (sum-ext f g xs (λ a m. h a (List·Memᴰ·tail m)))
 
   -- one number for each member
-  pub sum-each : (n : ℕ) (f : A → ℕ) (l : List A) → ((a : A) → a ∈ l → f a ≡ n) → sum f l ≡ n * length l
+  pub sum-each : (n : ℕ) (f : A → ℕ) (l : List A) → ((a : A) → a isIn l → f a ≡ n) → sum f l ≡ n * length l
   sum-each n f [] h = omega arith
   sum-each n f (x ∷ xs) h = let e = h x (List·Memᴰ·head refl) in let r = sum-each n f xs (λ a m. h a (List·Memᴰ·tail m)) in omega arith
 
@@ -83,7 +85,7 @@ module _ {A : Type 0} where
       go false e = omega arith
 
   -- at most one number for each member
-  pub sum-most : (n : ℕ) (f : A → ℕ) (l : List A) → ((a : A) → a ∈ l → f a ≤ n) → sum f l ≤ n * length l
+  pub sum-most : (n : ℕ) (f : A → ℕ) (l : List A) → ((a : A) → a isIn l → f a ≤ n) → sum f l ≤ n * length l
   sum-most n f [] h = omega arith
   sum-most n f (x ∷ xs) h = let e = h x (List·Memᴰ·head refl) in let r = sum-most n f xs (λ a m. h a (List·Memᴰ·tail m)) in omega arith
 
@@ -114,7 +116,7 @@ module _ {A : Type 0} where
       go false h = omega arith
 
   -- all, where each passes
-  pub keep-all : (f : A → Bool) (l : List A) → ((a : A) → a ∈ l → Is (f a)) → keep f l ≡ l
+  pub keep-all : (f : A → Bool) (l : List A) → ((a : A) → a isIn l → Is (f a)) → keep f l ≡ l
   keep-all f [] h = refl
   keep-all f (x ∷ xs) h = ap₂ (λ (b : Bool) (k : List A). cond b (x ∷ k) k) (h x (List·Memᴰ·head refl)) (keep-all f xs (λ a m. h a (List·Memᴰ·tail m)))
 
@@ -142,7 +144,7 @@ Distinct {A = A} l = Rising (λ (x y : A). x ≡ y → ⊥) l
 
 module _ {A B : Type 0} {R : A → A → Type 0} {Q : B → B → Type 0} where
   -- the images of an ascending list's members ascend
-  pub map-rising : (f : A → B) {l : List A} → ((x y : A) → x ∈ l → y ∈ l → R x y → Q (f x) (f y)) → Rising R l → Rising Q (map f l)
+  pub map-rising : (f : A → B) {l : List A} → ((x y : A) → x isIn l → y isIn l → R x y → Q (f x) (f y)) → Rising R l → Rising Q (map f l)
   map-rising f h none-left = none-left
   map-rising f h (and-then {x = x} {xs = xs} e r) =
       and-then {x = f x} (λ y m. let t = map-out f xs m in rw (t .2) (h x (t .0) (List·Memᴰ·head refl) (List·Memᴰ·tail (t .1)) (e (t .0) (t .1))))
@@ -165,23 +167,23 @@ module _ {A : Type 0} (lt : A → A → Bool) where
 
 module _ {A : Type 0} (lt : A → A → Bool) (S : Strict lt) where
   -- an ascending list is what sorting makes of its members
-  pub sort-is : (s : List A) {t : List A} → Rising (Before lt) t → ((x : A) → x ∈ s → x ∈ t) → ((x : A) → x ∈ t → x ∈ s) → sort lt s ≡ t
+  pub sort-is : (s : List A) {t : List A} → Rising (Before lt) t → ((x : A) → x isIn s → x isIn t) → ((x : A) → x isIn t → x isIn s) → sort lt s ≡ t
   sort-is s r f g = rising-ext (S .apart) (sort-rising lt (S .chain) s) r (λ x m. f x (sort-out lt s m)) (λ x m. sort-in lt S (g x m))
 
   -- lists with the same members are sorted alike
-  pub sort-same : (s t : List A) → ((x : A) → x ∈ s → x ∈ t) → ((x : A) → x ∈ t → x ∈ s) → sort lt s ≡ sort lt t
+  pub sort-same : (s t : List A) → ((x : A) → x isIn s → x isIn t) → ((x : A) → x isIn t → x isIn s) → sort lt s ≡ sort lt t
   sort-same s t f g = sort-is s (sort-rising lt (S .chain) t) (λ x m. sort-in lt S (f x m)) (λ x m. g x (sort-out lt t m))
 
   -- one member more at the end
   pub sort-more : (l : List A) (x : A) → sort lt (l ++ (x ∷ [])) ≡ insert lt x (sort lt l)
   sort-more l x = sort-same (l ++ (x ∷ [])) (x ∷ l) (λ y m. there y (List·Memᴰ·append-cases l m)) (λ y m. back y (List·Memᴰ·cases-cons m))
     where
-      there : (y : A) → (y ∈ l) ⊎ (y ∈ (x ∷ [])) → y ∈ (x ∷ l)
+      there : (y : A) → (y isIn l) ⊎ (y isIn (x ∷ [])) → y isIn (x ∷ l)
       there y (inl m) = List·Memᴰ·tail m
       there y (inr (List·Memᴰ·head e)) = List·Memᴰ·head e
       there y (inr (List·Memᴰ·tail m)) = absurd (List·Memᴰ·not-nil m)
 
-      back : (y : A) → (y ≡ x) ⊎ (y ∈ l) → y ∈ (l ++ (x ∷ []))
+      back : (y : A) → (y ≡ x) ⊎ (y isIn l) → y isIn (l ++ (x ∷ []))
       back y (inl e) = Memᴰ·append-right l (List·Memᴰ·head e)
       back y (inr m) = Memᴰ·append-left (x ∷ []) m
 
@@ -193,22 +195,22 @@ module _ {A : Type 0} (lt : A → A → Bool) (S : Strict lt) where
       (λ x m. let t = keep-out f (sort lt l) m in keep-in f (sort-out lt l (t .0)) (t .1))
 
   -- the least member comes first, and then those behind it
-  pub sort-next : (l : List A) (x : A) → x ∈ l → ((y : A) → y ∈ l → lt y x ≡ false) → sort lt l ≡ x ∷ sort lt (keep (lt x) l)
+  pub sort-next : (l : List A) (x : A) → x isIn l → ((y : A) → y isIn l → lt y x ≡ false) → sort lt l ≡ x ∷ sort lt (keep (lt x) l)
   sort-next l x m least =
       sort-is l (and-then (λ y k. keep-out (lt x) l (sort-out lt (keep (lt x) l) k) .1) (sort-rising lt (S .chain) (keep (lt x) l))) place back
     where
-      place : (y : A) → y ∈ l → y ∈ (x ∷ sort lt (keep (lt x) l))
+      place : (y : A) → y isIn l → y isIn (x ∷ sort lt (keep (lt x) l))
       place y k = go (lt x y) refl
         where
-          go : (b : Bool) → lt x y ≡ b → y ∈ (x ∷ sort lt (keep (lt x) l))
+          go : (b : Bool) → lt x y ≡ b → y isIn (x ∷ sort lt (keep (lt x) l))
           go true e = List·Memᴰ·tail (sort-in lt S (keep-in (lt x) k e))
           go false e = List·Memᴰ·head (S .equal y x (least y k) e)
 
-      back : (y : A) → y ∈ (x ∷ sort lt (keep (lt x) l)) → y ∈ l
+      back : (y : A) → y isIn (x ∷ sort lt (keep (lt x) l)) → y isIn l
       back y (List·Memᴰ·head e) = rw e m
       back y (List·Memᴰ·tail k) = keep-out (lt x) l (sort-out lt (keep (lt x) l) k) .0
 
-  insert-length : (x : A) (l : List A) → ((y : A) → y ∈ l → x ≡ y → ⊥) → length (insert lt x l) ≡ suc (length l)
+  insert-length : (x : A) (l : List A) → ((y : A) → y isIn l → x ≡ y → ⊥) → length (insert lt x l) ≡ suc (length l)
   insert-length x [] h = refl
   insert-length x (y ∷ ys) h = go (lt x y) refl (lt y x) refl (insert-length x ys (λ z m. h z (List·Memᴰ·tail m)))
     where
@@ -234,32 +236,32 @@ module _ {A B : Type 0} (less : A → A → Bool) (T : Strict less) (lt : B → 
 
 module _ {l : List ℕ} (r : Rising (Before ltb) l) where
   -- the members above one: the next, and those above it
-  pub rising-next : (v n : ℕ) → n ∈ l → v < n → ((x : ℕ) → x ∈ l → v < x → n ≤ x) → keep (ltb v) l ≡ n ∷ keep (ltb n) l
+  pub rising-next : (v n : ℕ) → n isIn l → v < n → ((x : ℕ) → x isIn l → v < x → n ≤ x) → keep (ltb v) l ≡ n ∷ keep (ltb n) l
   rising-next v n m h least =
       rising-ext (numbers .apart) (keep-rising (ltb v) r) (and-then (λ y k. keep-out (ltb n) l k .1) (keep-rising (ltb n) r))
       (λ x k. let t = keep-out (ltb v) l k in there x (t .0) (ltb-true v x (t .1)))
       back
     where
-      there : (x : ℕ) → x ∈ l → v < x → x ∈ (n ∷ keep (ltb n) l)
+      there : (x : ℕ) → x isIn l → v < x → x isIn (n ∷ keep (ltb n) l)
       there x k p = test (ltb n x) (λ q. List·Memᴰ·tail (keep-in (ltb n) k q)) (λ q. let a = least x k p in let b = ltb-false n x q in List·Memᴰ·head (omega arith))
 
-      back : (x : ℕ) → x ∈ (n ∷ keep (ltb n) l) → x ∈ keep (ltb v) l
+      back : (x : ℕ) → x isIn (n ∷ keep (ltb n) l) → x isIn keep (ltb v) l
       back x (List·Memᴰ·head e) = rw e (keep-in (ltb v) m (lt-ltb v n h))
       back x (List·Memᴰ·tail k) = let t = keep-out (ltb n) l k in let p = ltb-true n x (t .1) in keep-in (ltb v) (t .0) (lt-ltb v x (omega arith))
 
   -- all members: the least, and those above it
-  pub rising-first : (n : ℕ) → n ∈ l → ((x : ℕ) → x ∈ l → n ≤ x) → l ≡ n ∷ keep (ltb n) l
+  pub rising-first : (n : ℕ) → n isIn l → ((x : ℕ) → x isIn l → n ≤ x) → l ≡ n ∷ keep (ltb n) l
   rising-first n m least =
       rising-ext (numbers .apart) r (and-then (λ y k. keep-out (ltb n) l k .1) (keep-rising (ltb n) r)) there back
     where
-      there : (x : ℕ) → x ∈ l → x ∈ (n ∷ keep (ltb n) l)
+      there : (x : ℕ) → x isIn l → x isIn (n ∷ keep (ltb n) l)
       there x k = test (ltb n x) (λ q. List·Memᴰ·tail (keep-in (ltb n) k q)) (λ q. let a = least x k in let b = ltb-false n x q in List·Memᴰ·head (omega arith))
 
-      back : (x : ℕ) → x ∈ (n ∷ keep (ltb n) l) → x ∈ l
+      back : (x : ℕ) → x isIn (n ∷ keep (ltb n) l) → x isIn l
       back x (List·Memᴰ·head e) = rw e m
       back x (List·Memᴰ·tail k) = keep-out (ltb n) l k .0
 
 -- none is above the last
-pub rising-done : (l : List ℕ) (v : ℕ) → ((x : ℕ) → x ∈ l → x ≤ v) → keep (ltb v) l ≡ []
+pub rising-done : (l : List ℕ) (v : ℕ) → ((x : ℕ) → x isIn l → x ≤ v) → keep (ltb v) l ≡ []
 rising-done [] v h = refl
 rising-done (x ∷ xs) v h = ap₂ (λ (b : Bool) (k : List ℕ). cond b (x ∷ k) k) (le-ltb v x (h x (List·Memᴰ·head refl))) (rising-done xs v (λ y m. h y (List·Memᴰ·tail m)))

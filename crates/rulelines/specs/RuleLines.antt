@@ -4,11 +4,12 @@ use Prim.Native.Nat.{ℕ, _+_, _*_, _/_, _%_}
 use lib.Dec.{eqb}
 use mathlib.Core.Bool.{Bool, true, false, cond, _&&_}
 use mathlib.Core.List.{List, [], _∷_, _++_, map}
-use Rattle.files.specs.RuleFile.{Lines, precedes, value, operations, link, part}
+use Rattle.files.specs.Bytes.{spread}
+use Rattle.files.specs.RuleFile.{Lines, precedes, value, operations, link, part, valueByte}
 use Rattle.policy.specs.Covering.{valuesOf}
 use Rattle.policy.specs.Rules.{Which, by, Setting, user, resource}
 use Rattle.policy.specs.Thinning.{trim}
-use Rattle.sets.specs.Sets.{bit}
+use Rattle.sets.specs.Sets.{bit, maskOf}
 use Rattle.sets.specs.Sorted.{sort}
 use Rattle.sets.specs.Tests.{iff, keep, each, only, upTo}
 use Rattle.words.specs.Flags.{placeSide, placeAttribute}
@@ -57,3 +58,23 @@ ofRole g k = keep (λ i. eqb (i / 16) k) g
 -- the lines 28 of a list of slots, slot i standing for role i / 16 and the operations that `cls` says
 unfoldable pub partLinesOf : (ℕ → ℕ) → List ℕ → Lines
 partLinesOf cls g = sort precedes (map (λ i. part (i / 16) (cls i)) g)
+
+
+-- ---- one line
+
+-- the bytes of a line 22 to 25: values of sets are 8 bytes wide, the others 2
+abbrev pub valueBytes : Which → Bool → ℕ → ℕ → List ℕ
+valueBytes w set a v = valueByte w set ∷ a ∷ spread (cond set 8 2) v
+
+-- the bytes of a line 28
+abbrev pub partBytes : ℕ → ℕ → List ℕ
+partBytes k n = 0x28 ∷ k ∷ spread 2 n
+
+-- ---- the lines of atoms
+
+-- the atoms among the places of a set
+abbrev pub atomSet : ℕ → ℕ
+atomSet m = maskOf 36 (λ j. bit m (14 + j))
+
+abbrev pub linkBytes : ℕ → ℕ → List ℕ
+linkBytes a b = 0x27 ∷ a ∷ b ∷ []

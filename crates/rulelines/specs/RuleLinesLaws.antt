@@ -9,7 +9,7 @@ use mathlib.Core.Logic.{_⊎_, inl, inr}
 use mathlib.Core.Path.{_≡_, refl, sym, ap, ap₂, _∙_, subst}
 use native.Mathlib.Omega.{arith}
 use Rattle.files.specs.Bytes.{before}
-use Rattle.files.specs.ReadBack.{lines-strict}
+use Rattle.files.specs.ReadBackLaws.{lines-strict}
 use Rattle.files.specs.RuleFile.{RuleCommand, valueByte, byteOf, operandsOf, precedes, isPartLine, Lines, condLines, opens, value, operations, link, part, ends}
 use Rattle.policy.specs.Covering.{valuesOf, fits, levelOf}
 use Rattle.policy.specs.MergeLaws.{Every}
@@ -20,8 +20,10 @@ use Rattle.policy.specs.Thinning.{trim, trimCond, written}
 use Rattle.rulelines.specs.ListLaws.{map-rising, sort-is}
 use Rattle.rulelines.specs.RuleLines.{kindPlace, writtenValues, attributeLines, isKind, kindLines, atomLines, ruleLines}
 use Rattle.sets.specs.Sets.{bit}
-use Rattle.sets.specs.Sorted.{Rising, sort, Before, sort-in, sort-out, sort-rising, keep-rising, append-rising, each-rising, only-rising, from-rising, none-left, and-then}
-use Rattle.sets.specs.Tests.{Is, and-in, and-l, and-r, or-l, or-r, test, iff-in, iff-out, _∈_, each, each-in, each-out, only, only-in, only-out, upTo, upTo-in, upTo-out, map-in, map-out}
+use Rattle.sets.specs.Sorted.{Rising, sort, none-left, and-then}
+use Rattle.sets.specs.SortedLaws.{Before, sort-in, sort-out, sort-rising, keep-rising, append-rising, each-rising, only-rising, from-rising}
+use Rattle.sets.specs.Tests.{Is, _isIn_, each, only, upTo}
+use Rattle.sets.specs.TestLaws.{and-in, and-l, and-r, or-l, or-r, test, iff-in, iff-out, each-in, each-out, only-in, only-out, upTo-in, upTo-out, map-in, map-out}
 use Rattle.words.specs.FlagLaws.{cond-conjunct, cond-atom, written-ops-words, written-places}
 use Rattle.words.specs.Flags.{placeSide, placeAttribute, condAt, keptPlaces}
 use Rattle.words.specs.Words.{Words, membersOf, Roomy, wordsOf}
@@ -121,7 +123,7 @@ byte-more : (b n : ℕ) {s t : Lines} → b < n → Rising (Before precedes) s �
 byte-more b n {s} {t} l r e f =
     (append-rising r (f .0) (λ c d mc md. byte-first c d (let p = e c mc in let q = f .1 d md in omega arith)), λ c m. go c (List·Memᴰ·append-cases s m))
   where
-    go : (c : RuleCommand) → (c ∈ s) ⊎ (c ∈ t) → b ≤ byteOf c
+    go : (c : RuleCommand) → (c isIn s) ⊎ (c isIn t) → b ≤ byteOf c
     go c (inl m) = let p = e c m in omega arith
     go c (inr m) = let q = f .1 c m in omega arith
 
@@ -144,7 +146,7 @@ module _ (m : ℕ) where
       (from-rising 0 36)
 
   -- where a line of an atom comes from
-  pub atom-out : {c : RuleCommand} → c ∈ atomLines m → (j : ℕ) × (j < 36) × Is (bit m (14 + j)) × (c ≡ link (j / 6) (j % 6))
+  pub atom-out : {c : RuleCommand} → c isIn atomLines m → (j : ℕ) × (j < 36) × Is (bit m (14 + j)) × (c ≡ link (j / 6) (j % 6))
   unfolding atomLines
   atom-out k =
       let t = each-out (λ j. only (bit m (14 + j)) (link (j / 6) (j % 6))) (upTo 36) k in
@@ -152,7 +154,7 @@ module _ (m : ℕ) where
       (t .0, upTo-out 36 (t .1), s .0, s .1)
 
   -- and the lines that there are
-  pub atom-in : (j : ℕ) → j < 36 → Is (bit m (14 + j)) → link (j / 6) (j % 6) ∈ atomLines m
+  pub atom-in : (j : ℕ) → j < 36 → Is (bit m (14 + j)) → link (j / 6) (j % 6) isIn atomLines m
   unfolding atomLines
   atom-in j l h = each-in (λ j. only (bit m (14 + j)) (link (j / 6) (j % 6))) (upTo-in l) (only-in (link (j / 6) (j % 6)) h)
 
@@ -197,7 +199,7 @@ module _ (P : Setting) where
     attribute-rising w set true i = map-rising (value w set (placeAttribute i)) (λ v x mv mx. value-next w set (placeAttribute i) v x) (values-ascend W i)
     attribute-rising w set false i = none-left
 
-    attribute-out : (w : Which) (set : Bool) (b : Bool) (i : ℕ) {c : RuleCommand} → c ∈ cond b (attributeLines P W w set i) [] → Is b × (v : ℕ) × (v ∈ writtenValues P W i) × (c ≡ value w set (placeAttribute i) v)
+    attribute-out : (w : Which) (set : Bool) (b : Bool) (i : ℕ) {c : RuleCommand} → c isIn cond b (attributeLines P W w set i) [] → Is b × (v : ℕ) × (v isIn writtenValues P W i) × (c ≡ value w set (placeAttribute i) v)
     attribute-out w set true i k = let t = map-out (value w set (placeAttribute i)) (writtenValues P W i) k in (refl, t .0, t .1, t .2)
     attribute-out w set false i k = absurd (List·Memᴰ·not-nil k)
 
@@ -212,8 +214,8 @@ module _ (P : Setting) where
         (from-rising 0 7)
 
     -- where a line of a kind comes from
-    pub kind-out : (w : Which) (set : Bool) {c : RuleCommand} → c ∈ kindLines P W m w set
-        → (j : ℕ) × (j < 7) × Is (bit m (kindPlace w j)) × (P .side w .isSet (placeAttribute (kindPlace w j)) ≡ set) × (v : ℕ) × (v ∈ writtenValues P W (kindPlace w j)) × (c ≡ value w set (placeAttribute (kindPlace w j)) v)
+    pub kind-out : (w : Which) (set : Bool) {c : RuleCommand} → c isIn kindLines P W m w set
+        → (j : ℕ) × (j < 7) × Is (bit m (kindPlace w j)) × (P .side w .isSet (placeAttribute (kindPlace w j)) ≡ set) × (v : ℕ) × (v isIn writtenValues P W (kindPlace w j)) × (c ≡ value w set (placeAttribute (kindPlace w j)) v)
     unfolding kindLines
     kind-out w set k =
         let t = each-out (λ j. cond (isKind P m w set (kindPlace w j)) (attributeLines P W w set (kindPlace w j)) []) (upTo 7) k in
@@ -222,14 +224,14 @@ module _ (P : Setting) where
         (t .0, upTo-out 7 (t .1), and-l (bit m i) _ (s .0), iff-out (P .side w .isSet (placeAttribute i)) set (and-r (bit m i) _ (s .0)), s .1, s .2, s .3)
 
     -- and the lines that there are
-    pub kind-in : (w : Which) (j : ℕ) → j < 7 → Is (bit m (kindPlace w j)) → {v : ℕ} → v ∈ writtenValues P W (kindPlace w j)
-        → value w (P .side w .isSet (placeAttribute (kindPlace w j))) (placeAttribute (kindPlace w j)) v ∈ kindLines P W m w (P .side w .isSet (placeAttribute (kindPlace w j)))
+    pub kind-in : (w : Which) (j : ℕ) → j < 7 → Is (bit m (kindPlace w j)) → {v : ℕ} → v isIn writtenValues P W (kindPlace w j)
+        → value w (P .side w .isSet (placeAttribute (kindPlace w j))) (placeAttribute (kindPlace w j)) v isIn kindLines P W m w (P .side w .isSet (placeAttribute (kindPlace w j)))
     unfolding kindLines
     kind-in w j l h {v} k =
         let i = kindPlace w j in
         let set = P .side w .isSet (placeAttribute i) in
         each-in (λ j. cond (isKind P m w set (kindPlace w j)) (attributeLines P W w set (kindPlace w j)) []) (upTo-in l)
-        (subst (λ (b : Bool). value w set (placeAttribute i) v ∈ cond b (attributeLines P W w set i) []) (sym (and-in h (iff-in set set refl))) (map-in (value w set (placeAttribute i)) k))
+        (subst (λ (b : Bool). value w set (placeAttribute i) v isIn cond b (attributeLines P W w set i) []) (sym (and-in h (iff-in set set refl))) (map-in (value w set (placeAttribute i)) k))
 
     -- the lines of a kind have its command byte
     pub kind-byte : (w : Which) (set : Bool) → Every (λ c. byteOf c ≡ valueByte w set) (kindLines P W m w set)
@@ -239,10 +241,10 @@ module _ (P : Setting) where
 
     -- where a line comes from
     data LineFrom (ps : Lines) (c : RuleCommand) : Type 0 where
-      from-kind : (w : Which) (set : Bool) → c ∈ kindLines P W m w set → LineFrom ps c
+      from-kind : (w : Which) (set : Bool) → c isIn kindLines P W m w set → LineFrom ps c
       from-operations : c ≡ operations (W .ops) → LineFrom ps c
-      from-atoms : c ∈ atomLines m → LineFrom ps c
-      from-parts : c ∈ ps → LineFrom ps c
+      from-atoms : c isIn atomLines m → LineFrom ps c
+      from-parts : c isIn ps → LineFrom ps c
 
     module _ (ps : Lines) where
       -- the lines from a section on
@@ -255,39 +257,39 @@ module _ (P : Setting) where
       abbrev afterSingles : Lines
       afterSingles = kindLines P W m user true ++ afterUsers
 
-      rule-out : {c : RuleCommand} → c ∈ ruleLines P W m ps → LineFrom ps c
+      rule-out : {c : RuleCommand} → c isIn ruleLines P W m ps → LineFrom ps c
       unfolding ruleLines
       rule-out {c} k = first (List·Memᴰ·append-cases (kindLines P W m user false) k)
         where
-          last : (c ∈ atomLines m) ⊎ (c ∈ ps) → LineFrom ps c
+          last : (c isIn atomLines m) ⊎ (c isIn ps) → LineFrom ps c
           last (inl k) = from-atoms k
           last (inr k) = from-parts k
 
-          sixth : (c ≡ operations (W .ops)) ⊎ (c ∈ (atomLines m ++ ps)) → LineFrom ps c
+          sixth : (c ≡ operations (W .ops)) ⊎ (c isIn (atomLines m ++ ps)) → LineFrom ps c
           sixth (inl e) = from-operations e
           sixth (inr k) = last (List·Memᴰ·append-cases (atomLines m) k)
 
-          fourth : (c ∈ kindLines P W m resource true) ⊎ (c ∈ afterKinds) → LineFrom ps c
+          fourth : (c isIn kindLines P W m resource true) ⊎ (c isIn afterKinds) → LineFrom ps c
           fourth (inl k) = from-kind resource true k
           fourth (inr k) = sixth (List·Memᴰ·cases-cons k)
 
-          third : (c ∈ kindLines P W m resource false) ⊎ (c ∈ (kindLines P W m resource true ++ afterKinds)) → LineFrom ps c
+          third : (c isIn kindLines P W m resource false) ⊎ (c isIn (kindLines P W m resource true ++ afterKinds)) → LineFrom ps c
           third (inl k) = from-kind resource false k
           third (inr k) = fourth (List·Memᴰ·append-cases (kindLines P W m resource true) k)
 
-          second : (c ∈ kindLines P W m user true) ⊎ (c ∈ afterUsers) → LineFrom ps c
+          second : (c isIn kindLines P W m user true) ⊎ (c isIn afterUsers) → LineFrom ps c
           second (inl k) = from-kind user true k
           second (inr k) = third (List·Memᴰ·append-cases (kindLines P W m resource false) k)
 
-          first : (c ∈ kindLines P W m user false) ⊎ (c ∈ afterSingles) → LineFrom ps c
+          first : (c isIn kindLines P W m user false) ⊎ (c isIn afterSingles) → LineFrom ps c
           first (inl k) = from-kind user false k
           first (inr k) = second (List·Memᴰ·append-cases (kindLines P W m user true) k)
 
-      behind-kinds : {c : RuleCommand} → c ∈ afterKinds → c ∈ ruleLines P W m ps
+      behind-kinds : {c : RuleCommand} → c isIn afterKinds → c isIn ruleLines P W m ps
       unfolding ruleLines
       behind-kinds k = Memᴰ·append-right (kindLines P W m user false) (Memᴰ·append-right (kindLines P W m user true) (Memᴰ·append-right (kindLines P W m resource false) (Memᴰ·append-right (kindLines P W m resource true) k)))
 
-      rule-in : {c : RuleCommand} → LineFrom ps c → c ∈ ruleLines P W m ps
+      rule-in : {c : RuleCommand} → LineFrom ps c → c isIn ruleLines P W m ps
       unfolding ruleLines
       rule-in (from-kind user false k) = Memᴰ·append-left afterSingles k
       rule-in (from-kind user true k) = Memᴰ·append-right (kindLines P W m user false) (Memᴰ·append-left afterUsers k)
@@ -310,7 +312,7 @@ module _ (P : Setting) where
           (r, λ c k. let e = part-byte c (only-parts c k) in omega arith))))))
           .0
         where
-          one : (c : RuleCommand) → (c ≡ operations (W .ops)) ⊎ (c ∈ []) → byteOf c ≡ 0x26
+          one : (c : RuleCommand) → (c ≡ operations (W .ops)) ⊎ (c isIn []) → byteOf c ≡ 0x26
           one c (inl e) = ap byteOf e
           one c (inr k) = absurd (List·Memᴰ·not-nil k)
 
@@ -320,15 +322,15 @@ module _ (P : Setting) where
     abbrev pub placeConds : List Cond
     placeConds = each (λ i. only (bit m i) (trimCond P (condAt P W i))) (upTo 50)
 
-    cond-line-in : (i : ℕ) → i < 50 → Is (bit m i) → {c : RuleCommand} → c ∈ condLines P (trimCond P (condAt P W i)) → c ∈ each (condLines P) placeConds
+    cond-line-in : (i : ℕ) → i < 50 → Is (bit m i) → {c : RuleCommand} → c isIn condLines P (trimCond P (condAt P W i)) → c isIn each (condLines P) placeConds
     cond-line-in i l h k = each-in (condLines P) (each-in (λ i. only (bit m i) (trimCond P (condAt P W i))) (upTo-in l) (only-in (trimCond P (condAt P W i)) h)) k
 
-    cond-line-out : {c : RuleCommand} → c ∈ each (condLines P) placeConds → (i : ℕ) × (i < 50) × Is (bit m i) × (c ∈ condLines P (trimCond P (condAt P W i)))
+    cond-line-out : {c : RuleCommand} → c isIn each (condLines P) placeConds → (i : ℕ) × (i < 50) × Is (bit m i) × (c isIn condLines P (trimCond P (condAt P W i)))
     cond-line-out {c} k =
         let t = each-out (condLines P) placeConds k in
         let s = each-out (λ i. only (bit m i) (trimCond P (condAt P W i))) (upTo 50) (t .1) in
         let q = only-out (bit m (s .0)) (s .2) in
-        (s .0, upTo-out 50 (s .1), q .0, subst (λ (d : Cond). c ∈ condLines P d) (q .1) (t .2))
+        (s .0, upTo-out 50 (s .1), q .0, subst (λ (d : Cond). c isIn condLines P d) (q .1) (t .2))
 
     conjunct-lines : (i : ℕ) → i < 14 → condLines P (trimCond P (condAt P W i)) ≡ attributeLines P W (placeSide i) (P .side (placeSide i) .isSet (placeAttribute i)) i
     unfolding condLines
@@ -339,52 +341,52 @@ module _ (P : Setting) where
     link-lines i l = ap (condLines P) (written-atom W i l)
 
     -- the lines of a kind are lines of conditions
-    kind-cond : (w : Which) (set : Bool) {c : RuleCommand} → c ∈ kindLines P W m w set → c ∈ each (condLines P) placeConds
+    kind-cond : (w : Which) (set : Bool) {c : RuleCommand} → c isIn kindLines P W m w set → c isIn each (condLines P) placeConds
     kind-cond w set {c} k =
         let t = kind-out w set k in
         let i = kindPlace w (t .0) in
         let a = placeAttribute i in
         let below = place-below w (t .0) (t .1) in
         cond-line-in i (omega arith) (t .2)
-        (subst (λ (l : Lines). c ∈ l) (sym (conjunct-lines i below))
-        (subst (λ (x : Which). c ∈ attributeLines P W x (P .side x .isSet a) i) (sym (place-side w (t .0) (t .1)))
-        (subst (λ (s : Bool). c ∈ attributeLines P W w s i) (sym (t .3))
-        (subst (λ (d : RuleCommand). d ∈ attributeLines P W w set i) (sym (t .6)) (map-in (value w set a) (t .5))))))
+        (subst (λ (l : Lines). c isIn l) (sym (conjunct-lines i below))
+        (subst (λ (x : Which). c isIn attributeLines P W x (P .side x .isSet a) i) (sym (place-side w (t .0) (t .1)))
+        (subst (λ (s : Bool). c isIn attributeLines P W w s i) (sym (t .3))
+        (subst (λ (d : RuleCommand). d isIn attributeLines P W w set i) (sym (t .6)) (map-in (value w set a) (t .5))))))
 
-    atom-cond : {c : RuleCommand} → c ∈ atomLines m → c ∈ each (condLines P) placeConds
+    atom-cond : {c : RuleCommand} → c isIn atomLines m → c isIn each (condLines P) placeConds
     atom-cond {c} k =
         let t = atom-out m k in
         let j = t .0 in
         let e : 14 + j - 14 ≡ j = omega arith in
         cond-line-in (14 + j) (let l = t .1 in omega arith) (t .2)
-        (subst (λ (l : Lines). c ∈ l) (sym (link-lines (14 + j) (omega arith)))
-        (subst (λ (n : ℕ). c ∈ (link (n / 6) (n % 6) ∷ [])) (sym e) (List·Memᴰ·head (t .3))))
+        (subst (λ (l : Lines). c isIn l) (sym (link-lines (14 + j) (omega arith)))
+        (subst (λ (n : ℕ). c isIn (link (n / 6) (n % 6) ∷ [])) (sym e) (List·Memᴰ·head (t .3))))
 
-    kind-at : (w : Which) (j : ℕ) → j < 7 → (i : ℕ) → i ≡ kindPlace w j → Is (bit m i) → (v : ℕ) → v ∈ writtenValues P W i
-        → value w (P .side w .isSet (placeAttribute i)) (placeAttribute i) v ∈ kindLines P W m w (P .side w .isSet (placeAttribute i))
+    kind-at : (w : Which) (j : ℕ) → j < 7 → (i : ℕ) → i ≡ kindPlace w j → Is (bit m i) → (v : ℕ) → v isIn writtenValues P W i
+        → value w (P .side w .isSet (placeAttribute i)) (placeAttribute i) v isIn kindLines P W m w (P .side w .isSet (placeAttribute i))
     kind-at w j l i e =
-        subst (λ (i : ℕ). Is (bit m i) → (v : ℕ) → v ∈ writtenValues P W i → value w (P .side w .isSet (placeAttribute i)) (placeAttribute i) v ∈ kindLines P W m w (P .side w .isSet (placeAttribute i))) (sym e) (λ h v k. kind-in w j l h k)
+        subst (λ (i : ℕ). Is (bit m i) → (v : ℕ) → v isIn writtenValues P W i → value w (P .side w .isSet (placeAttribute i)) (placeAttribute i) v isIn kindLines P W m w (P .side w .isSet (placeAttribute i))) (sym e) (λ h v k. kind-in w j l h k)
 
     -- and the lines of conditions are lines of a kind or of atoms
-    cond-from : (ps : Lines) {c : RuleCommand} → c ∈ each (condLines P) placeConds → LineFrom ps c
+    cond-from : (ps : Lines) {c : RuleCommand} → c isIn each (condLines P) placeConds → LineFrom ps c
     cond-from ps {c} k =
         let t = cond-line-out k in
         test (ltb (t .0) 14) (λ p. conjunct-from (t .0) (ltb-true (t .0) 14 p) (t .2) (t .3)) (λ p. let l = t .1 in link-from (t .0) (ltb-false (t .0) 14 p) l (t .2) (t .3))
       where
-        conjunct-from : (i : ℕ) → i < 14 → Is (bit m i) → c ∈ condLines P (trimCond P (condAt P W i)) → LineFrom ps c
+        conjunct-from : (i : ℕ) → i < 14 → Is (bit m i) → c isIn condLines P (trimCond P (condAt P W i)) → LineFrom ps c
         conjunct-from i l h k =
             let set = P .side (placeSide i) .isSet (placeAttribute i) in
-            let t = map-out (value (placeSide i) set (placeAttribute i)) (writtenValues P W i) (subst (λ (s : Lines). c ∈ s) (conjunct-lines i l) k) in
-            from-kind (placeSide i) set (subst (λ (d : RuleCommand). d ∈ kindLines P W m (placeSide i) set) (sym (t .2)) (kind-at (placeSide i) (i % 7) (omega arith) i (place-own i l) h (t .0) (t .1)))
+            let t = map-out (value (placeSide i) set (placeAttribute i)) (writtenValues P W i) (subst (λ (s : Lines). c isIn s) (conjunct-lines i l) k) in
+            from-kind (placeSide i) set (subst (λ (d : RuleCommand). d isIn kindLines P W m (placeSide i) set) (sym (t .2)) (kind-at (placeSide i) (i % 7) (omega arith) i (place-own i l) h (t .0) (t .1)))
 
-        linked : (i : ℕ) → 14 ≤ i → i < 50 → Is (bit m i) → (c ≡ link ((i - 14) / 6) ((i - 14) % 6)) ⊎ (c ∈ []) → LineFrom ps c
+        linked : (i : ℕ) → 14 ≤ i → i < 50 → Is (bit m i) → (c ≡ link ((i - 14) / 6) ((i - 14) % 6)) ⊎ (c isIn []) → LineFrom ps c
         linked i l u h (inl q) =
             let e : i ≡ 14 + (i - 14) = omega arith in
-            from-atoms (subst (λ (d : RuleCommand). d ∈ atomLines m) (sym q) (atom-in m (i - 14) (omega arith) (sym (ap (bit m) e) ∙ h)))
+            from-atoms (subst (λ (d : RuleCommand). d isIn atomLines m) (sym q) (atom-in m (i - 14) (omega arith) (sym (ap (bit m) e) ∙ h)))
         linked i l u h (inr k) = absurd (List·Memᴰ·not-nil k)
 
-        link-from : (i : ℕ) → 14 ≤ i → i < 50 → Is (bit m i) → c ∈ condLines P (trimCond P (condAt P W i)) → LineFrom ps c
-        link-from i l u h k = linked i l u h (List·Memᴰ·cases-cons (subst (λ (s : Lines). c ∈ s) (link-lines i l) k))
+        link-from : (i : ℕ) → 14 ≤ i → i < 50 → Is (bit m i) → c isIn condLines P (trimCond P (condAt P W i)) → LineFrom ps c
+        link-from i l u h k = linked i l u h (List·Memᴰ·cases-cons (subst (λ (s : Lines). c isIn s) (link-lines i l) k))
 
     -- the lines of the conditions at the places, sorted
     pub places-sorted : (qs : Lines) → Every (λ c. Is (isPartLine c)) qs → sort precedes (each (condLines P) placeConds ++ (operations (W .ops) ∷ qs)) ≡ ruleLines P W m (sort precedes qs)
@@ -394,15 +396,15 @@ module _ (P : Setting) where
         (λ c k. rule-in (sort precedes qs) (there c (List·Memᴰ·append-cases (each (condLines P) placeConds) k)))
         (λ c k. back c (rule-out (sort precedes qs) k))
       where
-        behind : (c : RuleCommand) → (c ≡ operations (W .ops)) ⊎ (c ∈ qs) → LineFrom (sort precedes qs) c
+        behind : (c : RuleCommand) → (c ≡ operations (W .ops)) ⊎ (c isIn qs) → LineFrom (sort precedes qs) c
         behind c (inl e) = from-operations e
         behind c (inr k) = from-parts (sort-in precedes lines-strict k)
 
-        there : (c : RuleCommand) → (c ∈ each (condLines P) placeConds) ⊎ (c ∈ (operations (W .ops) ∷ qs)) → LineFrom (sort precedes qs) c
+        there : (c : RuleCommand) → (c isIn each (condLines P) placeConds) ⊎ (c isIn (operations (W .ops) ∷ qs)) → LineFrom (sort precedes qs) c
         there c (inl k) = cond-from (sort precedes qs) k
         there c (inr k) = behind c (List·Memᴰ·cases-cons k)
 
-        back : (c : RuleCommand) → LineFrom (sort precedes qs) c → c ∈ (each (condLines P) placeConds ++ (operations (W .ops) ∷ qs))
+        back : (c : RuleCommand) → LineFrom (sort precedes qs) c → c isIn (each (condLines P) placeConds ++ (operations (W .ops) ∷ qs))
         back c (from-kind w set k) = Memᴰ·append-left (operations (W .ops) ∷ qs) (kind-cond w set k)
         back c (from-operations e) = Memᴰ·append-right (each (condLines P) placeConds) (List·Memᴰ·head e)
         back c (from-atoms k) = Memᴰ·append-left (operations (W .ops) ∷ qs) (atom-cond k)

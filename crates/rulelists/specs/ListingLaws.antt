@@ -14,12 +14,14 @@ use Rattle.loaded.specs.Record.{tableOf}
 use Rattle.loaded.specs.RecordLaws.{table-get}
 use Rattle.operands.specs.Operands.{classRow}
 use Rattle.rulelines.specs.ListLaws.{sum-most, keep-most, sort-most, sort-same}
-use Rattle.rulelines.specs.RuleBytes.{atomSet}
+use Rattle.rulelines.specs.RuleLines.{atomSet}
 use Rattle.rulelists.specs.RuleLists.{setPlace, listedAt, classAt, classAmong, ClassTable, inGroup, memberSet, partsAt, classesAt, placeCostIn, ruleCostIn}
 use Rattle.sets.specs.MaskLaws.{and-true, bit-maskOf, size-most}
-use Rattle.sets.specs.Sets.{bit, bit-mask, size}
-use Rattle.sets.specs.Sorted.{numbers}
-use Rattle.sets.specs.Tests.{Is, and-l, and-r, test, _∈_, keep, keep-in, keep-out, from, from-in, from-out, upTo, upTo-in, map-in, map-out, sum}
+use Rattle.sets.specs.Sets.{bit, size}
+use Rattle.sets.specs.SetLaws.{bit-mask}
+use Rattle.sets.specs.SortedLaws.{numbers}
+use Rattle.sets.specs.Tests.{Is, _isIn_, keep, from, upTo, sum}
+use Rattle.sets.specs.TestLaws.{and-l, and-r, test, keep-in, keep-out, from-in, from-out, upTo-in, map-in, map-out}
 use Rattle.slotgroups.specs.Scratch.{wordsAt}
 use Rattle.values.specs.ValueLaws.{among-nobody}
 use Rattle.values.specs.Values.{valuesAmong, listedOf}
@@ -132,10 +134,10 @@ module _ (permissions : List ℕ) (operations : ℕ) (t : List ℕ) (head k : �
       class-at : (o : ℕ) → o < 16 → Is (bit (memberSet t head k) o) → getD table o 0 ≡ classAt permissions operations (16 * k + o)
       class-at o l b = h o l ∙ ap (λ (c : Bool). cond c (classRow permissions k operations o) 0) b ∙ sym (slot-class o l)
 
-      there : (v x : ℕ) → x < 16 → Is (bit (memberSet t head k) x) → Is (inGroup t head (16 * k + x)) → v ≡ getD table x 0 → v ∈ map (classAt permissions operations) (keep (inGroup t head) (from (16 * k) 16))
+      there : (v x : ℕ) → x < 16 → Is (bit (memberSet t head k) x) → Is (inGroup t head (16 * k + x)) → v ≡ getD table x 0 → v isIn map (classAt permissions operations) (keep (inGroup t head) (from (16 * k) 16))
       there v x l b g e = rw (e ∙ class-at x l b) (map-in (classAt permissions operations) (keep-in (inGroup t head) (from-in (16 * k) 16 (16 * k + x) (omega arith) (omega arith)) g))
 
-      back : (v i o : ℕ) → i ≡ 16 * k + o → o < 16 → Is (inGroup t head i) → v ≡ classAt permissions operations i → v ∈ map (λ x. getD table x 0) (keep (bit (memberSet t head k)) (upTo 64))
+      back : (v i o : ℕ) → i ≡ 16 * k + o → o < 16 → Is (inGroup t head i) → v ≡ classAt permissions operations i → v isIn map (λ x. getD table x 0) (keep (bit (memberSet t head k)) (upTo 64))
       back v i o q l g e =
           let b = bit-mask 16 (λ o. inGroup t head (16 * k + o)) o l ∙ ap (inGroup t head) (sym q) ∙ g in
           rw (e ∙ ap (classAt permissions operations) q ∙ sym (class-at o l b)) (map-in (λ x. getD table x 0) (keep-in (bit (memberSet t head k)) (upTo-in {n = 64} {i = o} (omega arith)) b))

@@ -17,21 +17,20 @@ use Rattle.matches.specs.MemberLaws.{least-in, bit-less}
 use Rattle.operands.specs.Operands.{classRow}
 use Rattle.rulelines.specs.ListLaws.{sort-is}
 use Rattle.rulelists.specs.ListingLaws.{slot-other, slot-own, listed-none}
-use Rattle.rulelists.specs.Roles.{rolesFor, rolesTable}
+use Rattle.rulelists.specs.Roles.{slotRole, rolesFor, rolesTable}
 use Rattle.rulelists.specs.RuleLists.{classAt, inGroup, memberSet, partsAt, classesAt}
 use Rattle.sets.specs.LoopLaws.{any-more}
 use Rattle.sets.specs.Lowest.{lowestFrom}
 use Rattle.sets.specs.MaskLaws.{or-false, mask-lt, bit-maskOf, mask-same, mask-wide, mask-none, empty-law}
-use Rattle.sets.specs.Sets.{bit, bit-none, maskOf, bit-mask}
-use Rattle.sets.specs.Sorted.{numbers, none-left, and-then}
-use Rattle.sets.specs.Tests.{Is, and-in, and-l, and-r, never, test, fails, same, _∈_, any, any-in, any-out, keep, keep-in, keep-out, from, from-in, from-out, upTo, upTo-in, upTo-out, map-in, map-out, not-in, not-out}
+use Rattle.sets.specs.Sets.{bit, maskOf}
+use Rattle.sets.specs.SetLaws.{bit-none, bit-mask}
+use Rattle.sets.specs.Sorted.{none-left, and-then}
+use Rattle.sets.specs.SortedLaws.{numbers}
+use Rattle.sets.specs.Tests.{Is, _isIn_, any, keep, from, upTo}
+use Rattle.sets.specs.TestLaws.{and-in, and-l, and-r, never, test, fails, same, any-in, any-out, keep-in, keep-out, from-in, from-out, upTo-in, upTo-out, map-in, map-out, not-in, not-out}
 use Rattle.slotgroups.specs.Scratch.{isPartAt}
 
 -- ---- the table, slot by slot
-
--- the set of the role whose part stands in a slot
-unfoldable pub slotRole : List ℕ → ℕ → ℕ
-slotRole t s = maskOf 64 (λ r. isPartAt t s && eqb r (s / 16))
 
 -- the roles that have a part in the group in one of the slots before s
 unfoldable pub rolesBefore : List ℕ → ℕ → ℕ → ℕ
@@ -184,7 +183,7 @@ module _ (permissions : List ℕ) (operations : ℕ) (t : List ℕ) (head k : �
       there : (v i o : ℕ) → i ≡ 16 * k + o → o < 16 → Is (inGroup t head i) → v ≡ classAt permissions operations i → v ≡ classRow permissions k operations y
       there v i o q n g c = c ∙ ap (classAt permissions operations) q ∙ slot-class o n ∙ ap (classRow permissions k operations) (only-one o (member o n ∙ ap (inGroup t head) (sym q) ∙ g))
 
-      back : (v : ℕ) → (v ≡ classRow permissions k operations y) ⊎ (v ∈ []) → v ∈ map (classAt permissions operations) (keep (inGroup t head) (from (16 * k) 16))
+      back : (v : ℕ) → (v ≡ classRow permissions k operations y) ⊎ (v isIn []) → v isIn map (classAt permissions operations) (keep (inGroup t head) (from (16 * k) 16))
       back v (inl c) = rw (c ∙ sym (slot-class y l)) (map-in (classAt permissions operations) (keep-in (inGroup t head) (from-in (16 * k) 16 (16 * k + y) (omega arith) (omega arith)) (sym (member y l) ∙ b)))
       back v (inr m) = absurd (List·Memᴰ·not-nil m)
 

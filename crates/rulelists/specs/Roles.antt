@@ -1,12 +1,17 @@
 -- The roles that have a part in a group, so that writing and measuring visit no others.
 -- Assumes nothing.
-use Prim.Native.Nat.{ℕ}
+use Prim.Native.Nat.{ℕ, _/_}
 use lib.Dec.{eqb}
-use mathlib.Core.Bool.{not}
+use mathlib.Core.Bool.{_&&_, not}
 use mathlib.Core.List.{List}
 use Rattle.loaded.specs.Record.{tableOf}
 use Rattle.sets.specs.Sets.{maskOf}
+use Rattle.slotgroups.specs.Scratch.{isPartAt}
 use Rattle.rulelists.specs.RuleLists.{memberSet}
+
+-- the set of the role whose part stands in a slot; empty where none does
+unfoldable pub slotRole : List ℕ → ℕ → ℕ
+slotRole t s = maskOf 64 (λ r. isPartAt t s && eqb r (s / 16))
 
 -- the roles that have a part in the group
 unfoldable pub rolesFor : List ℕ → ℕ → ℕ

@@ -9,7 +9,7 @@ use mathlib.Core.List.{List, map}
 use mathlib.Core.Path.{_≡_}
 use Rattle.distinct.specs.Distinct.{listedBy}
 use Rattle.operands.specs.Operands.{classRow}
-use Rattle.rulelines.specs.RuleBytes.{atomSet}
+use Rattle.rulelines.specs.RuleLines.{atomSet}
 use Rattle.sets.specs.Sets.{bit, maskOf, size}
 use Rattle.sets.specs.Sorted.{sort}
 use Rattle.sets.specs.Tests.{keep, from, upTo, sum}

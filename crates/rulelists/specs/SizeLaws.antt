@@ -17,16 +17,19 @@ use Rattle.loaded.specs.RecordLaws.{table-get}
 use Rattle.matches.specs.Matches.{lessOne}
 use Rattle.matches.specs.MemberLaws.{least-in, bit-less}
 use Rattle.rulelines.specs.ListLaws.{sum-append, sum-most, sum-more, keep-more}
-use Rattle.rulelines.specs.RuleBytes.{atomSet}
+use Rattle.rulelines.specs.RuleLines.{atomSet}
 use Rattle.rulelists.specs.ListingLaws.{place-members, listed-most, listed-role, cost-most}
 use Rattle.rulelists.specs.RuleLists.{setPlace, listedAt, classAmong, memberSet, classesAt, placeCostIn}
 use Rattle.rulelists.specs.Sizes.{linesLong, linesCost, placeLongIn}
 use Rattle.sets.specs.LoopLaws.{turn-within}
 use Rattle.sets.specs.Lowest.{lowestFrom}
 use Rattle.sets.specs.MaskLaws.{mask-wide, mask-same, size-most}
-use Rattle.sets.specs.Sets.{bit, bit-none, maskOf, bit-mask, size}
-use Rattle.sets.specs.Sorted.{numbers, rising-ext, none-left, and-then}
-use Rattle.sets.specs.Tests.{Is, never, test, and-in, not-in, _∈_, keep, only, upTo, sum}
+use Rattle.sets.specs.Sets.{bit, maskOf, size}
+use Rattle.sets.specs.SetLaws.{bit-none, bit-mask}
+use Rattle.sets.specs.Sorted.{none-left, and-then}
+use Rattle.sets.specs.SortedLaws.{numbers, rising-ext}
+use Rattle.sets.specs.Tests.{Is, _isIn_, keep, only, upTo, sum}
+use Rattle.sets.specs.TestLaws.{never, test, and-in, not-in}
 use Rattle.values.specs.ValueLaws.{among-in, among-out, among-rising}
 use Rattle.values.specs.Values.{valuesAmong, listedOf}
 
@@ -211,7 +214,7 @@ among-one vals members y h l b e =
         (λ q. eqb-true x y q)
         (λ q. never (bit-less members h y x ∙ and-in p (not-in (eqb x y) q)) (ap (λ (m : ℕ). bit m x) e ∙ bit-none x))
 
-    back : (v : ℕ) → v ∈ (getD vals y 0 ∷ []) → v ∈ valuesAmong vals members
+    back : (v : ℕ) → v isIn (getD vals y 0 ∷ []) → v isIn valuesAmong vals members
     back v (List·Memᴰ·head q) = rw q (among-in vals members y l b)
     back v (List·Memᴰ·tail m) = absurd (List·Memᴰ·not-nil m)
 

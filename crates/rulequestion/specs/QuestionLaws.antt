@@ -4,20 +4,20 @@ use Prim.Native.Nat.{ℕ}
 use borrow.Author.Tests.{eq-eqb, ne-eqb, ltb-true}
 use lib.Dec.{eqb, ltb}
 use mathlib.Core.Bool.{Bool, true, false, cond, _&&_}
-use mathlib.Core.List.{List}
+use mathlib.Core.List.{List, _∷_}
 use mathlib.Core.Path.{_≡_, refl, ap, ap₂, _∙_}
 use native.Mathlib.Omega.{arith}
-use Rattle.admit.specs.AdmitLaws.{Sized}
-use Rattle.files.specs.Answer.{numberOf, Answer, unless, andThen, beyond, refused, accepted}
+use Rattle.loaded.specs.Record.{Sized, recordWith, recordOf}
+use Rattle.files.specs.Answer.{numberOf, Answer, told, unless, andThen, beyond, refused, accepted}
 use Rattle.files.specs.BytesLaws.{Carries, number-positive}
-use Rattle.files.specs.Calls.{isTriple, rulesGrant, readBoth, ruleQuestion}
+use Rattle.files.specs.Calls.{yesNo, isTriple, rulesGrant, readBoth, ruleQuestion}
 use Rattle.files.specs.RuleFile.{Lines}
 use Rattle.grants.specs.Grid.{gridOf, inGrid}
 use Rattle.grants.specs.GridLaws.{in-grid}
-use Rattle.loaded.specs.Record.{recordWith, recordOf}
 use Rattle.policy.specs.Policy.{Policy, sideOf, settingOf}
 use Rattle.policy.specs.Rules.{user, resource}
-use Rattle.rolequestion.specs.Reply.{replyOf}
+use Rattle.rolequestion.specs.QuestionLaws.{yes-no}
+use Rattle.rolequestion.specs.Reply.{replyNumbers}
 use Rattle.rulefile.specs.BothFiles.{nothingRead, bothOf}
 use Rattle.rulefile.specs.LegalLaws.{Sound, both-sound}
 use Rattle.rulesteps.specs.Shows.{grantedWithin}
@@ -47,23 +47,23 @@ module _ (F : Policy) (rules : List Lines) (Z : Sized F) (u r o : ℕ) where
       in-grid (grantedWithin F rules) u r o (omega arith) (omega arith) (omega arith)
       ∙ ap (λ (t : Bool). t && rulesGrant (settingOf F) rules u r o) (ap₂ (λ (x y : Bool). x && y) p (ap₂ (λ (x y : Bool). x && y) q s))
 
-  answered : answeredBy (bothOf (accepted (F, rules))) u r o ≡ replyOf (unless (isTriple (settingOf F) u r o) beyond (accepted (rulesGrant (settingOf F) rules u r o)))
-  unfolding answeredBy bothOf replyOf isTriple recordOf recordWith settingOf sideOf
+  answered : replyNumbers (answeredBy (bothOf (accepted (F, rules))) u r o) ≡ told yesNo (unless (isTriple (settingOf F) u r o) beyond (accepted (rulesGrant (settingOf F) rules u r o)))
+  unfolding answeredBy bothOf isTriple recordOf recordWith settingOf sideOf
   answered = go (ltb u (F .table user .count)) refl (ltb r (F .table resource .count)) refl (ltb o (F .operations)) refl
     where
       go : (a : Bool) → ltb u (F .table user .count) ≡ a → (b : Bool) → ltb r (F .table resource .count) ≡ b → (c : Bool) → ltb o (F .operations) ≡ c
-          → cond a (cond b (cond c (cond (inGrid (gridOf (grantedWithin F rules)) u r o) Yes No) (Refused 5)) (Refused 5)) (Refused 5) ≡ replyOf (unless (a && (b && c)) beyond (accepted (rulesGrant (settingOf F) rules u r o)))
-      go true p true q true s = ap (λ (x : Bool). cond x Yes No) (granted p q s)
+          → replyNumbers (cond a (cond b (cond c (cond (inGrid (gridOf (grantedWithin F rules)) u r o) Yes No) (Refused 5)) (Refused 5)) (Refused 5)) ≡ told yesNo (unless (a && (b && c)) beyond (accepted (rulesGrant (settingOf F) rules u r o)))
+      go true p true q true s = yes-no (inGrid (gridOf (grantedWithin F rules)) u r o) ∙ ap (λ (x : Bool). 0 ∷ yesNo x) (granted p q s)
       go true p true q false s = refl
       go true p false q c s = refl
       go false p b q c s = refl
 
 -- THE LAW
-pub answered-means : (file rules : List ℕ) (u r o : ℕ) → answeredBy (bothOf (readBoth 2 file rules)) u r o ≡ replyOf (ruleQuestion 2 file rules u r o)
-unfolding ruleQuestion answeredBy bothOf nothingRead replyOf
+pub answered-means : (file rules : List ℕ) (u r o : ℕ) → replyNumbers (answeredBy (bothOf (readBoth 2 file rules)) u r o) ≡ told yesNo (ruleQuestion 2 file rules u r o)
+unfolding ruleQuestion answeredBy bothOf nothingRead
 answered-means file rules u r o = go (readBoth 2 file rules) (both-sound file rules)
   where
-    go : (a : Answer (Policy × List Lines)) → Carries Sound a → answeredBy (bothOf a) u r o ≡ replyOf (andThen a (λ (p : Policy × List Lines). unless (isTriple (settingOf (p .0)) u r o) beyond (accepted (rulesGrant (settingOf (p .0)) (p .1) u r o))))
+    go : (a : Answer (Policy × List Lines)) → Carries Sound a → replyNumbers (answeredBy (bothOf a) u r o) ≡ told yesNo (andThen a (λ (p : Policy × List Lines). unless (isTriple (settingOf (p .0)) u r o) beyond (accepted (rulesGrant (settingOf (p .0)) (p .1) u r o))))
     go (refused e) z = rw (ne-eqb (numberOf e) 0 (number-positive e)) refl
     go (accepted p) z = answered (p .0) (p .1) (z .sized) u r o
 

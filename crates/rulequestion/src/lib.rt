@@ -1,22 +1,25 @@
 // The rule question: whether some rule of a rule file, read beside a role file, grants a user an operation on a resource.
 ghost use mathlib.Core.Path.{_≡_};
 ghost use Prim.Native.Nat.{_<_};
-ghost use Rattle.files.specs.Calls.{ruleQuestion};
+ghost use Rattle.files.specs.Answer.{told};
+ghost use Rattle.files.specs.Calls.{yesNo, ruleQuestion};
 ghost use Rattle.grants.specs.Grid.{inGrid};
-ghost use Rattle.rolequestion.specs.Reply.{replyOf};
+ghost use Rattle.rolequestion.specs.Reply.{replyNumbers};
 use rolequestion::Reply;
+use loaded::Grid;
+use loaded::RoleFile;
 
 // Whether a grid has a triple.
-fn in_grid(grid: &[u64; 1024], user: usize, resource: usize, operation: usize) -> bool
+fn in_grid(grid: &Grid, user: usize, resource: usize, operation: usize) -> bool
     requires { ⌜ (user < 64) × (operation < 16) ⌝ }
     ensures { λ r. ⌜ r ≡ inGrid (now (grid .entry)) user resource operation ⌝ }
 {
-    sets::has(grid[16 * user + operation], resource)
+    sets::has(grid[RoleFile::OPERATIONS * user + operation], resource)
 }
 
 // Any numbers may be handed in: a number beyond the sizes is refused, after the refusals of both files.
 pub fn ask(file: &[u8], rules: &[u8], user: usize, resource: usize, operation: usize) -> Reply
-    ensures { λ r. ⌜ r ≡ replyOf (ruleQuestion 2 (now (file .entry)) (now (rules .entry)) user resource operation) ⌝ }
+    ensures { λ r. ⌜ replyNumbers r ≡ told yesNo (ruleQuestion 2 (now (file .entry)) (now (rules .entry)) user resource operation) ⌝ }
 {
     let b = rulefile::read(file, rules);
     if b.code != 0 {

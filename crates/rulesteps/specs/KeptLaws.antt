@@ -15,7 +15,7 @@ use Rattle.rulecommands.specs.Raw.{rawBefore}
 use Rattle.rulesteps.specs.Kept.{tallied, countedWith, ruleGrid, closedWith, finishedWith, finishedGrid, mayClose, followsWith}
 use Rattle.rulesteps.specs.Lines.{placeBy, pairNumber, keptAs, notedWith, metMore}
 use Rattle.sets.specs.Sets.{bit, maskOf}
-use Rattle.sets.specs.Tests.{test}
+use Rattle.sets.specs.TestLaws.{test}
 use Rattle.grants.specs.declared.Difference.{Difference}
 use Rattle.rulecommands.specs.declared.RuleCommand.{RuleCommand}
 use Rattle.rulesteps.specs.declared.Kept.{Kept}

@@ -14,9 +14,9 @@ use Rattle.listings.specs.Listed.{seenTable, againTable}
 use Rattle.loaded.specs.Record.{numberOr, recordOf}
 use Rattle.policy.specs.Policy.{Policy, settingOf, rolesIn}
 use Rattle.policy.specs.Rules.{Block}
-use Rattle.rulecommands.specs.OrderLaws.{InOrder}
-use Rattle.rulegrants.specs.SummaryMeans.{Legal}
-use Rattle.sets.specs.Tests.{_∈_, any, isSome}
+use Rattle.rulecommands.specs.Raw.{InOrder}
+use Rattle.rulegrants.specs.RuleGrid.{Legal}
+use Rattle.sets.specs.Tests.{_isIn_, any, isSome}
 use Rattle.rulesteps.specs.declared.Kept.{Kept}
 
 module _ (F : Policy) where
@@ -30,7 +30,7 @@ module _ (F : Policy) where
 
   -- of the rules that are complete
   pub record Stored (rules : List Lines) (k : Kept) (grid seen again : List ℕ) : Type 0 where
-    pub all-legal : (ls : Lines) → ls ∈ rules → Legal (settingOf F) (rolesIn F) ls
+    pub all-legal : (ls : Lines) → ls isIn rules → Legal (settingOf F) (rolesIn F) ls
     pub grid-shown : grid ≡ gridOf (grantedWithin rules)
     pub rules-counted : k .rules ≡ length rules
     pub strays-shown : k .strays ≡ isSome (firstStrayRule (settingOf F) (rolesIn F) rules)
@@ -40,7 +40,7 @@ module _ (F : Policy) where
 
   -- of those and of the lines of the one that is open; no lines if none is
   pub record Shows (rules : List Lines) (ls : Lines) (k : Kept) (met listed grid seen again : List ℕ) : Type 0 where
-    pub all-legal : (ls : Lines) → ls ∈ rules → Legal (settingOf F) (rolesIn F) ls
+    pub all-legal : (ls : Lines) → ls isIn rules → Legal (settingOf F) (rolesIn F) ls
     pub legal-open : Legal (settingOf F) (rolesIn F) ls
     pub met-shown : met ≡ metTable (settingOf F) ls
     pub asked-shown : k .asked ≡ askedPlaces (settingOf F) ls

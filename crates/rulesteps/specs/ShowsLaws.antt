@@ -10,17 +10,17 @@ use mathlib.Core.Logic.{⊎-elim}
 use mathlib.Core.Option.{Option, none, some}
 use mathlib.Core.Path.{_≡_, refl, sym, ap, ap₂, _∙_, subst}
 use native.Mathlib.Omega.{arith}
-use Rattle.admit.specs.AdmitLaws.{Sized}
+use Rattle.loaded.specs.Record.{Sized, numberOr, tableOf, marked, knownTable, valueTable, permissionTable, recordOf}
 use Rattle.conjuncts.specs.LineLaws.{any-last, met-kept, asked-kept, NoValue, met-line, asked-line, atoms-line, atoms-kept, operations-line, operations-kept, met-none, asked-none, atoms-none}
 use Rattle.conjuncts.specs.Summary.{placeOf, metTable, askedPlaces, atomPlaces, isAtom}
 use Rattle.files.specs.Calls.{isTriple, rulesGrant, partsGrant, firstStrayRule}
 use Rattle.files.specs.RoleFile.{sideBy}
-use Rattle.files.specs.RuleFile.{RuleCommand as Line, Lines, isOperations, isPartLine, operationsIn, operationsOr, ruleIn, whole, follows, legal, ownValue, opens, value, operations, link, part, ends}
+use Rattle.files.specs.LineLaws.{operationsOr}
+use Rattle.files.specs.RuleFile.{RuleCommand as Line, Lines, isOperations, isPartLine, operationsIn, ruleIn, whole, follows, legal, ownValue, opens, value, operations, link, part, ends}
 use Rattle.grants.specs.Grid.{gridOf, inGrid, gridDifference, differenceOf, isSame}
 use Rattle.grants.specs.GridLaws.{in-grid, grid-same, grids-same}
 use Rattle.listings.specs.Listed.{seenAfter, againAfter, seenTable, againTable}
 use Rattle.listings.specs.ListedLaws.{other-line, empty-rule, no-rules, list-means}
-use Rattle.loaded.specs.Record.{numberOr, tableOf, marked, knownTable, valueTable, permissionTable, recordOf}
 use Rattle.loaded.specs.RecordLaws.{table-none, table-ext}
 use Rattle.meeting.specs.Meeting.{meetingOf}
 use Rattle.meeting.specs.MeansLaws.{meeting-means}
@@ -30,18 +30,18 @@ use Rattle.policy.specs.ClassLaws.{part-facts}
 use Rattle.policy.specs.Policy.{Policy, kindOf, isSetAt, sideOf, settingOf, rolesIn}
 use Rattle.policy.specs.Roles.{parts, classOf}
 use Rattle.policy.specs.Rules.{own, Which, by, Block, Triple, grants, sameBlock, user, resource}
-use Rattle.rulecommands.specs.OrderLaws.{InOrder, order-none}
-use Rattle.rulecommands.specs.Raw.{rawBefore, commandOf, linkMeaning, ruleMeaning}
-use Rattle.rulecommands.specs.RawLaws.{Shape, shape-opens, shape-user-single, shape-user-set, shape-resource-single, shape-resource-set, shape-operations, shape-link, shape-part, shape-ends}
-use Rattle.rulegrants.specs.RuleGrid.{summaryGrants}
-use Rattle.rulegrants.specs.SummaryMeans.{Legal, summary-means}
+use Rattle.rulecommands.specs.OrderLaws.{order-none}
+use Rattle.rulecommands.specs.Raw.{InOrder, rawBefore, commandOf, linkMeaning, ruleMeaning, Shape, shape-opens, shape-user-single, shape-user-set, shape-resource-single, shape-resource-set, shape-operations, shape-link, shape-part, shape-ends}
+use Rattle.rulegrants.specs.RuleGrid.{summaryGrants, Legal}
+use Rattle.rulegrants.specs.SummaryLaws.{summary-means}
 use Rattle.rulesteps.specs.Kept.{begunWith, countedWith, ruleGrid, closedWith, mayClose, followsWith}
 use Rattle.rulesteps.specs.Lines.{placeBy, pairNumber, atomNumber, keptAs, notedWith, metMore, metAfter, PartWithin, listedAfter, seenBy, againBy}
 use Rattle.rulesteps.specs.Shows.{grantedWithin, linksIn, Stored, Shows}
 use Rattle.rulesteps.specs.StrayLaws.{orElse, strays, stray-more, grants-more, rules-long}
 use Rattle.sets.specs.MaskLaws.{mask-none, or-false}
 use Rattle.sets.specs.Sets.{bit, maskOf}
-use Rattle.sets.specs.Tests.{Is, and-in, and-l, and-r, test, iff, iff-out, _∈_, any, any-out, only-out, isSome}
+use Rattle.sets.specs.Tests.{Is, iff, _isIn_, any, isSome}
+use Rattle.sets.specs.TestLaws.{and-in, and-l, and-r, test, iff-out, any-out, only-out}
 use Rattle.rulecommands.specs.declared.Atom.{Atom}
 use Rattle.rulecommands.specs.declared.Atom.the-variants.{SetContainsSet, SetContainsSingle, SingleEqualsSingle}
 use Rattle.rulecommands.specs.declared.RuleCommand.{RuleCommand}
@@ -54,7 +54,7 @@ pub nothing-granted : replicate {A = ℕ} 1024 0 ≡ gridOf (λ u r o. false)
 unfolding gridOf
 nothing-granted = table-none 1024 ∙ table-ext 1024 (λ i. 0) (λ i. maskOf 64 (λ r. false)) (λ i l. sym (mask-none 64 (λ r. false) (λ r h. refl)))
 
-one-of : {A : Type 0} (x : A) {y : A} → y ∈ (x ∷ []) → y ≡ x
+one-of : {A : Type 0} (x : A) {y : A} → y isIn (x ∷ []) → y ≡ x
 one-of x m = only-out true m .1
 
 module _ (F : Policy) where

@@ -13,7 +13,8 @@ use Rattle.policy.specs.Roles.{Roles}
 use Rattle.policy.specs.Rules.{Setting, grants, sameBlock}
 use Rattle.conjuncts.specs.LineLaws.{any-last}
 use Rattle.sets.specs.LoopLaws.{upTo-more}
-use Rattle.sets.specs.Tests.{_∈_, upTo, upTo-out}
+use Rattle.sets.specs.Tests.{_isIn_, upTo}
+use Rattle.sets.specs.TestLaws.{upTo-out}
 
 -- the first of two finds
 abbrev pub orElse : Option ℕ → Option ℕ → Option ℕ
@@ -32,7 +33,7 @@ first-end f (y ∷ l) x = go (f y) (first-end f l x)
     go true e = refl
     go false e = e
 
-first-same : (f g : ℕ → Bool) (l : List ℕ) → ((x : ℕ) → x ∈ l → f x ≡ g x) → first f l ≡ first g l
+first-same : (f g : ℕ → Bool) (l : List ℕ) → ((x : ℕ) → x isIn l → f x ≡ g x) → first f l ≡ first g l
 first-same f g [] h = refl
 first-same f g (y ∷ l) h = ap₂ (λ (b : Bool) (o : Option ℕ). cond b (some y) o) (h y (List·Memᴰ·head refl)) (first-same f g l (λ x m. h x (List·Memᴰ·tail m)))
 

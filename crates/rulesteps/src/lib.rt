@@ -12,6 +12,14 @@ ghost use Rattle.rulesteps.specs.Lines.{placeBy, pairNumber, atomNumber,
 use grants::Difference;
 use rulecommands::Atom;
 use rulecommands::RuleCommand;
+use loaded::ByAttribute;
+use loaded::ByPlace;
+use loaded::ByRole;
+use loaded::ByRoleOperation;
+use loaded::Grid;
+use loaded::Links;
+use loaded::Values;
+use loaded::RoleFile;
 
 // The numbers that are kept: of the open rule the places that have values, the atoms, the operations (0 until there is a 26), whether a
 // part is listed, and the last command with its operands; of the rules before it how many there are, and the first stray one.
@@ -97,18 +105,18 @@ fn is_same(d: Difference) -> bool
 // Closes the open rule: joins what it grants to what the rules before it do, and counts it.
 fn close<'a>(
     k: Kept,
-    met: &'a [u64; 14],
-    listed: &'a [u64; 1024],
-    links: &'a [u64; 2304],
+    met: &'a ByPlace,
+    listed: &'a Grid,
+    links: &'a Links,
     users: usize,
     resources: usize,
     operations: usize,
-    grid: &mut [u64; 1024],
+    grid: &mut Grid,
 ) -> Kept
     requires { ⌜ (users ≤ 64) × (resources ≤ 64) × (operations ≤ 16) × (k .rules + 1 < 2 ^ 64) ⌝ }
     ensures { λ r. ⌜ (r ≡ closedWith k (now (met .entry)) (now (listed .entry)) (now (links .entry)) users resources operations) × (now (grid .exit) ≡ joinedGrid (ruleGrid k (now (met .entry)) (now (links .entry)) users resources) (now (grid .entry))) ⌝ }
 {
-    let mut own = [0u64; 1024];
+    let mut own = [0u64; RoleFile::USERS * RoleFile::OPERATIONS];
     rulegrants::rule_grid(
         met,
         k.asked,
@@ -141,13 +149,13 @@ pub fn may_close(k: Kept) -> bool
 // Closes the open rule, if there is one.
 pub fn finish<'a>(
     k: Kept,
-    met: &'a [u64; 14],
-    listed: &'a [u64; 1024],
-    links: &'a [u64; 2304],
+    met: &'a ByPlace,
+    listed: &'a Grid,
+    links: &'a Links,
     users: usize,
     resources: usize,
     operations: usize,
-    grid: &mut [u64; 1024],
+    grid: &mut Grid,
 ) -> Kept
     requires { ⌜ (users ≤ 64) × (resources ≤ 64) × (operations ≤ 16) × (k .rules + 1 < 2 ^ 64) ⌝ }
     ensures { λ r. ⌜ (r ≡ finishedWith k (now (met .entry)) (now (listed .entry)) (now (links .entry)) users resources operations) × (now (grid .exit) ≡ finishedGrid k (now (met .entry)) (now (links .entry)) users resources (now (grid .entry))) ⌝ }
@@ -186,10 +194,10 @@ fn place(side: usize, attribute: usize) -> usize
     requires { ⌜ side < 2 ⌝ }
     ensures { λ r. ⌜ r ≡ placeBy side attribute ⌝ }
 {
-    if attribute < 6 {
-        return 7 * side + attribute;
+    if attribute < RoleFile::ATTRIBUTES {
+        return RoleFile::CONJUNCTS * side + attribute;
     }
-    7 * side + 6
+    RoleFile::CONJUNCTS * side + RoleFile::ATTRIBUTES
 }
 
 // An atom's number among the 36. No legal atom has another.
@@ -198,7 +206,7 @@ fn pair_number(a: usize, b: usize) -> usize
 {
     if a < 6 {
         if b < 6 {
-            return 6 * a + b;
+            return RoleFile::ATTRIBUTES * a + b;
         }
     }
     64
@@ -267,10 +275,10 @@ fn meet_value<'a>(
     v: u64,
     count: usize,
     roles: usize,
-    known: &'a [u64; 12],
-    values: &'a [u64; 768],
-    holders: &'a [u64; 32],
-    met: &mut [u64; 14],
+    known: &'a ByAttribute,
+    values: &'a Values,
+    holders: &'a ByRole,
+    met: &mut ByPlace,
 )
     requires { ⌜ (side < 2) × (count ≤ 64) × (roles ≤ 32) ⌝ }
     ensures { λ _. ⌜ now (met .exit) ≡ metMore (now (met .entry)) (placeBy side attribute) (meetingOf side set attribute v count roles (now (known .entry)) (now (values .entry)) (now (holders .entry))) ⌝ }
@@ -296,10 +304,10 @@ pub fn meet_line<'a>(
     users: usize,
     resources: usize,
     roles: usize,
-    known: &'a [u64; 12],
-    values: &'a [u64; 768],
-    holders: &'a [u64; 32],
-    met: &mut [u64; 14],
+    known: &'a ByAttribute,
+    values: &'a Values,
+    holders: &'a ByRole,
+    met: &mut ByPlace,
 )
     requires { ⌜ (users ≤ 64) × (resources ≤ 64) × (roles ≤ 32) ⌝ }
     ensures { λ _. ⌜ now (met .exit) ≡ metAfter users resources roles (now (known .entry)) (now (values .entry)) (now (holders .entry)) (now (met .entry)) c ⌝ }
@@ -375,11 +383,11 @@ pub fn meet_line<'a>(
 // The tables of the parts listed, after a legal command of the open rule.
 pub fn list_line<'a>(
     c: RuleCommand,
-    holders: &'a [u64; 32],
-    permissions: &'a [u64; 512],
-    listed: &'a mut [u64; 1024],
-    seen: &'a mut [u64; 32],
-    again: &'a mut [u64; 32],
+    holders: &'a ByRole,
+    permissions: &'a ByRoleOperation,
+    listed: &'a mut Grid,
+    seen: &'a mut ByRole,
+    again: &'a mut ByRole,
 )
     requires { ⌜ PartWithin c ⌝ }
     ensures { λ _. ⌜ (now (listed .exit) ≡ listedAfter (now (holders .entry)) (now (permissions .entry)) (now (listed .entry)) c) × (now (seen .exit) ≡ seenBy (now (seen .entry)) c) × (now (again .exit) ≡ againBy (now (seen .entry)) (now (again .entry)) c) ⌝ }

@@ -8,8 +8,7 @@ use mathlib.Core.List.{List, [], _∷_, _++_}
 use Rattle.files.specs.Bytes.{spread}
 use Rattle.files.specs.RoleFile.{sideBy}
 use Rattle.policy.specs.Rules.{Which, user, resource}
-use Rattle.rulelines.specs.RuleBytes.{valueBytes, linkBytes, partBytes}
-use Rattle.rulelines.specs.RuleLines.{kindPlace}
+use Rattle.rulelines.specs.RuleLines.{linkBytes, valueBytes, partBytes, kindPlace}
 use Rattle.rulelists.specs.RuleLists.{setPlace, listedAt, classesAt}
 use Rattle.sets.specs.Sets.{bit}
 use Rattle.sets.specs.Tests.{iff, each, upTo}

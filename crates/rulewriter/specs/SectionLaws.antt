@@ -9,11 +9,11 @@ use mathlib.Core.List.{List, [], _∷_, _++_, append-assoc, append-nil}
 use mathlib.Core.Path.{_≡_, refl, sym, ap, ap₂, _∙_}
 use native.Mathlib.Omega.{arith}
 use Rattle.files.specs.RoleFile.{sideBy}
-use Rattle.linewriter.specs.Writing.{wrote, runs-list}
+use Rattle.linewriter.specs.Writing.{wrote}
+use Rattle.linewriter.specs.WritingLaws.{runs-list}
 use Rattle.policy.specs.Rules.{Which, user, resource}
 use Rattle.rulelines.specs.ListLaws.{length-each, sum-each, sum-most, sum-both}
-use Rattle.rulelines.specs.RuleBytes.{valueBytes, linkBytes, partBytes}
-use Rattle.rulelines.specs.RuleLines.{kindPlace}
+use Rattle.rulelines.specs.RuleLines.{linkBytes, valueBytes, partBytes, kindPlace}
 use Rattle.rulelists.specs.ListingLaws.{listed-most, classes-most}
 use Rattle.rulelists.specs.RuleLists.{setPlace, listedAt, classesAt}
 use Rattle.rulewriter.specs.RuleTable.{keptAs, placeBytesIn, kindBytesIn, kindBytesAt, conjunctBytesIn, atomBytesAt, atomBytesIn, roleBytesIn, partBytesIn, ruleBytesIn, sectionBytesIn}

@@ -13,8 +13,8 @@ use Rattle.matches.specs.Matches.{lessOne}
 use Rattle.matches.specs.MemberLaws.{bit-less}
 use Rattle.policy.specs.Rules.{Which, user, resource}
 use Rattle.rulelines.specs.ListLaws.{length-each, sum-ext, sum-each, sum-most, sum-both}
-use Rattle.rulelines.specs.RuleBytes.{valueBytes, partBytes, atomSet, atom-bytes, atom-length}
-use Rattle.rulelines.specs.RuleLines.{kindPlace}
+use Rattle.rulelines.specs.RuleBytesLaws.{atom-bytes, atom-length}
+use Rattle.rulelines.specs.RuleLines.{valueBytes, partBytes, atomSet, kindPlace}
 use Rattle.rulelists.specs.ListingLaws.{listed-none, classes-most}
 use Rattle.rulelists.specs.Roles.{rolesFor}
 use Rattle.rulelists.specs.RuleLists.{setPlace, listedAt, memberSet, classesAt}
@@ -22,8 +22,10 @@ use Rattle.rulelists.specs.Sizes.{linesLong, placeLongIn}
 use Rattle.rulelists.specs.SizeLaws.{longs-most}
 use Rattle.rulewriter.specs.RuleTable.{keptAs, placeBytesIn, kindBytesIn, atomBytesAt, atomBytesIn, roleBytesIn, partBytesIn, ruleBytesIn}
 use Rattle.sets.specs.MaskLaws.{bit-maskOf, size-most}
-use Rattle.sets.specs.Sets.{bit, bit-none, bit-mask, size}
-use Rattle.sets.specs.Tests.{Is, and-l, test, iff, each, from, from-out, upTo, upTo-out, sum}
+use Rattle.sets.specs.Sets.{bit, size}
+use Rattle.sets.specs.SetLaws.{bit-none, bit-mask}
+use Rattle.sets.specs.Tests.{Is, iff, each, from, upTo, sum}
+use Rattle.sets.specs.TestLaws.{and-l, test, from-out, upTo-out}
 use Rattle.words.specs.Flags.{placeAttribute}
 
 -- ---- a loop over the members of a set, which adds a number for each

@@ -12,18 +12,22 @@ use mathlib.Core.Logic.{_⊎_, inl, inr}
 use mathlib.Core.Path.{_≡_, refl, sym, ap, ap₂, _∙_, subst}
 use native.Mathlib.Nat.{div-div-eq-div-mul, lt-of-lt-of-le}
 use native.Mathlib.Omega.{arith}
-use Rattle.linewriter.specs.Writing.{wrote, tailOf, backIn, Writing, begin, room-for, place-within, write-on, all-written}
+use Rattle.linewriter.specs.Writing.{wrote}
+use Rattle.linewriter.specs.WritingLaws.{tailOf, backIn, Writing, begin, room-for, place-within, write-on, all-written}
 use Rattle.matches.specs.Matches.{lessOne}
 use Rattle.matches.specs.MemberLaws.{least-in, bit-less, less-less}
-use Rattle.rulelines.specs.RuleBytes.{linkBytes, partBytes, atomSet}
+use Rattle.rulelines.specs.RuleLines.{linkBytes, partBytes, atomSet}
 use Rattle.rulelists.specs.RoleLaws.{classes-none, roles-low}
 use Rattle.rulelists.specs.Roles.{rolesFor}
 use Rattle.rulewriter.specs.RuleTable.{atomBytesAt, atomBytesIn, roleBytesIn, partBytesIn}
 use Rattle.sets.specs.Lowest.{lowestFrom}
 use Rattle.sets.specs.MaskLaws.{bit-out, least-most, mask-lt, mask-same, mask-wide}
-use Rattle.sets.specs.Sets.{bit, bit-none, maskOf, bit-mask}
-use Rattle.sets.specs.Sorted.{keep-rising, rising-ext, from-rising, and-then}
-use Rattle.sets.specs.Tests.{Is, and-in, and-l, and-r, never, test, _∈_, keep, keep-in, keep-out, each, upTo, upTo-in, upTo-out, not-in, not-out}
+use Rattle.sets.specs.Sets.{bit, maskOf}
+use Rattle.sets.specs.SetLaws.{bit-none, bit-mask}
+use Rattle.sets.specs.Sorted.{and-then}
+use Rattle.sets.specs.SortedLaws.{keep-rising, rising-ext, from-rising}
+use Rattle.sets.specs.Tests.{Is, _isIn_, keep, each, upTo}
+use Rattle.sets.specs.TestLaws.{and-in, and-l, and-r, never, test, keep-in, keep-out, upTo-in, upTo-out, not-in, not-out}
 
 -- ---- the members of a set, least first
 
@@ -31,7 +35,7 @@ abbrev pub chosen : ℕ → ℕ → List ℕ
 chosen n m = keep (bit m) (upTo n)
 
 -- only those that have a run
-each-kept : (f : ℕ → List ℕ) (p : ℕ → Bool) (l : List ℕ) → ((i : ℕ) → i ∈ l → p i ≡ false → f i ≡ []) → each f l ≡ each f (keep p l)
+each-kept : (f : ℕ → List ℕ) (p : ℕ → Bool) (l : List ℕ) → ((i : ℕ) → i isIn l → p i ≡ false → f i ≡ []) → each f l ≡ each f (keep p l)
 each-kept f p [] h = refl
 each-kept f p (x ∷ xs) h = go (p x) refl (each-kept f p xs (λ i m. h i (List·Memᴰ·tail m)))
   where
@@ -66,21 +70,21 @@ module _ (n m y : ℕ) (wide : n ≤ 64) (h : m < 2 ^ n) (z : 0 < m) (q : y ≡ 
   chosen-first =
       rising-ext {R = _<_} (λ a b c d. omega arith) (keep-rising (bit m) (from-rising 0 n)) (and-then {x = y} above (keep-rising (bit (lessOne m y)) (from-rising 0 n))) there (λ x k. back x (List·Memᴰ·cases-cons k))
     where
-      above : (x : ℕ) → x ∈ chosen n (lessOne m y) → y < x
+      above : (x : ℕ) → x isIn chosen n (lessOne m y) → y < x
       above x k =
           let b = sym (bit-less m small y x) ∙ keep-out (bit (lessOne m y)) (upTo n) k .1 in
           let d = eqb-false x y (not-out (eqb x y) (and-r (bit m x) (not (eqb x y)) b)) in
           let l = least-most (bit m) 64 x (and-l (bit m x) (not (eqb x y)) b) in
           omega arith
 
-      there : (x : ℕ) → x ∈ chosen n m → x ∈ (y ∷ chosen n (lessOne m y))
+      there : (x : ℕ) → x isIn chosen n m → x isIn (y ∷ chosen n (lessOne m y))
       there x k =
           let t = keep-out (bit m) (upTo n) k in
           test (eqb x y)
           (λ e. List·Memᴰ·head (eqb-true x y e))
           (λ e. List·Memᴰ·tail (keep-in (bit (lessOne m y)) (t .0) (bit-less m small y x ∙ and-in (t .1) (not-in (eqb x y) e))))
 
-      back : (x : ℕ) → (x ≡ y) ⊎ (x ∈ chosen n (lessOne m y)) → x ∈ chosen n m
+      back : (x : ℕ) → (x ≡ y) ⊎ (x isIn chosen n (lessOne m y)) → x isIn chosen n m
       back x (inl e) = rw e (keep-in (bit m) (upTo-in least-low) member)
       back x (inr k) =
           let t = keep-out (bit (lessOne m y)) (upTo n) k in

@@ -8,14 +8,14 @@ use mathlib.Core.Bool.{Bool, true, false, cond, _&&_, not}
 use mathlib.Core.List.{List, [], _∷_, _++_, map}
 use mathlib.Core.Path.{_≡_, refl, sym, ap, ap₂, _∙_}
 use native.Mathlib.Omega.{arith}
-use Rattle.admit.specs.AdmitLaws.{Sized, side-kinds}
-use Rattle.distinct.specs.Distinct.{distinctTable, havingTable, insideTable}
+use Rattle.admit.specs.AdmitLaws.{side-kinds}
+use Rattle.distinct.specs.Distinct.{distinctIn, havingIn, insideIn}
 use Rattle.distinct.specs.MeansLaws.{listed-by}
 use Rattle.files.specs.Bytes.{spread}
 use Rattle.files.specs.RuleFile.{Lines, encode, opens}
 use Rattle.frontier.specs.Frontier.{Slots}
 use Rattle.groupwords.specs.PartWordLaws.{roomy, class-word}
-use Rattle.loaded.specs.Record.{recordWith, recordOf}
+use Rattle.loaded.specs.Record.{Sized, recordWith, recordOf}
 use Rattle.policy.specs.Covering.{allKnow, levelOf}
 use Rattle.policy.specs.MergeLaws.{Every}
 use Rattle.policy.specs.Merging.{union}
@@ -25,34 +25,25 @@ use Rattle.policy.specs.Roles.{classOf}
 use Rattle.policy.specs.Rules.{own, Which, Setting, Block, attrsOf, ownAt, sameBlock, user, resource, conjunct}
 use Rattle.policy.specs.Thinning.{ruleCost}
 use Rattle.rulelines.specs.ListLaws.{each-ext, sum-ext, sort-same}
-use Rattle.rulelines.specs.PartLines.{slots-sorted}
-use Rattle.rulelines.specs.RuleBytes.{valueBytes, partBytes, atomSet, parts-bytes, placeBytes, rule-bytes, placeCost, rule-cost}
-use Rattle.rulelines.specs.RuleLines.{kindPlace, writtenValues, ruleLines, ofRole, partLinesOf}
+use Rattle.rulelines.specs.PartLinesLaws.{slots-sorted}
+use Rattle.rulelines.specs.RuleBytesLaws.{parts-bytes, placeBytes, rule-bytes, placeCost, rule-cost}
+use Rattle.rulelines.specs.RuleLines.{valueBytes, partBytes, atomSet, kindPlace, writtenValues, ruleLines, ofRole, partLinesOf}
 use Rattle.rulelines.specs.RuleLinesLaws.{written-conjunct}
 use Rattle.rulelists.specs.RuleLists.{setPlace, listedAt, classAt, inGroup, partsAt, classesAt, placeCostIn, ruleCostIn}
 use Rattle.rulewriter.specs.RuleTable.{keptAs, placeBytesIn, kindBytesIn, atomBytesAt, atomBytesIn, roleBytesIn, partBytesIn, ruleBytesIn}
 use Rattle.sets.specs.MaskLaws.{mask-lt, bit-maskOf}
-use Rattle.sets.specs.Sets.{bit, maskOf, bit-mask, size}
-use Rattle.sets.specs.Sorted.{sort, numbers}
-use Rattle.sets.specs.Tests.{Is, and-l, and-r, test, iff, _∈_, keep-in, keep-out, each, from, from-in, from-out, upTo, upTo-out, elem, elem-in, elem-out, map-in, map-out, sum}
+use Rattle.sets.specs.SetLaws.{bit-mask}
+use Rattle.sets.specs.Sets.{bit, maskOf, size}
+use Rattle.sets.specs.Sorted.{sort}
+use Rattle.sets.specs.SortedLaws.{numbers}
+use Rattle.sets.specs.TestLaws.{and-l, and-r, test, keep-in, keep-out, from-in, from-out, upTo-out, elem-in, elem-out, map-in, map-out}
+use Rattle.sets.specs.Tests.{Is, iff, _isIn_, each, from, upTo, elem, sum}
 use Rattle.slotgroups.specs.Scratch.{wordsAt, Shows}
 use Rattle.slotgroups.specs.Slots.{slotPart, slotBlock, slotRule, slotLines}
 use Rattle.values.specs.MeansLaws.{valuesIn, least-means, values-place}
 use Rattle.values.specs.Values.{listsLeast, listedOf}
 use Rattle.words.specs.Flags.{placeSide, placeAttribute, hasAt, placesGrant, thinnedAt, thinnedTo, keptPlaces}
 use Rattle.words.specs.Words.{Words, membersOf, wordsOf, spans}
-
--- ---- the tables of a policy's record
-
-abbrev pub distinctIn : Policy → List ℕ
-distinctIn F = distinctTable (recordOf F .values) (recordOf F .holders) (recordOf F .kinds) (recordOf F .roles)
-
-abbrev pub havingIn : Policy → List ℕ
-havingIn F = havingTable (recordOf F .values) (recordOf F .holders) (recordOf F .kinds) (recordOf F .roles)
-
-abbrev pub insideIn : Policy → List ℕ
-insideIn F = insideTable (recordOf F .values) (recordOf F .holders) (recordOf F .kinds) (recordOf F .roles)
-
 -- ---- what thinning keeps was there
 
 thinned-within : (P : Setting) (W : Words) (m n i : ℕ) → Is (bit (thinnedTo P W m n) i) → Is (bit m i)
@@ -175,12 +166,12 @@ module _ (F : Policy) (Z : Sized F) where
         let q = keep-out (λ i. eqb (i / 16) r) (s .group head) (u .1) in
         back v (u .0) (q .0) (eqb-true (u .0 / 16) r (q .1)) (u .2)))
       where
-        there : (v i : ℕ) → 16 * r ≤ i → i < 16 * r + 16 → Is (inGroup t head i) → v ≡ classAt (recordOf F .permissions) (recordOf F .operations) i → v ∈ map cls (ofRole (s .group head) r)
+        there : (v i : ℕ) → 16 * r ≤ i → i < 16 * r + 16 → Is (inGroup t head i) → v ≡ classAt (recordOf F .permissions) (recordOf F .operations) i → v isIn map cls (ofRole (s .group head) r)
         there v i a b g e =
             rw (e ∙ class-written i (omega arith))
             (map-in cls (keep-in (λ i. eqb (i / 16) r) (elem-out i (s .group head) (shows .members head i low (omega arith) alive ∙ g)) (eq-eqb (i / 16) r (omega arith))))
 
-        back : (v i : ℕ) → i ∈ s .group head → i / 16 ≡ r → v ≡ cls i → v ∈ map (classAt (recordOf F .permissions) (recordOf F .operations)) (partsAt t head r)
+        back : (v i : ℕ) → i isIn s .group head → i / 16 ≡ r → v ≡ cls i → v isIn map (classAt (recordOf F .permissions) (recordOf F .operations)) (partsAt t head r)
         back v i m q e =
             let l = group-low i m in
             rw (e ∙ sym (class-written i l))

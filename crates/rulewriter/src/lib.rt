@@ -5,18 +5,23 @@ ghost use mathlib.Core.Path.{_≡_};
 ghost use Prim.Native.Nat.{_≤_, _<_};
 ghost use Rattle.files.specs.RoleFile.{sideBy};
 ghost use Rattle.linewriter.specs.Writing.{wrote};
-ghost use Rattle.rulelines.specs.RuleBytes.{atomSet};
+ghost use Rattle.rulelines.specs.RuleLines.{atomSet};
 ghost use Rattle.rulelists.specs.Roles.{rolesFor};
 ghost use Rattle.rulelists.specs.RuleLists.{classesAt, ruleCostIn};
 ghost use Rattle.rulewriter.specs.RuleTable.{keptAs, placeBytesIn, kindBytesIn, conjunctBytesIn, atomBytesAt, atomBytesIn, roleBytesIn, partBytesIn, ruleBytesIn, sectionBytesIn};
 ghost use Rattle.sets.specs.Tests.{upTo, sum};
 ghost use Rattle.words.specs.Flags.{placeSide};
 use rulelists::Size;
+use loaded::ByMember;
+use loaded::ByPlaceMember;
+use loaded::ByRoleOperation;
+use loaded::BySide;
+use loaded::RoleFile;
 
 // ---- lines
 
 // Whether a conjunct of this kind is kept at a place.
-fn kept_as(kinds: &[u64; 2], kept: u64, set: bool, place: usize) -> bool
+fn kept_as(kinds: &BySide, kept: u64, set: bool, place: usize) -> bool
     requires { ⌜ place < 14 ⌝ }
     ensures { λ r. ⌜ r ≡ keptAs (now (kinds .entry)) kept set place ⌝ }
 {
@@ -28,10 +33,10 @@ fn kept_as(kinds: &[u64; 2], kept: u64, set: bool, place: usize) -> bool
 
 // The lines of a kind at a place.
 fn put_place<'a>(
-    distinct: &'a [u64; 896],
-    having: &'a [u64; 896],
-    inside: &'a [u64; 896],
-    kinds: &'a [u64; 2],
+    distinct: &'a ByPlaceMember,
+    having: &'a ByPlaceMember,
+    inside: &'a ByPlaceMember,
+    kinds: &'a BySide,
     scratch: &'a [u64],
     head: usize,
     kept: u64,
@@ -44,7 +49,7 @@ fn put_place<'a>(
     ensures { λ r. ⌜ (r ≡ length (placeBytesIn (now (distinct .entry)) (now (having .entry)) (now (inside .entry)) (now (kinds .entry)) (now (scratch .entry)) head kept (placeSide place) set place)) × (now (out .exit) ≡ wrote (placeBytesIn (now (distinct .entry)) (now (having .entry)) (now (inside .entry)) (now (kinds .entry)) (now (scratch .entry)) head kept (placeSide place) set place) (now (out .entry))) ⌝ }
 {
     if kept_as(kinds, kept, set, place) {
-        let mut list = [0u64; 64];
+        let mut list = [0u64; RoleFile::MEMBERS];
         let count = rulelists::list_values(
             distinct,
             having,
@@ -61,10 +66,10 @@ fn put_place<'a>(
 
 // The lines of a kind: a side, and sets or singles.
 fn put_kind<'a>(
-    distinct: &'a [u64; 896],
-    having: &'a [u64; 896],
-    inside: &'a [u64; 896],
-    kinds: &'a [u64; 2],
+    distinct: &'a ByPlaceMember,
+    having: &'a ByPlaceMember,
+    inside: &'a ByPlaceMember,
+    kinds: &'a BySide,
     scratch: &'a [u64],
     head: usize,
     kept: u64,
@@ -87,7 +92,7 @@ fn put_kind<'a>(
             head,
             kept,
             set,
-            7 * side + j,
+            RoleFile::CONJUNCTS * side + j,
             &mut out[at..],
         );
     }
@@ -96,10 +101,10 @@ fn put_kind<'a>(
 
 // The lines 22 to 25.
 fn put_conjuncts<'a>(
-    distinct: &'a [u64; 896],
-    having: &'a [u64; 896],
-    inside: &'a [u64; 896],
-    kinds: &'a [u64; 2],
+    distinct: &'a ByPlaceMember,
+    having: &'a ByPlaceMember,
+    inside: &'a ByPlaceMember,
+    kinds: &'a BySide,
     scratch: &'a [u64],
     head: usize,
     kept: u64,
@@ -135,7 +140,7 @@ fn put_atom(kept: u64, atom: usize, out: &mut [u8]) -> usize
     ensures { λ r. ⌜ (r ≡ length (atomBytesAt kept atom)) × (now (out .exit) ≡ wrote (atomBytesAt kept atom) (now (out .entry))) ⌝ }
 {
     if sets::has(kept, 14 + atom) {
-        linewriter::put_three(out, 39, atom / 6, atom % 6);
+        linewriter::put_three(out, 39, atom / RoleFile::ATTRIBUTES, atom % RoleFile::ATTRIBUTES);
         return 3;
     }
     0
@@ -160,12 +165,12 @@ fn put_atoms(kept: u64, out: &mut [u8]) -> usize
 
 // The lines 28 of a role.
 fn put_role<'a>(
-    permissions: &'a [u64; 512],
+    permissions: &'a ByRoleOperation,
     operations: usize,
     scratch: &'a [u64],
     head: usize,
     role: usize,
-    list: &mut [u64; 64],
+    list: &mut ByMember,
     out: &mut [u8],
 ) -> usize
     requires { ⌜ (operations ≤ 16) × (length (now scratch) ≡ 2048) × (head < 512) × (role < 32) ⌝ }
@@ -178,7 +183,7 @@ fn put_role<'a>(
 
 // The lines 28. Only the roles that have a part in the group are visited.
 fn put_parts<'a>(
-    permissions: &'a [u64; 512],
+    permissions: &'a ByRoleOperation,
     operations: usize,
     scratch: &'a [u64],
     head: usize,
@@ -191,7 +196,7 @@ fn put_parts<'a>(
 {
     let mut at: usize = 0;
     // One list for all roles, whatever it holds.
-    let mut list = [0u64; 64];
+    let mut list = [0u64; RoleFile::MEMBERS];
     let mut rest = roles;
     while 0 < rest {
         let k = sets::least(rest);
@@ -213,11 +218,11 @@ fn put_parts<'a>(
 
 // One of the five sections: what opens the rule, its conjuncts, its operations, its atoms, its parts.
 fn put_section<'a>(
-    distinct: &'a [u64; 896],
-    having: &'a [u64; 896],
-    inside: &'a [u64; 896],
-    kinds: &'a [u64; 2],
-    permissions: &'a [u64; 512],
+    distinct: &'a ByPlaceMember,
+    having: &'a ByPlaceMember,
+    inside: &'a ByPlaceMember,
+    kinds: &'a BySide,
+    permissions: &'a ByRoleOperation,
     operations: usize,
     scratch: &'a [u64],
     head: usize,
@@ -251,11 +256,11 @@ fn put_section<'a>(
 // Writes the rule of the group with this head, of whose 50 places these are kept and in which these roles have parts, section by section;
 // answers how many bytes it has.
 pub fn write_rule<'a>(
-    distinct: &'a [u64; 896],
-    having: &'a [u64; 896],
-    inside: &'a [u64; 896],
-    kinds: &'a [u64; 2],
-    permissions: &'a [u64; 512],
+    distinct: &'a ByPlaceMember,
+    having: &'a ByPlaceMember,
+    inside: &'a ByPlaceMember,
+    kinds: &'a BySide,
+    permissions: &'a ByRoleOperation,
     operations: usize,
     scratch: &'a [u64],
     head: usize,
@@ -291,7 +296,7 @@ pub fn write_rule<'a>(
 
 // How many parts the rule lists. Only the roles that have a part in the group are looked at.
 fn count_parts<'a>(
-    permissions: &'a [u64; 512],
+    permissions: &'a ByRoleOperation,
     operations: usize,
     scratch: &'a [u64],
     head: usize,
@@ -313,11 +318,11 @@ fn count_parts<'a>(
 // How many bytes the rule has that write_rule writes, and what it costs. One byte opens the rule, three have its operations; a line of an
 // atom has 3, one of a part 4.
 pub fn rule_size<'a>(
-    distinct: &'a [u64; 896],
-    having: &'a [u64; 896],
-    inside: &'a [u64; 896],
-    kinds: &'a [u64; 2],
-    permissions: &'a [u64; 512],
+    distinct: &'a ByPlaceMember,
+    having: &'a ByPlaceMember,
+    inside: &'a ByPlaceMember,
+    kinds: &'a BySide,
+    permissions: &'a ByRoleOperation,
     operations: usize,
     scratch: &'a [u64],
     head: usize,

@@ -5,16 +5,18 @@ ghost use lib.ListN.{length, getD};
 ghost use mathlib.Core.Path.{_≡_};
 ghost use Prim.Native.Nat.{_+_, _*_, _<_};
 ghost use Rattle.sets.specs.Sets.{bit, subset, maskOf};
+use loaded::Values;
+use loaded::RoleFile;
 
 // Whose values contain a set.
-pub fn containing(values: &[u64; 768], slot: usize, v: u64) -> u64
+pub fn containing(values: &Values, slot: usize, v: u64) -> u64
     requires { ⌜ slot < 12 ⌝ }
     ensures { λ m. ⌜ m ≡ maskOf 64 (λ x. subset v (getD (now (values .entry)) (64 * slot + x) 0)) ⌝ }
 {
     let mut m: u64 = 0;
-    for x in 0..64 {
+    for x in 0..RoleFile::MEMBERS {
         m = m << 1;
-        if sets::within(v, values[64 * slot + (63 - x)]) {
+        if sets::within(v, values[RoleFile::MEMBERS * slot + (63 - x)]) {
             m = m | 1;
         }
     }
@@ -22,14 +24,14 @@ pub fn containing(values: &[u64; 768], slot: usize, v: u64) -> u64
 }
 
 // Whose values are contained in a set.
-pub fn contained(values: &[u64; 768], slot: usize, v: u64) -> u64
+pub fn contained(values: &Values, slot: usize, v: u64) -> u64
     requires { ⌜ slot < 12 ⌝ }
     ensures { λ m. ⌜ m ≡ maskOf 64 (λ x. subset (getD (now (values .entry)) (64 * slot + x) 0) v) ⌝ }
 {
     let mut m: u64 = 0;
-    for x in 0..64 {
+    for x in 0..RoleFile::MEMBERS {
         m = m << 1;
-        if sets::within(values[64 * slot + (63 - x)], v) {
+        if sets::within(values[RoleFile::MEMBERS * slot + (63 - x)], v) {
             m = m | 1;
         }
     }
@@ -37,14 +39,14 @@ pub fn contained(values: &[u64; 768], slot: usize, v: u64) -> u64
 }
 
 // Whose values are numbers in a set.
-pub fn elements(values: &[u64; 768], slot: usize, v: u64) -> u64
+pub fn elements(values: &Values, slot: usize, v: u64) -> u64
     requires { ⌜ slot < 12 ⌝ }
     ensures { λ m. ⌜ m ≡ maskOf 64 (λ x. bit v (getD (now (values .entry)) (64 * slot + x) 0)) ⌝ }
 {
     let mut m: u64 = 0;
-    for x in 0..64 {
+    for x in 0..RoleFile::MEMBERS {
         m = m << 1;
-        if sets::has(v, values[64 * slot + (63 - x)] as usize) {
+        if sets::has(v, values[RoleFile::MEMBERS * slot + (63 - x)] as usize) {
             m = m | 1;
         }
     }
@@ -52,14 +54,14 @@ pub fn elements(values: &[u64; 768], slot: usize, v: u64) -> u64
 }
 
 // Whose values are a number.
-pub fn equal(values: &[u64; 768], slot: usize, v: u64) -> u64
+pub fn equal(values: &Values, slot: usize, v: u64) -> u64
     requires { ⌜ slot < 12 ⌝ }
     ensures { λ m. ⌜ m ≡ maskOf 64 (λ x. eqb v (getD (now (values .entry)) (64 * slot + x) 0)) ⌝ }
 {
     let mut m: u64 = 0;
-    for x in 0..64 {
+    for x in 0..RoleFile::MEMBERS {
         m = m << 1;
-        if v == values[64 * slot + (63 - x)] {
+        if v == values[RoleFile::MEMBERS * slot + (63 - x)] {
             m = m | 1;
         }
     }

@@ -11,8 +11,10 @@ use Rattle.policy.specs.Policy.{Policy, reach, senior, circular, held}
 use Rattle.seniority.specs.Closure.{among, closed, passedBy, passed, heldBy, heldTable}
 use Rattle.sets.specs.LoopLaws.{table-long, table-at, table-unique, table-same}
 use Rattle.sets.specs.MaskLaws.{or-false, mask-unique, mask-same, mask-bits}
-use Rattle.sets.specs.Sets.{bit, maskOf, bit-mask}
-use Rattle.sets.specs.Tests.{any, upTo, upTo-out, any-ext}
+use Rattle.sets.specs.Sets.{bit, maskOf}
+use Rattle.sets.specs.SetLaws.{bit-mask}
+use Rattle.sets.specs.Tests.{any, upTo}
+use Rattle.sets.specs.TestLaws.{upTo-out, any-ext}
 
 pub closed-long : (l : List ℕ) (n : ℕ) → length (closed l n) ≡ 32
 unfolding closed

@@ -7,6 +7,7 @@ ghost use Prim.Native.Nat.{_≤_, _<_};
 ghost use Rattle.sets.specs.Sets.{bit, maskOf};
 ghost use Rattle.sets.specs.Tests.{any, upTo};
 ghost use Rattle.seniority.specs.Closure.{closed, passed, heldBy, heldTable};
+use loaded::ByRole;
 
 // The seniors of a role, from those it has with the roles below n between them and those that role n has so: role n may stand between
 // too.
@@ -42,7 +43,7 @@ fn close_all(t: &mut [u64], roles: usize)
 }
 
 // All seniors from the direct ones: j is in t[i] where role j is a direct senior of role i, and afterwards where it is a senior.
-pub fn close(t: &mut [u64; 32], roles: usize)
+pub fn close(t: &mut ByRole, roles: usize)
     requires { ⌜ roles ≤ 32 ⌝ }
     ensures { λ _. ⌜ now (t .exit) ≡ closed (now (t .entry)) roles ⌝ }
 {
@@ -50,7 +51,7 @@ pub fn close(t: &mut [u64; 32], roles: usize)
 }
 
 // Whether a role is its own senior.
-pub fn circular(t: &[u64; 32], roles: usize) -> bool
+pub fn circular(t: &ByRole, roles: usize) -> bool
     requires { ⌜ roles ≤ 32 ⌝ }
     ensures { λ r. ⌜ r ≡ any (λ k. bit (getD (now (t .entry)) k 0) k) (upTo roles) ⌝ }
 {
@@ -63,7 +64,7 @@ pub fn circular(t: &[u64; 32], roles: usize) -> bool
 }
 
 // The users assigned to a role, and those assigned to its seniors.
-fn held(assigned: &[u64; 32], own: u64, seniors: u64, roles: usize) -> u64
+fn held(assigned: &ByRole, own: u64, seniors: u64, roles: usize) -> u64
     requires { ⌜ roles ≤ 32 ⌝ }
     ensures { λ r. ⌜ r ≡ heldBy (now (assigned .entry)) own seniors roles ⌝ }
 {
@@ -77,7 +78,7 @@ fn held(assigned: &[u64; 32], own: u64, seniors: u64, roles: usize) -> u64
 }
 
 // Into a slice, since only a slice tells its length to a proof.
-fn hold<'a>(assigned: &'a [u64; 32], seniors: &'a [u64; 32], roles: usize, out: &mut [u64])
+fn hold<'a>(assigned: &'a ByRole, seniors: &'a ByRole, roles: usize, out: &mut [u64])
     requires { ⌜ (roles ≤ 32) × (length (now out) ≡ 32) ⌝ }
     ensures { λ _. ⌜ now (out .exit) ≡ heldTable (now (assigned .entry)) (now (seniors .entry)) roles ⌝ }
 {
@@ -88,10 +89,10 @@ fn hold<'a>(assigned: &'a [u64; 32], seniors: &'a [u64; 32], roles: usize, out: 
 
 // The holders of each role, the users assigned to it or to a senior, whatever the table held.
 pub fn holders<'a>(
-    assigned: &'a [u64; 32],
-    seniors: &'a [u64; 32],
+    assigned: &'a ByRole,
+    seniors: &'a ByRole,
     roles: usize,
-    out: &mut [u64; 32],
+    out: &mut ByRole,
 )
     requires { ⌜ roles ≤ 32 ⌝ }
     ensures { λ _. ⌜ now (out .exit) ≡ heldTable (now (assigned .entry)) (now (seniors .entry)) roles ⌝ }

@@ -2,5 +2,9 @@ pub mod Tests
 pub mod Sorted
 pub mod Sets
 pub mod Lowest
+pub mod TestLaws
+pub mod SortedLaws
+pub mod SetLaws
+pub mod LowestLaws
 pub mod MaskLaws
 pub mod LoopLaws

@@ -12,8 +12,10 @@ use native.Mathlib.Nat.{add-zero, add-suc, suc-add, zero-add}
 use native.Mathlib.Numerals.{add-one}
 use native.Mathlib.Omega.{arith}
 use Rattle.sets.specs.MaskLaws.{and-true, or-false, mask-unique, mask-same}
-use Rattle.sets.specs.Sets.{bit, maskOf, bit-mask}
-use Rattle.sets.specs.Tests.{never, fails, imp, all, any, all-out, any-in, from, upTo, upTo-in}
+use Rattle.sets.specs.Sets.{bit, maskOf, joining, narrowing}
+use Rattle.sets.specs.SetLaws.{bit-mask}
+use Rattle.sets.specs.Tests.{imp, all, any, from, upTo}
+use Rattle.sets.specs.TestLaws.{never, fails, all-out, any-in, upTo-in}
 
 -- one turn more is still within the bound. Said once, since a proof's `omega` reads every fact at hand and long ones cost it time
 pub turn-within : (i n : ℕ) → i < n → i + 1 ≤ n
@@ -80,10 +82,7 @@ all-found f i n l e = fails (all f (upTo n)) (λ h. never (all-out f h (upTo-in 
 pub all-end : (f : ℕ → Bool) (i n : ℕ) → all f (upTo i) ≡ true → i ≡ n → all f (upTo n) ≡ true
 all-end f i n h e = ap (λ (x : ℕ). all f (upTo x)) (sym e) ∙ h
 
--- ---- a loop that joins to a set those sets g j, of the numbers j below n, that pass a test
-
-abbrev pub joining : ℕ → (ℕ → Bool) → (ℕ → ℕ) → ℕ → ℕ → Bool
-joining a f g n u = bit a u || any (λ j. f j && bit (g j) u) (upTo n)
+-- ---- a loop that joins sets to a set (Sets, joining)
 
 pub join-none : (a : ℕ) (f : ℕ → Bool) (g : ℕ → ℕ) → a < 2 ^ 64 → a ≡ maskOf 64 (joining a f g 0)
 join-none a f g h = mask-unique 64 a (joining a f g 0) h (λ u l. sym (or-false (bit a u)))
@@ -109,10 +108,7 @@ join-out a f g n m m′ h e q = q ∙ h ∙ mask-same 64 (joining a f g n) (join
 pub join-end : (a : ℕ) (f : ℕ → Bool) (g : ℕ → ℕ) (i n m : ℕ) → m ≡ maskOf 64 (joining a f g i) → i ≡ n → m ≡ maskOf 64 (joining a f g n)
 join-end a f g i n m h e = h ∙ ap (λ (x : ℕ). maskOf 64 (joining a f g x)) e
 
--- ---- a loop that narrows a set: from a on, to each set g j that is asked for
-
-abbrev pub narrowing : ℕ → (ℕ → Bool) → (ℕ → ℕ) → ℕ → ℕ → Bool
-narrowing a f g n u = bit a u && all (λ j. imp (f j) (bit (g j) u)) (upTo n)
+-- ---- a loop that narrows a set (Sets, narrowing)
 
 pub narrow-none : (a : ℕ) (f : ℕ → Bool) (g : ℕ → ℕ) → a < 2 ^ 64 → a ≡ maskOf 64 (narrowing a f g 0)
 narrow-none a f g h = mask-unique 64 a (narrowing a f g 0) h (λ u l. sym (and-true (bit a u)))

@@ -14,9 +14,12 @@ use mathlib.Core.Path.{_≡_, refl, sym, ap, ap₂, _∙_}
 use native.Mathlib.Nat.{pow-suc, mod-lt, add-zero, add-suc, suc-add, zero-add, div-eq-of-lt, lt-of-lt-of-le, one-mul}
 use native.Mathlib.Numerals.{add-one}
 use native.Mathlib.Omega.{arith}
-use Rattle.sets.specs.Lowest.{lowestFrom, lowestFrom-misses}
-use Rattle.sets.specs.Sets.{bit, bit-zero, bit-suc, bit-and, bit-none, mask-ext, bit-one, maskOf, bit-mask, size}
-use Rattle.sets.specs.Tests.{Is, never, test, fails, same, _∈_, any, any-in, any-out, keep, from, upTo, upTo-in, upTo-out, not-in, not-out}
+use Rattle.sets.specs.Lowest.{lowestFrom}
+use Rattle.sets.specs.LowestLaws.{lowestFrom-misses}
+use Rattle.sets.specs.Sets.{bit, maskOf, size}
+use Rattle.sets.specs.SetLaws.{bit-zero, bit-suc, bit-and, bit-none, mask-ext, bit-one, bit-mask}
+use Rattle.sets.specs.Tests.{Is, _isIn_, any, keep, from, upTo}
+use Rattle.sets.specs.TestLaws.{never, test, fails, same, any-in, any-out, upTo-in, upTo-out, not-in, not-out}
 
 -- ---- Bool
 
@@ -253,7 +256,7 @@ unfolding size
 size-most m = keep-most (bit m) (upTo 64)
 
 -- how many pass the test that a mask was made of
-keep-same : (f g : ℕ → Bool) (l : List ℕ) → ((a : ℕ) → a ∈ l → f a ≡ g a) → keep f l ≡ keep g l
+keep-same : (f g : ℕ → Bool) (l : List ℕ) → ((a : ℕ) → a isIn l → f a ≡ g a) → keep f l ≡ keep g l
 keep-same f g [] h = refl
 keep-same f g (x ∷ xs) h =
     ap₂ (λ (b : Bool) (k : List ℕ). cond b (x ∷ k) k) (h x (List·Memᴰ·head refl)) (keep-same f g xs (λ a m. h a (List·Memᴰ·tail m)))

@@ -1,94 +1,33 @@
--- Tests on lists and below a bound, and what a passed test says. A test is a Bool, and "it passes" is `b ≡ true`.
+-- Tests on lists and below a bound. A test is a Bool, and "it passes" is `b ≡ true`.
 -- Assumes nothing.
-use Prim.Native.Nat.{ℕ, zero, suc, _+_, _≤_, _<_}
-use borrow.Author.Tests.{eqb-true, eqb-false, eq-eqb}
+use Prim.Native.Nat.{ℕ, zero, suc, _+_}
 use lib.Dec.{eqb}
-use lib.ListN.{length, getD}
-use mathlib.Core.Bool.{Bool, true, false, cond, _&&_, _||_, false≢true, not}
-use mathlib.Core.List.{List, [], _∷_, _++_, List·Memᴰ, List·Memᴰ·head, List·Memᴰ·tail, List·Memᴰ·not-nil, List·Memᴰ·append-cases, Memᴰ·append-left, Memᴰ·append-right, map, List·Memᴰ·cases-cons}
-use mathlib.Core.Logic.{_⊎_, inl, inr}
+use mathlib.Core.Bool.{Bool, true, false, cond, _&&_, _||_, not}
+use mathlib.Core.List.{List, [], _∷_, _++_, List·Memᴰ}
 use mathlib.Core.Option.{Option, none, some}
-use mathlib.Core.Path.{_≡_, refl, sym, ap, ap₂, _∙_}
-use native.Mathlib.Nat.{add-zero, add-suc, suc-add}
-use native.Mathlib.Omega.{arith}
+use mathlib.Core.Path.{_≡_}
 
 -- ---- Bool
 
 abbrev pub Is : Bool → Type 0
 Is b = b ≡ true
 
-pub and-in : {a b : Bool} → Is a → Is b → Is (a && b)
-and-in {a} {b} p q = rw p q
-
-pub and-l : (a b : Bool) → Is (a && b) → Is a
-and-l true b h = refl
-and-l false b h = h
-
-pub and-r : (a b : Bool) → Is (a && b) → Is b
-and-r true b h = h
-and-r false b h = absurd (false≢true h)
-
-pub or-l : {a : Bool} (b : Bool) → Is a → Is (a || b)
-or-l {a} b p = rw p
-
-pub or-r : (a : Bool) {b : Bool} → Is b → Is (a || b)
-or-r true q = refl
-or-r false q = q
-
-pub or-out : (a b : Bool) → Is (a || b) → Is a ⊎ Is b
-or-out true b h = inl refl
-or-out false b h = inr h
-
-pub never {ℓ} : {A : Type ℓ} {b : Bool} → Is b → b ≡ false → A
-never p q = absurd (false≢true (sym q ∙ p))
-
--- a test passes or fails
-pub test {ℓ} : {X : Type ℓ} (b : Bool) → (Is b → X) → (b ≡ false → X) → X
-test true f g = f refl
-test false f g = g refl
-
-pub fails : (b : Bool) → (Is b → ⊥) → b ≡ false
-fails true h = absurd (h refl)
-fails false h = refl
-
--- two tests that pass together are equal
-pub same : (a b : Bool) → (Is a → Is b) → (Is b → Is a) → a ≡ b
-same true b f g = sym (f refl)
-same false true f g = g refl
-same false false f g = refl
-
 -- the first test implies the second
 abbrev pub imp : Bool → Bool → Bool
 imp true b = b
 imp false b = true
 
-pub imp-in : (a b : Bool) → (Is a → Is b) → Is (imp a b)
-imp-in true b f = f refl
-imp-in false b f = refl
-
-pub imp-out : {a : Bool} (b : Bool) → Is (imp a b) → Is a → Is b
-imp-out {a} b h p = rw p at h
-
 abbrev pub iff : Bool → Bool → Bool
 iff true b = b
 iff false b = not b
 
-pub iff-in : (a b : Bool) → a ≡ b → Is (iff a b)
-iff-in true b h = sym h
-iff-in false true h = h
-iff-in false false h = refl
-
-pub iff-out : (a b : Bool) → Is (iff a b) → a ≡ b
-iff-out true b h = sym h
-iff-out false true h = h
-iff-out false false h = refl
-
 -- ---- lists
 
-abbrev pub _∈_ {ℓ} : {A : Type ℓ} → A → List A → Type ℓ
-a ∈ l = List·Memᴰ a l
+-- a member of a list. The library writes this List·Memᴰ, and its own isIn for something else
+abbrev pub _isIn_ {ℓ} : {A : Type ℓ} → A → List A → Type ℓ
+a isIn l = List·Memᴰ a l
 
-infix 50 _∈_
+infix 50 _isIn_
 module _ {ℓ} {A : Type ℓ} where
   abbrev pub all : (A → Bool) → List A → Bool
   all f [] = true
@@ -98,53 +37,10 @@ module _ {ℓ} {A : Type ℓ} where
   any f [] = false
   any f (x ∷ xs) = f x || any f xs
 
-  pub all-out : (f : A → Bool) {l : List A} → Is (all f l) → {a : A} → a ∈ l → Is (f a)
-  all-out f h (List·Memᴰ·head {x = x} {xs = xs} e) = rw e (and-l (f x) (all f xs) h)
-  all-out f h (List·Memᴰ·tail {x = x} {xs = xs} m) = all-out f (and-r (f x) (all f xs) h) m
-
-  pub all-in : (f : A → Bool) (l : List A) → ((a : A) → a ∈ l → Is (f a)) → Is (all f l)
-  all-in f [] h = refl
-  all-in f (x ∷ xs) h = and-in (h x (List·Memᴰ·head refl)) (all-in f xs (λ a m. h a (List·Memᴰ·tail m)))
-
-  pub any-in : (f : A → Bool) {l : List A} {a : A} → a ∈ l → Is (f a) → Is (any f l)
-  any-in f (List·Memᴰ·head {x = x} {xs = xs} e) h = or-l (any f xs) (rw e at h)
-  any-in f (List·Memᴰ·tail {x = x} m) h = or-r (f x) (any-in f m h)
-
-  pub any-out : (f : A → Bool) (l : List A) → Is (any f l) → (a : A) × (a ∈ l) × Is (f a)
-  any-out f [] h = absurd (false≢true h)
-  any-out f (x ∷ xs) h = go (or-out (f x) (any f xs) h) (any-out f xs)
-    where
-      go : Is (f x) ⊎ Is (any f xs) → (Is (any f xs) → (a : A) × (a ∈ xs) × Is (f a)) → (a : A) × (a ∈ (x ∷ xs)) × Is (f a)
-      go (inl p) r = (x, List·Memᴰ·head refl, p)
-      go (inr q) r = let t = r q in (t .0, List·Memᴰ·tail (t .1), t .2)
-
   -- the members that pass
   abbrev pub keep : (A → Bool) → List A → List A
   keep f [] = []
   keep f (x ∷ xs) = cond (f x) (x ∷ keep f xs) (keep f xs)
-
-  pub keep-in : (f : A → Bool) {l : List A} {a : A} → a ∈ l → Is (f a) → a ∈ keep f l
-  keep-in f (List·Memᴰ·head {x = x} {xs = xs} e) h = rw (rw e at h) (List·Memᴰ·head e)
-  keep-in f (List·Memᴰ·tail {x = x} {xs = xs} m) h = go (f x) (keep-in f m h)
-    where
-      go : {a : A} (b : Bool) → a ∈ keep f xs → a ∈ cond b (x ∷ keep f xs) (keep f xs)
-      go true m = List·Memᴰ·tail m
-      go false m = m
-
-  pub keep-out : (f : A → Bool) (l : List A) {a : A} → a ∈ keep f l → (a ∈ l) × Is (f a)
-  keep-out f [] m = absurd (List·Memᴰ·not-nil m)
-  keep-out f (x ∷ xs) {a} m = go (f x) refl (keep-out f xs) m
-    where
-      down : (a ∈ keep f xs → (a ∈ xs) × Is (f a)) → a ∈ keep f xs → (a ∈ (x ∷ xs)) × Is (f a)
-      down r k = (List·Memᴰ·tail (r k .0), r k .1)
-
-      first : Is (f x) → (a ∈ keep f xs → (a ∈ xs) × Is (f a)) → (a ≡ x) ⊎ (a ∈ keep f xs) → (a ∈ (x ∷ xs)) × Is (f a)
-      first e r (inl q) = (List·Memᴰ·head q, rw q e)
-      first e r (inr k) = down r k
-
-      go : (b : Bool) → f x ≡ b → (a ∈ keep f xs → (a ∈ xs) × Is (f a)) → a ∈ cond b (x ∷ keep f xs) (keep f xs) → (a ∈ (x ∷ xs)) × Is (f a)
-      go true e r k = first e r (List·Memᴰ·cases-cons k)
-      go false e r k = down r k
 
 -- a list for each member, one after the other
 module _ {ℓ κ} {A : Type ℓ} {B : Type κ} where
@@ -152,30 +48,10 @@ module _ {ℓ κ} {A : Type ℓ} {B : Type κ} where
   each f [] = []
   each f (x ∷ xs) = f x ++ each f xs
 
-  pub each-in : (f : A → List B) {l : List A} {a : A} {b : B} → a ∈ l → b ∈ f a → b ∈ each f l
-  each-in f {b = b} (List·Memᴰ·head {x = x} {xs = xs} e) h = Memᴰ·append-left (each f xs) (rw e at h)
-  each-in f (List·Memᴰ·tail {x = x} {xs = xs} m) h = Memᴰ·append-right (f x) (each-in f m h)
-
-  pub each-out : (f : A → List B) (l : List A) {b : B} → b ∈ each f l → (a : A) × (a ∈ l) × (b ∈ f a)
-  each-out f [] m = absurd (List·Memᴰ·not-nil m)
-  each-out f (x ∷ xs) {b} m = go (each-out f xs) (List·Memᴰ·append-cases (f x) m)
-    where
-      go : (b ∈ each f xs → (a : A) × (a ∈ xs) × (b ∈ f a)) → (b ∈ f x) ⊎ (b ∈ each f xs) → (a : A) × (a ∈ (x ∷ xs)) × (b ∈ f a)
-      go r (inl k) = (x, List·Memᴰ·head refl, k)
-      go r (inr k) = let t = r k in (t .0, List·Memᴰ·tail (t .1), t .2)
-
 -- one value where a test passes, and none where it fails
 abbrev pub only {ℓ} : {A : Type ℓ} → Bool → A → List A
 only true a = a ∷ []
 only false a = []
-
-pub only-in {ℓ} : {A : Type ℓ} {b : Bool} (a : A) → Is b → a ∈ only b a
-only-in a h = rw h (List·Memᴰ·head refl)
-
-pub only-out {ℓ} : {A : Type ℓ} (b : Bool) {a c : A} → c ∈ only b a → Is b × (c ≡ a)
-only-out true (List·Memᴰ·head e) = (refl, e)
-only-out true (List·Memᴰ·tail m) = absurd (List·Memᴰ·not-nil m)
-only-out false m = absurd (List·Memᴰ·not-nil m)
 
 -- ---- below a bound: the numbers from k on, n of them
 abbrev pub from : ℕ → ℕ → List ℕ
@@ -185,68 +61,9 @@ from k (suc n) = k ∷ from (suc k) n
 abbrev pub upTo : ℕ → List ℕ
 upTo n = from 0 n
 
-pub from-in : (k n i : ℕ) → k ≤ i → i < k + n → i ∈ from k n
-from-in k zero i h l = absurd (omega arith)
-from-in k (suc n) i h l = test (eqb i k) (λ e. List·Memᴰ·head (eqb-true i k e)) (λ e. List·Memᴰ·tail (from-in (suc k) n i (let d = eqb-false i k e in omega arith) (omega arith)))
-
-pub from-out : (k n : ℕ) {i : ℕ} → i ∈ from k n → (k ≤ i) × (i < k + n)
-from-out k zero m = absurd (List·Memᴰ·not-nil m)
-from-out k (suc n) (List·Memᴰ·head e) = omega arith
-from-out k (suc n) (List·Memᴰ·tail m) = let h = from-out (suc k) n m in omega arith
-
-pub upTo-in : {n i : ℕ} → i < n → i ∈ upTo n
-upTo-in {n} {i} h = from-in 0 n i (omega arith) (omega arith)
-
-pub upTo-out : (n : ℕ) {i : ℕ} → i ∈ upTo n → i < n
-upTo-out n m = let h = from-out 0 n m in omega arith
-
 -- a number stands in a list
 abbrev pub elem : ℕ → List ℕ → Bool
 elem a l = any (eqb a) l
-
-pub elem-in : {a : ℕ} {l : List ℕ} → a ∈ l → Is (elem a l)
-elem-in {a} m = any-in (eqb a) m (eq-eqb a a refl)
-
-pub elem-out : (a : ℕ) (l : List ℕ) → Is (elem a l) → a ∈ l
-elem-out a l h = let t = any-out (eqb a) l h in rw (eqb-true a (t .0) (t .2)) (t .1)
-
-module _ {ℓ κ} {A : Type ℓ} {B : Type κ} where
-  pub map-in : (f : A → B) {l : List A} {a : A} → a ∈ l → f a ∈ map f l
-  map-in f (List·Memᴰ·head e) = List·Memᴰ·head (ap f e)
-  map-in f (List·Memᴰ·tail m) = List·Memᴰ·tail (map-in f m)
-
-  pub map-out : (f : A → B) (l : List A) {b : B} → b ∈ map f l → (a : A) × (a ∈ l) × (b ≡ f a)
-  map-out f [] m = absurd (List·Memᴰ·not-nil m)
-  map-out f (x ∷ xs) {b} m = go (map-out f xs) (List·Memᴰ·cases-cons m)
-    where
-      go : (b ∈ map f xs → (a : A) × (a ∈ xs) × (b ≡ f a)) → (b ≡ f x) ⊎ (b ∈ map f xs) → (a : A) × (a ∈ (x ∷ xs)) × (b ≡ f a)
-      go r (inl e) = (x, List·Memᴰ·head refl, e)
-      go r (inr k) = let t = r k in (t .0, List·Memᴰ·tail (t .1), t .2)
-
--- the member at a place
-pub getD-in {ℓ} : {A : Type ℓ} (l : List A) (d : A) (i : ℕ) → i < length l → getD l i d ∈ l
-getD-in [] d i h = absurd (omega arith)
-getD-in (x ∷ xs) d zero h = List·Memᴰ·head refl
-getD-in (x ∷ xs) d (suc i) h = List·Memᴰ·tail (getD-in xs d i (omega arith))
-
-pub not-in : (b : Bool) → b ≡ false → Is (not b)
-not-in b h = rw h
-
-pub not-out : (b : Bool) → Is (not b) → b ≡ false
-not-out true h = sym h
-not-out false h = refl
-
--- a test of each member is a test of each place
-pub any-places {ℓ} : {A : Type ℓ} (f : A → Bool) (d : A) (k : ℕ) (l : List A) (g : ℕ → A) → ((i : ℕ) → i < length l → g (k + i) ≡ getD l i d) → any (λ i. f (g i)) (from k (length l)) ≡ any f l
-any-places f d k [] g h = refl
-any-places f d k (x ∷ xs) g h =
-    let e : g k ≡ x = rw add-zero at (h 0 (omega arith)) in
-    ap₂ _||_ (ap f e) (any-places f d (suc k) xs g (λ i l. rw (suc-add, ← add-suc) (h (suc i) (omega arith))))
-
--- tests that agree at each member
-pub any-ext {ℓ} : {A : Type ℓ} (f g : A → Bool) (l : List A) → ((a : A) → a ∈ l → f a ≡ g a) → any f l ≡ any g l
-any-ext f g [] h = refl
-any-ext f g (x ∷ xs) h = ap₂ _||_ (h x (List·Memᴰ·head refl)) (any-ext f g xs (λ a m. h a (List·Memᴰ·tail m)))
 
 -- the list without its member number i
 abbrev pub without {ℓ} : {A : Type ℓ} → ℕ → List A → List A
@@ -258,10 +75,6 @@ without (suc i) (x ∷ xs) = x ∷ without i xs
 abbrev pub isSome {ℓ} : {A : Type ℓ} → Option A → Bool
 isSome none = false
 isSome (some x) = true
-
-pub isSome-out {ℓ} : {A : Type ℓ} (o : Option A) → Is (isSome o) → (x : A) × (o ≡ some x)
-isSome-out none h = absurd (false≢true h)
-isSome-out (some x) h = (x, refl)
 
 -- what all members come to
 abbrev pub sum {ℓ} : {A : Type ℓ} → (A → ℕ) → List A → ℕ

@@ -7,21 +7,22 @@ use mathlib.Core.List.{List, [], _∷_, _++_, map, List·Memᴰ·head, List·Mem
 use mathlib.Core.Path.{_≡_, refl, ap, ap₂, _∙_}
 use Rattle.frontier.specs.Frontier.{groupsIn}
 use Rattle.policy.specs.Policy.{Policy}
-use Rattle.sets.specs.Tests.{Is, _∈_, keep, keep-out, each, upTo, upTo-out, sum}
+use Rattle.sets.specs.Tests.{Is, _isIn_, keep, each, upTo, sum}
+use Rattle.sets.specs.TestLaws.{keep-out, upTo-out}
 use Rattle.slotgroups.specs.Scratch.{isPartAt, isHeadAt, Merged}
 use Rattle.slotgroups.specs.Slots.{isSlot, slotsOf, slotGroups}
 
 -- ---- lists
 
-keep-ext : (f g : ℕ → Bool) (l : List ℕ) → ((x : ℕ) → x ∈ l → f x ≡ g x) → keep f l ≡ keep g l
+keep-ext : (f g : ℕ → Bool) (l : List ℕ) → ((x : ℕ) → x isIn l → f x ≡ g x) → keep f l ≡ keep g l
 keep-ext f g [] h = refl
 keep-ext f g (x ∷ l) h = ap₂ (λ (b : Bool) (r : List ℕ). cond b (x ∷ r) r) (h x (List·Memᴰ·head refl)) (keep-ext f g l (λ y m. h y (List·Memᴰ·tail m)))
 
-each-map : {A B C : Type 0} (f : B → List C) (g : A → B) (h : A → List C) (l : List A) → ((x : A) → x ∈ l → h x ≡ f (g x)) → each h l ≡ each f (map g l)
+each-map : {A B C : Type 0} (f : B → List C) (g : A → B) (h : A → List C) (l : List A) → ((x : A) → x isIn l → h x ≡ f (g x)) → each h l ≡ each f (map g l)
 each-map f g h [] e = refl
 each-map f g h (x ∷ l) e = ap₂ _++_ (e x (List·Memᴰ·head refl)) (each-map f g h l (λ y m. e y (List·Memᴰ·tail m)))
 
-sum-map : {A B : Type 0} (f : B → ℕ) (g : A → B) (h : A → ℕ) (l : List A) → ((x : A) → x ∈ l → h x ≡ f (g x)) → sum h l ≡ sum f (map g l)
+sum-map : {A B : Type 0} (f : B → ℕ) (g : A → B) (h : A → ℕ) (l : List A) → ((x : A) → x isIn l → h x ≡ f (g x)) → sum h l ≡ sum f (map g l)
 sum-map f g h [] e = refl
 sum-map f g h (x ∷ l) e = ap₂ _+_ (e x (List·Memᴰ·head refl)) (sum-map f g h l (λ y m. e y (List·Memᴰ·tail m)))
 

@@ -13,12 +13,12 @@ use native.Mathlib.Nat.{add-assoc, add-comm, add-suc, suc-add, zero-add}
 use native.Mathlib.Omega.{arith}
 use Rattle.files.specs.Calls.{Counts, minedLines, minedBytes, minedCounts}
 use Rattle.files.specs.RuleFile.{Lines, precedes, condLines, allLines, linesOf, encodeAll, operations, part}
-use Rattle.frontier.specs.Alike.{run-image}
+use Rattle.frontier.specs.AlikeLaws.{run-image}
 use Rattle.policy.specs.CoverLaws.{exact-fits, fits-exact}
 use Rattle.policy.specs.Covering.{cover, fits, levelOf}
 use Rattle.policy.specs.GroupLaws.{times, times-append}
-use Rattle.policy.specs.MergeLaws.{total, Every, Runs, run-runs, runs-total, runs-every}
-use Rattle.policy.specs.Merging.{absorb, step, run, merges, ones, union, mergeable, groups, mergesMade}
+use Rattle.policy.specs.MergeLaws.{run, merges, total, Every, Runs, run-runs, runs-total, runs-every}
+use Rattle.policy.specs.Merging.{absorb, step, startGroups, union, mergeable, groups, mergesMade}
 use Rattle.policy.specs.Mined.{partCount, partAt, partBlock, minedGroups, mergeCount, groupBlock, ruleOf}
 use Rattle.policy.specs.PartLaws.{part-some, part-fits}
 use Rattle.policy.specs.Policy.{Policy, settingOf, rolesIn}
@@ -27,10 +27,11 @@ use Rattle.policy.specs.Roles.{Part, isPart, parts, blockOf, classOf}
 use Rattle.policy.specs.Rules.{Setting, Rule, Block, Some}
 use Rattle.policy.specs.ThinLaws.{cover-at, at-3}
 use Rattle.policy.specs.Thinning.{written, ruleCost}
-use Rattle.sets.specs.Lowest.{lowest-least}
+use Rattle.sets.specs.LowestLaws.{lowest-least}
 use Rattle.sets.specs.MaskLaws.{or-false}
 use Rattle.sets.specs.Sorted.{sort}
-use Rattle.sets.specs.Tests.{Is, and-l, and-r, or-l, test, _∈_, any, any-out, keep, keep-in, keep-out, each, each-in, only, only-in, from, upTo, upTo-in, upTo-out, map-out, sum}
+use Rattle.sets.specs.Tests.{Is, _isIn_, any, keep, each, only, from, upTo, sum}
+use Rattle.sets.specs.TestLaws.{and-l, and-r, or-l, test, any-out, keep-in, keep-out, each-in, only-in, upTo-in, upTo-out, map-out}
 use Rattle.slotgroups.specs.Slots.{slotPart, isSlot, slotBlock, slotsOf, slotAt, slotGroups, slotMerges, slotRule, slotLines}
 use Rattle.words.specs.WordLaws.{union-joined}
 
@@ -71,8 +72,9 @@ module _ {A : Type 0} (ok : A → A → Bool) (join : A → A → A) where
   enough (suc n) (g ∷ t) h = go (λ s. enough n s) (step ok join (g ∷ t)) (step-fewer (g ∷ t))
     where
       go : ((s : List A) → length s ≤ n → (run ok join n s ≡ run ok join (length s) s) × (merges ok join n s ≡ merges ok join (length s) s)) → (o : Option (List A)) → Fewer (suc (length t)) o
-          → _≡_ {A = List A} (elim o as (λ _. List A) [ none ↦ g ∷ t | some s ↦ run ok join n s ]) (elim o as (λ _. List A) [ none ↦ g ∷ t | some s ↦ run ok join (length t) s ])
-          × _≡_ {A = ℕ} (elim o as (λ _. ℕ) [ none ↦ 0 | some s ↦ suc (merges ok join n s) ]) (elim o as (λ _. ℕ) [ none ↦ 0 | some s ↦ suc (merges ok join (length t) s) ])
+          → let a = elim o as (λ _. List A × ℕ) [ none ↦ (g ∷ t, 0) | some s ↦ (run ok join n s, suc (merges ok join n s)) ] in
+          let b = elim o as (λ _. List A × ℕ) [ none ↦ (g ∷ t, 0) | some s ↦ (run ok join (length t) s, suc (merges ok join (length t) s)) ] in
+          (a .0 ≡ b .0) × (a .1 ≡ b .1)
       go r none f = (refl, refl)
       go r (some s) f =
           let e : length s ≡ length t = omega arith in
@@ -203,7 +205,7 @@ module _ (F : Policy) where
   -- ---- about one slot
 
   -- a slot's part is one
-  pub slot-part : (i : ℕ) → Is (isSlot F i) → slotPart i ∈ parts (settingOf F) (rolesIn F)
+  pub slot-part : (i : ℕ) → Is (isSlot F i) → slotPart i isIn parts (settingOf F) (rolesIn F)
   unfolding isSlot parts settingOf rolesIn
   slot-part i h =
       let t = and-r (ltb (i / 16) (F .roles)) _ h in
@@ -222,12 +224,12 @@ module _ (F : Policy) where
   block-some i h = part-some (settingOf F) (rolesIn F) (slot-part i h)
 
   -- a slot with a part is below 512 and passes the test
-  pub slots-out : {i : ℕ} → i ∈ slotsOf F → (i < 512) × Is (isSlot F i)
+  pub slots-out : {i : ℕ} → i isIn slotsOf F → (i < 512) × Is (isSlot F i)
   unfolding slotsOf
   slots-out m = let t = keep-out (isSlot F) (upTo 512) m in (upTo-out 512 (t .0), t .1)
 
   -- and a number below 512 that passes the test is one
-  pub slots-in : {i : ℕ} → i < 512 → Is (isSlot F i) → i ∈ slotsOf F
+  pub slots-in : {i : ℕ} → i < 512 → Is (isSlot F i) → i isIn slotsOf F
   unfolding slotsOf
   slots-in l h = keep-in (isSlot F) (upTo-in l) h
 
@@ -264,7 +266,7 @@ module _ (F : Policy) where
   slots-run = run-runs (mergeable (settingOf F) (slotBlock F)) _++_ (length (slotsOf F)) (map (λ i. i ∷ []) (slotsOf F)) (let e = length-map (slotsOf F) (λ (i : ℕ). i ∷ []) in omega arith)
 
   -- what holds of each slot alone, and of joined groups if of both, holds of each group
-  each-group : (Q : List ℕ → Type 0) → ((g h : List ℕ) → Q g → Q h → Is (mergeable (settingOf F) (slotBlock F) g h) → Q (g ++ h)) → ((i : ℕ) → i ∈ slotsOf F → Q (i ∷ [])) → Every Q (slotGroups F)
+  each-group : (Q : List ℕ → Type 0) → ((g h : List ℕ) → Q g → Q h → Is (mergeable (settingOf F) (slotBlock F) g h) → Q (g ++ h)) → ((i : ℕ) → i isIn slotsOf F → Q (i ∷ [])) → Every Q (slotGroups F)
   each-group Q keeps alone =
       runs-every (mergeable (settingOf F) (slotBlock F)) _++_ Q keeps slots-run (λ g m. let t = map-out (λ i. i ∷ []) (slotsOf F) m in subst Q (sym (t .2)) (alone (t .0) (t .1)))
 
@@ -273,27 +275,27 @@ module _ (F : Policy) where
   one-block i = fun-ext λ u. fun-ext λ r. fun-ext λ o. or-false (slotBlock F i u r o)
 
   -- a group's block fits level 3
-  pub slot-fits : (g : List ℕ) → g ∈ slotGroups F → Is (fits (settingOf F) (union (settingOf F) (slotBlock F) g) 3)
+  pub slot-fits : (g : List ℕ) → g isIn slotGroups F → Is (fits (settingOf F) (union (settingOf F) (slotBlock F) g) 3)
   slot-fits = each-group (λ g. Is (fits (settingOf F) (union (settingOf F) (slotBlock F) g) 3)) (λ g h p q m. merged-fits g h m) (λ i m. rw (one-block i) (block-fits i (slots-out m .1)))
 
   -- a group's block is not empty
-  pub slot-some : (g : List ℕ) → g ∈ slotGroups F → Some (settingOf F) (union (settingOf F) (slotBlock F) g)
+  pub slot-some : (g : List ℕ) → g isIn slotGroups F → Some (settingOf F) (union (settingOf F) (slotBlock F) g)
   slot-some = each-group (λ g. Some (settingOf F) (union (settingOf F) (slotBlock F) g)) (λ g h p q m. merged-some g h p) (λ i m. rw (one-block i) (block-some i (slots-out m .1)))
 
   -- a group's members are slots with parts
-  pub slot-members : (g : List ℕ) → g ∈ slotGroups F → (i : ℕ) → i ∈ g → i ∈ slotsOf F
-  slot-members = each-group (Every (λ i. i ∈ slotsOf F)) (λ g h p q m i k. joined g h p q i (List·Memᴰ·append-cases g k)) (λ i m j k. rw (List·Memᴰ·eq-of-singleton k) m)
+  pub slot-members : (g : List ℕ) → g isIn slotGroups F → (i : ℕ) → i isIn g → i isIn slotsOf F
+  slot-members = each-group (Every (λ i. i isIn slotsOf F)) (λ g h p q m i k. joined g h p q i (List·Memᴰ·append-cases g k)) (λ i m j k. rw (List·Memᴰ·eq-of-singleton k) m)
     where
-      joined : (g h : List ℕ) → Every (λ i. i ∈ slotsOf F) g → Every (λ i. i ∈ slotsOf F) h → (i : ℕ) → (i ∈ g) ⊎ (i ∈ h) → i ∈ slotsOf F
+      joined : (g h : List ℕ) → Every (λ i. i isIn slotsOf F) g → Every (λ i. i isIn slotsOf F) h → (i : ℕ) → (i isIn g) ⊎ (i isIn h) → i isIn slotsOf F
       joined g h p q i (inl k) = p i k
       joined g h p q i (inr k) = q i k
 
-  slot-times : (i : ℕ) → i ∈ slotsOf F → times i (slotsOf F) ≡ 1
+  slot-times : (i : ℕ) → i isIn slotsOf F → times i (slotsOf F) ≡ 1
   unfolding slotsOf
   slot-times i m = let t = slots-out m in times-kept (isSlot F) i 0 512 (omega arith) (omega (arith, t .0)) (t .1)
 
   -- each slot with a part stands in exactly one group, and there once
-  pub slot-once : (i : ℕ) → i ∈ slotsOf F → total _+_ 0 (times i) (slotGroups F) ≡ 1
+  pub slot-once : (i : ℕ) → i isIn slotsOf F → total _+_ 0 (times i) (slotGroups F) ≡ 1
   slot-once i m = sym (runs-total (mergeable (settingOf F) (slotBlock F)) _++_ _+_ 0 add-assoc add-comm (times i) (times-append i) slots-run) ∙ total-ones i (slotsOf F) ∙ slot-times i m
 
   -- a run over slots with steps to spare leaves these groups
@@ -363,7 +365,7 @@ module _ (F : Policy) where
     unfolding partBlock slotBlock
     blocks-slots = fun-ext λ p. ap (blockOf (settingOf F) (rolesIn F)) (part-slot p)
 
-    starts-slots : map (map (slotAt F)) (ones 0 (length (slotsOf F))) ≡ map (λ i. i ∷ []) (slotsOf F)
+    starts-slots : map (map (slotAt F)) (startGroups 0 (length (slotsOf F))) ≡ map (λ i. i ∷ []) (slotsOf F)
     unfolding slotAt
     starts-slots =
         map-map (map (slotAt F)) (λ p. p ∷ []) (upTo (length (slotsOf F)))
@@ -374,7 +376,7 @@ module _ (F : Policy) where
     unfolding minedGroups mergeCount groups mergesMade slotGroups slotMerges
     runs-slots =
         let t = run-image (map (slotAt F)) (mergeable (settingOf F) (λ p. slotBlock F (slotAt F p))) _++_ (mergeable (settingOf F) (slotBlock F)) _++_ (λ g. Unit {0})
-        (λ g h p q. mergeable-map (settingOf F) (slotBlock F) (slotAt F) g h) (λ g h p q. map-append (slotAt F) g h) (λ g h p q m. tt) (length (slotsOf F)) (ones 0 (length (slotsOf F))) (λ g m. tt) in
+        (λ g h p q. mergeable-map (settingOf F) (slotBlock F) (slotAt F) g h) (λ g h p q. map-append (slotAt F) g h) (λ g h p q m. tt) (length (slotsOf F)) (startGroups 0 (length (slotsOf F))) (λ g m. tt) in
         rw (blocks-slots, count-slots)
         (t .0 ∙ ap (run (mergeable (settingOf F) (slotBlock F)) _++_ (length (slotsOf F))) starts-slots, t .1 ∙ ap (merges (mergeable (settingOf F) (slotBlock F)) _++_ (length (slotsOf F))) starts-slots)
 

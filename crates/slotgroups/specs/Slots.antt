@@ -6,7 +6,7 @@ use lib.ListN.{length, getD}
 use mathlib.Core.Bool.{Bool, _&&_}
 use mathlib.Core.List.{List, [], _∷_, _++_, map}
 use Rattle.files.specs.RuleFile.{Lines, precedes, condLines, operations, part}
-use Rattle.policy.specs.Merging.{run, merges, union, mergeable}
+use Rattle.policy.specs.Merging.{mergeAll, union, mergeable}
 use Rattle.policy.specs.Policy.{Policy, settingOf, rolesIn}
 use Rattle.policy.specs.Roles.{Part, isPart, blockOf, classOf}
 use Rattle.policy.specs.Rules.{Rule, Block}
@@ -37,10 +37,10 @@ module _ (F : Policy) where
 
   -- the groups that merging leaves, as lists of slots in the order in which they came together; how many merges were made
   unfoldable pub slotGroups : List (List ℕ)
-  slotGroups = run (mergeable (settingOf F) slotBlock) _++_ (length slotsOf) (map (λ i. i ∷ []) slotsOf)
+  slotGroups = mergeAll (mergeable (settingOf F) slotBlock) _++_ (length slotsOf) (map (λ i. i ∷ []) slotsOf) .0
 
   unfoldable pub slotMerges : ℕ
-  slotMerges = merges (mergeable (settingOf F) slotBlock) _++_ (length slotsOf) (map (λ i. i ∷ []) slotsOf)
+  slotMerges = mergeAll (mergeable (settingOf F) slotBlock) _++_ (length slotsOf) (map (λ i. i ∷ []) slotsOf) .1
 
   -- the rule of a group of slots, and the lines of the rule and its parts, in the file's order
   unfoldable pub slotRule : List ℕ → Rule

@@ -13,8 +13,10 @@ use Rattle.distinct.specs.Distinct.{everybody, distinctAt, havingAt, distinctTa
 use Rattle.loaded.specs.RecordLaws.{table-get}
 use Rattle.matches.specs.Matches.{valueFor}
 use Rattle.sets.specs.Lowest.{lowestFrom}
-use Rattle.sets.specs.Sets.{bit, bit-none, maskOf, bit-mask}
-use Rattle.sets.specs.Tests.{Is, and-in, and-l, and-r, never, test, same, _∈_, any, any-in, any-out, upTo, upTo-in, upTo-out, getD-in}
+use Rattle.sets.specs.Sets.{bit, maskOf}
+use Rattle.sets.specs.SetLaws.{bit-none, bit-mask}
+use Rattle.sets.specs.Tests.{Is, _isIn_, any, upTo}
+use Rattle.sets.specs.TestLaws.{and-in, and-l, and-r, never, test, same, any-in, any-out, upTo-in, upTo-out, getD-in}
 use Rattle.tables.specs.Tables.{numberOf, unionOf}
 use Rattle.tables.specs.TurnLaws.{number-most}
 use Rattle.values.specs.ListLaws.{listed-length}
@@ -75,7 +77,7 @@ module _ (distinct having : List ℕ) (value : ℕ → ℕ → ℕ) (R : Ranked 
       any-in (λ k. bit (getD having (64 * p + k) 0) y && bit (getD having (64 * p + k) 0) x) (upTo-in (s .1)) (and-in (s .3) (R .like p (s .0) x y hp (s .2) hx hy (s .3) (eqb-true (value p y) (value p x) h))))
 
 -- a member has a number
-in-place : (l : List ℕ) {a : ℕ} → a ∈ l → (k : ℕ) × (k < length l) × (getD l k 0 ≡ a)
+in-place : (l : List ℕ) {a : ℕ} → a isIn l → (k : ℕ) × (k < length l) × (getD l k 0 ≡ a)
 in-place [] m = absurd (List·Memᴰ·not-nil m)
 in-place (x ∷ xs) (List·Memᴰ·head e) = (0, omega arith, sym e)
 in-place (x ∷ xs) (List·Memᴰ·tail m) = let t = in-place xs m in (suc (t .0), omega arith, t .2)
@@ -128,7 +130,7 @@ module _ (values holders kinds : List ℕ) (roles : ℕ) where
   listed-room p = listed-length (valuesAt values holders roles p) everybody false
 
   -- each value of a place is listed, and somebody has each that is
-  value-listed : (p x : ℕ) → x < 64 → valued p x ∈ listed p
+  value-listed : (p x : ℕ) → x < 64 → valued p x isIn listed p
   unfolding distinctAt valuesAt
   value-listed p x hx =
       rw (sym (table-get 64 (valueFor values holders roles p) x hx)) (among-in (valuesAt values holders roles p) everybody x hx (bit-mask 64 (λ y. ltb y 64) x hx ∙ lt-ltb x 64 hx))

@@ -13,8 +13,10 @@ use Rattle.loaded.specs.Record.{tableOf}
 use Rattle.loaded.specs.RecordLaws.{table-get, table-ext}
 use Rattle.sets.specs.LoopLaws.{any-more}
 use Rattle.sets.specs.MaskLaws.{or-false, mask-same, mask-none}
-use Rattle.sets.specs.Sets.{bit, maskOf, bit-mask}
-use Rattle.sets.specs.Tests.{never, test, same, any, any-in, any-out, any-ext, upTo, upTo-in}
+use Rattle.sets.specs.Sets.{bit, maskOf}
+use Rattle.sets.specs.SetLaws.{bit-mask}
+use Rattle.sets.specs.Tests.{any, upTo}
+use Rattle.sets.specs.TestLaws.{never, test, same, any-in, any-out, any-ext, upTo-in}
 use Rattle.tables.specs.Tables.{meetOf, turns, spreadOf}
 
 -- ---- tables whose word i is the set of those who stand to i in a relation

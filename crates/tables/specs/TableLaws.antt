@@ -15,12 +15,13 @@ use Rattle.loaded.specs.Record.{tableOf}
 use Rattle.loaded.specs.RecordLaws.{table-get, table-ext}
 use Rattle.matches.specs.Matches.{countAt, knownFor, knownPlaces, heldRoles, valueFor, matchWord, matchTable}
 use Rattle.matches.specs.TableLaws.{count-room}
-use Rattle.meeting.specs.Meeting.{metAt, holdsAll, meetingOf}
-use Rattle.policy.specs.Policy.{order}
+use Rattle.meeting.specs.Meeting.{order, metAt, holdsAll, meetingOf}
 use Rattle.policy.specs.Rules.{both}
 use Rattle.sets.specs.MaskLaws.{and-true, bit-maskOf, mask-same, mask-wide, mask-none}
-use Rattle.sets.specs.Sets.{bit, bit-none, subset, subset-in, subset-out, maskOf, bit-mask}
-use Rattle.sets.specs.Tests.{Is, and-in, and-l, and-r, test, fails, same, imp, imp-in, imp-out, all, any, all-in, all-out, upTo, upTo-in, upTo-out}
+use Rattle.sets.specs.Sets.{bit, subset, maskOf}
+use Rattle.sets.specs.SetLaws.{bit-none, subset-in, subset-out, bit-mask}
+use Rattle.sets.specs.Tests.{Is, imp, all, any, upTo}
+use Rattle.sets.specs.TestLaws.{and-in, and-l, and-r, test, fails, same, imp-in, imp-out, all-in, all-out, upTo-in, upTo-out}
 use Rattle.tables.specs.RankLaws.{Ranked, pairs-tested, both-have, tables-ranked}
 use Rattle.tables.specs.RelationLaws.{relTable, rel-none, rel-spread, rel-turns, rel-blocks, rel-picked, any-met, bit-meet}
 use Rattle.tables.specs.Tables.{meetOf, turns, spreadOf, joins, numberOf, unionOf, metBy, linkedTo, linkValue, linkAtom, linksBy, matchValue, matchPlace, matchesBy}

@@ -9,9 +9,8 @@ use mathlib.Core.List.{List}
 use Rattle.grants.specs.Updates.{updated}
 use Rattle.loaded.specs.Record.{tableOf}
 use Rattle.policy.specs.Rules.{formOf, linked}
-use Rattle.sets.specs.LoopLaws.{joining}
+use Rattle.sets.specs.Sets.{joining, bit, maskOf}
 use Rattle.sets.specs.Lowest.{lowestFrom}
-use Rattle.sets.specs.Sets.{bit, maskOf}
 use Rattle.values.specs.Values.{listsLeast}
 
 -- who is in both of two sets

@@ -18,11 +18,14 @@ use Rattle.loaded.specs.RecordLaws.{table-ext, table-length}
 use Rattle.matches.specs.Matches.{lessOne}
 use Rattle.matches.specs.MemberLaws.{bit-less}
 use Rattle.policy.specs.Rules.{formOf, linked}
-use Rattle.sets.specs.LoopLaws.{joining, join-out}
-use Rattle.sets.specs.Lowest.{lowestFrom, lowestFrom-most}
+use Rattle.sets.specs.LoopLaws.{join-out}
+use Rattle.sets.specs.Sets.{joining, bit, subset, maskOf}
+use Rattle.sets.specs.Lowest.{lowestFrom}
+use Rattle.sets.specs.LowestLaws.{lowestFrom-most}
 use Rattle.sets.specs.MaskLaws.{and-true, or-false, mask-lt, mask-unique, mask-none}
-use Rattle.sets.specs.Sets.{bit, bit-none, subset, maskOf, bit-mask}
-use Rattle.sets.specs.Tests.{Is, test, not-in}
+use Rattle.sets.specs.SetLaws.{bit-none, bit-mask}
+use Rattle.sets.specs.Tests.{Is}
+use Rattle.sets.specs.TestLaws.{test, not-in}
 use Rattle.tables.specs.Tables.{meetOf, turns, spreadOf, joins, numberOf, unionOf, metBy, linkedTo, linkValue, linkAtom, matchValue, matchPlace}
 use Rattle.values.specs.Values.{listsLeast}
 

@@ -10,6 +10,12 @@ ghost use Rattle.loaded.specs.Record.{tableOf};
 ghost use Rattle.matches.specs.Matches.{knownPlaces, matchTable};
 ghost use Rattle.policy.specs.Rules.{formOf, linked};
 ghost use Rattle.tables.specs.Tables.{spreadOf, joins, numberOf, unionOf, linkAtom, linkedTo, linksBy, metBy, matchPlace, matchesBy};
+use loaded::ByAttribute;
+use loaded::ByPlace;
+use loaded::ByPlaceMember;
+use loaded::BySide;
+use loaded::Links;
+use loaded::RoleFile;
 
 // The table of no word, whatever it held.
 fn clear(out: &mut [u64])
@@ -28,18 +34,18 @@ fn spread(block: usize, members: u64, word: u64, out: &mut [u64])
     let mut rest = members;
     while 0 < rest {
         let y = sets::least(rest);
-        out[64 * block + y] = sets::union(out[64 * block + y], word);
+        out[RoleFile::MEMBERS * block + y] = sets::union(out[RoleFile::MEMBERS * block + y], word);
         rest = matches::without_least(rest);
     }
 }
 
 // How many distinct values a place has: nobody has the next.
-fn number(having: &[u64; 896], place: usize) -> usize
+fn number(having: &ByPlaceMember, place: usize) -> usize
     requires { ⌜ place < 14 ⌝ }
     ensures { λ r. ⌜ r ≡ numberOf (now (having .entry)) place ⌝ }
 {
-    for k in 0..64 {
-        if having[64 * place + k] == 0 {
+    for k in 0..RoleFile::MEMBERS {
+        if having[RoleFile::MEMBERS * place + k] == 0 {
             return k;
         }
     }
@@ -75,8 +81,8 @@ fn joins(left: bool, right: bool, turned: bool, v: u64, w: u64) -> bool
 
 // Who has, at a place, one of the first values that a value is joined with.
 fn joined<'a>(
-    distinct: &'a [u64; 896],
-    having: &'a [u64; 896],
+    distinct: &'a ByPlaceMember,
+    having: &'a ByPlaceMember,
     place: usize,
     count: usize,
     left: bool,
@@ -89,9 +95,9 @@ fn joined<'a>(
 {
     let mut m: u64 = 0;
     for l in 0..count {
-        let word = having[64 * place + l];
+        let word = having[RoleFile::MEMBERS * place + l];
         // Which values are joined cannot be foreseen, so there is a word to join either way.
-        let found = if joins(left, right, turned, v, distinct[64 * place + l]) {
+        let found = if joins(left, right, turned, v, distinct[RoleFile::MEMBERS * place + l]) {
             word
         } else {
             0
@@ -103,11 +109,11 @@ fn joined<'a>(
 
 // The resources with which the atom over user attribute a and resource attribute b joins the user value number k.
 fn linked_to<'a>(
-    known: &'a [u64; 12],
-    kinds: &'a [u64; 2],
+    known: &'a ByAttribute,
+    kinds: &'a BySide,
     resources: usize,
-    distinct: &'a [u64; 896],
-    having: &'a [u64; 896],
+    distinct: &'a ByPlaceMember,
+    having: &'a ByPlaceMember,
     a: usize,
     b: usize,
     k: usize,
@@ -126,49 +132,49 @@ fn linked_to<'a>(
         left,
         right,
         false,
-        distinct[64 * a + k],
+        distinct[RoleFile::MEMBERS * a + k],
     );
-    sets::meet(sets::meet(sets::below(resources), known[6 + b]), found)
+    sets::meet(sets::meet(sets::below(resources), known[RoleFile::ATTRIBUTES + b]), found)
 }
 
 // The words of an atom, of which `links` below has 36: those of whoever has a user value, value by value.
 fn link_atom<'a>(
-    known: &'a [u64; 12],
-    kinds: &'a [u64; 2],
+    known: &'a ByAttribute,
+    kinds: &'a BySide,
     resources: usize,
-    distinct: &'a [u64; 896],
-    having: &'a [u64; 896],
+    distinct: &'a ByPlaceMember,
+    having: &'a ByPlaceMember,
     atom: usize,
     out: &mut [u64],
 )
     requires { ⌜ (atom < 36) × (length (now out) ≡ 2304) ⌝ }
     ensures { λ _. ⌜ now (out .exit) ≡ linkAtom (now (distinct .entry)) (now (having .entry)) (now (known .entry)) (now (kinds .entry)) resources atom (now (out .entry)) ⌝ }
 {
-    let a = atom / 6;
-    let b = atom % 6;
+    let a = atom / RoleFile::ATTRIBUTES;
+    let b = atom % RoleFile::ATTRIBUTES;
     let others = number(having, 7 + b);
     let count = number(having, a);
     for k in 0..count {
         let word = linked_to(known, kinds, resources, distinct, having, a, b, k, others);
         // An unknown value satisfies no atom, on either side.
-        spread(atom, sets::meet(known[a], having[64 * a + k]), word, out);
+        spread(atom, sets::meet(known[a], having[RoleFile::MEMBERS * a + k]), word, out);
     }
 }
 
 // Into a slice, since only a slice tells its length to a proof.
 fn fill_links<'a>(
-    known: &'a [u64; 12],
-    kinds: &'a [u64; 2],
+    known: &'a ByAttribute,
+    kinds: &'a BySide,
     resources: usize,
-    distinct: &'a [u64; 896],
-    having: &'a [u64; 896],
+    distinct: &'a ByPlaceMember,
+    having: &'a ByPlaceMember,
     out: &mut [u64],
 )
     requires { ⌜ length (now out) ≡ 2304 ⌝ }
     ensures { λ _. ⌜ now (out .exit) ≡ linksBy (now (distinct .entry)) (now (having .entry)) (now (known .entry)) (now (kinds .entry)) resources ⌝ }
 {
     clear(out);
-    for atom in 0..36 {
+    for atom in 0..RoleFile::ATOMS {
         link_atom(known, kinds, resources, distinct, having, atom, out);
     }
 }
@@ -176,12 +182,12 @@ fn fill_links<'a>(
 // The atoms that hold, whatever the table held, if the other tables are those of some values: word 64 * (6 * a + b) + user is the set of
 // the resources of which the atom over user attribute a and resource attribute b holds with the user.
 pub fn links<'a>(
-    known: &'a [u64; 12],
-    kinds: &'a [u64; 2],
+    known: &'a ByAttribute,
+    kinds: &'a BySide,
     resources: usize,
-    distinct: &'a [u64; 896],
-    having: &'a [u64; 896],
-    out: &mut [u64; 2304],
+    distinct: &'a ByPlaceMember,
+    having: &'a ByPlaceMember,
+    out: &mut Links,
 )
     requires { ⌜ resources ≤ 64 ⌝ }
     ensures { λ _. ⌜ ((values holders : List ℕ) → (roles : ℕ) → now (distinct .entry) ≡ distinctTable values holders (now (kinds .entry)) roles → now (having .entry) ≡ havingTable values holders (now (kinds .entry)) roles → now (out .exit) ≡ linkTable (now (known .entry)) values (now (kinds .entry)) resources) ⌝ }
@@ -191,9 +197,9 @@ pub fn links<'a>(
 
 // Who meets the value number k of a place: of user sets whoever has one that contains it, of others whoever has it.
 fn met_by<'a>(
-    kinds: &'a [u64; 2],
-    distinct: &'a [u64; 896],
-    having: &'a [u64; 896],
+    kinds: &'a BySide,
+    distinct: &'a ByPlaceMember,
+    having: &'a ByPlaceMember,
     place: usize,
     k: usize,
     count: usize,
@@ -210,18 +216,18 @@ fn met_by<'a>(
             true,
             true,
             true,
-            distinct[64 * place + k],
+            distinct[RoleFile::MEMBERS * place + k],
         );
     }
-    having[64 * place + k]
+    having[RoleFile::MEMBERS * place + k]
 }
 
 // The words of a place: those of whoever has a value, value by value.
 fn match_place<'a>(
-    known: &'a [u64; 14],
-    kinds: &'a [u64; 2],
-    distinct: &'a [u64; 896],
-    having: &'a [u64; 896],
+    known: &'a ByPlace,
+    kinds: &'a BySide,
+    distinct: &'a ByPlaceMember,
+    having: &'a ByPlaceMember,
     place: usize,
     out: &mut [u64],
 )
@@ -237,7 +243,7 @@ fn match_place<'a>(
         // Nobody meets an unknown value, nor is met by one.
         spread(
             place,
-            sets::meet(known[place], having[64 * place + k]),
+            sets::meet(known[place], having[RoleFile::MEMBERS * place + k]),
             word,
             out,
         );
@@ -245,17 +251,17 @@ fn match_place<'a>(
 }
 
 fn fill_matches<'a>(
-    known: &'a [u64; 14],
-    kinds: &'a [u64; 2],
-    distinct: &'a [u64; 896],
-    having: &'a [u64; 896],
+    known: &'a ByPlace,
+    kinds: &'a BySide,
+    distinct: &'a ByPlaceMember,
+    having: &'a ByPlaceMember,
     out: &mut [u64],
 )
     requires { ⌜ length (now out) ≡ 896 ⌝ }
     ensures { λ _. ⌜ now (out .exit) ≡ matchesBy (now (distinct .entry)) (now (having .entry)) (now (known .entry)) (now (kinds .entry)) ⌝ }
 {
     clear(out);
-    for place in 0..14 {
+    for place in 0..RoleFile::PLACES {
         match_place(known, kinds, distinct, having, place, out);
     }
 }
@@ -263,11 +269,11 @@ fn fill_matches<'a>(
 // Who meets whose value, whatever the table held, if the other tables are those of some values: word 64 * place + who. Known says of each
 // place who knows its attribute.
 pub fn matches<'a>(
-    known: &'a [u64; 14],
-    kinds: &'a [u64; 2],
-    distinct: &'a [u64; 896],
-    having: &'a [u64; 896],
-    out: &mut [u64; 896],
+    known: &'a ByPlace,
+    kinds: &'a BySide,
+    distinct: &'a ByPlaceMember,
+    having: &'a ByPlaceMember,
+    out: &mut ByPlaceMember,
 )
     ensures { λ _. ⌜ ((knowing values holders : List ℕ) → (users resources roles : ℕ) → users ≤ 64 → resources ≤ 64 → now (known .entry) ≡ knownPlaces users resources knowing → now (distinct .entry) ≡ distinctTable values holders (now (kinds .entry)) roles → now (having .entry) ≡ havingTable values holders (now (kinds .entry)) roles → now (out .exit) ≡ matchTable (now (kinds .entry)) knowing values holders users resources roles) ⌝ }
 {

@@ -9,25 +9,26 @@ use mathlib.Core.List.{List, List·Memᴰ·append-cases, Memᴰ·append-left, Me
 use mathlib.Core.Logic.{_⊎_, inl, inr}
 use mathlib.Core.Path.{_≡_, refl, sym, ap, ap₂, _∙_, subst}
 use native.Mathlib.Omega.{arith}
-use Rattle.admit.specs.AdmitLaws.{Sized}
+use Rattle.loaded.specs.Record.{Sized, attributeTable, recordWith, recordOf}
 use Rattle.conjuncts.specs.Summary.{metByAll}
 use Rattle.conjuncts.specs.SummaryLaws.{all-append}
 use Rattle.files.specs.Calls.{first}
 use Rattle.grants.specs.Grid.{differAt, differenceOf, isSame}
 use Rattle.grants.specs.GridLaws.{triples-same, same-means}
-use Rattle.loaded.specs.Record.{attributeTable, recordWith, recordOf}
 use Rattle.loaded.specs.RecordLaws.{table-get}
-use Rattle.matches.specs.MatchLaws.{knownIn, matchesIn, met-means, know-means}
-use Rattle.matches.specs.Matches.{metOf, lessOne}
-use Rattle.pairing.specs.FitLaws.{linksOf, Declared, table-spans, words-declared}
+use Rattle.matches.specs.MatchLaws.{met-means, know-means}
+use Rattle.matches.specs.Matches.{knownIn, matchesIn, metOf, lessOne}
+use Rattle.pairing.specs.FitLaws.{Declared, table-spans, words-declared}
+use Rattle.grants.specs.Links.{linksOf}
 use Rattle.pairing.specs.Pairing.{tableSpans}
 use Rattle.policy.specs.Covering.{standsIn}
 use Rattle.policy.specs.Policy.{Policy, sideOf, settingOf}
 use Rattle.policy.specs.Rules.{own, Side, Which, by, Block, attrsOf, ownAt, holds, Triple, sameBlock, user, resource, atom}
-use Rattle.sets.specs.LoopLaws.{narrowing}
+use Rattle.sets.specs.Sets.{narrowing, bit, maskOf}
 use Rattle.sets.specs.MaskLaws.{bit-maskOf, mask-lt, mask-same}
-use Rattle.sets.specs.Sets.{bit, maskOf, bit-mask}
-use Rattle.sets.specs.Tests.{Is, and-l, and-r, test, same, imp, _∈_, all, only, only-in, only-out, from, upTo, upTo-in, upTo-out, elem, elem-in, elem-out}
+use Rattle.sets.specs.SetLaws.{bit-mask}
+use Rattle.sets.specs.Tests.{Is, imp, _isIn_, all, only, from, upTo, elem}
+use Rattle.sets.specs.TestLaws.{and-l, and-r, test, same, only-in, only-out, upTo-in, upTo-out, elem-in, elem-out}
 use Rattle.words.specs.Flags.{placeSide, placeAttribute, hasAt, holdsAt, placesGrant, thinnedAt, thinnedTo, keptPlaces}
 use Rattle.words.specs.WordLaws.{all-ext, same-tests}
 use Rattle.words.specs.Words.{Words, membersOf, metBy, wordsOf, atomsHold, spans}
@@ -37,19 +38,19 @@ use Rattle.thinning.specs.PlaceLaws.{bit-down}
 -- ---- the attributes of a side
 
 module _ (S : Side) (b : Bool) where
-  attribute-cases : (a : ℕ) → a ∈ attrsOf S b → (a < S .attrs) ⊎ (Is b × (a ≡ own))
+  attribute-cases : (a : ℕ) → a isIn attrsOf S b → (a < S .attrs) ⊎ (Is b × (a ≡ own))
   unfolding attrsOf
   attribute-cases a m = go (List·Memᴰ·append-cases (upTo (S .attrs)) m)
     where
-      go : (a ∈ upTo (S .attrs)) ⊎ (a ∈ only b own) → (a < S .attrs) ⊎ (Is b × (a ≡ own))
+      go : (a isIn upTo (S .attrs)) ⊎ (a isIn only b own) → (a < S .attrs) ⊎ (Is b × (a ≡ own))
       go (inl k) = inl (upTo-out (S .attrs) k)
       go (inr k) = inr (only-out b k)
 
-  declared-in : (a : ℕ) → a < S .attrs → a ∈ attrsOf S b
+  declared-in : (a : ℕ) → a < S .attrs → a isIn attrsOf S b
   unfolding attrsOf
   declared-in a l = Memᴰ·append-left (only b own) (upTo-in l)
 
-  own-in : Is b → own ∈ attrsOf S b
+  own-in : Is b → own isIn attrsOf S b
   unfolding attrsOf
   own-in h = Memᴰ·append-right (upTo (S .attrs)) (only-in own h)
 
@@ -68,11 +69,11 @@ module _ (S : Side) (b : Bool) where
       given (inr k) = absurd (omega (arith, k .1))
 
   -- every attribute of a level is one of level 3
-  attribute-wide : (a : ℕ) → a ∈ attrsOf S b → a ∈ attrsOf S true
+  attribute-wide : (a : ℕ) → a isIn attrsOf S b → a isIn attrsOf S true
   unfolding attrsOf
   attribute-wide a m = go (List·Memᴰ·append-cases (upTo (S .attrs)) m)
     where
-      go : (a ∈ upTo (S .attrs)) ⊎ (a ∈ only b own) → a ∈ attrsOf S true
+      go : (a isIn upTo (S .attrs)) ⊎ (a isIn only b own) → a isIn attrsOf S true
       go (inl k) = Memᴰ·append-left (only true own) k
       go (inr k) = Memᴰ·append-right (upTo (S .attrs)) (rw (only-out b k .1) (only-in own refl))
 
@@ -154,7 +155,7 @@ module _ (F : Policy) (Z : Sized F) where
         let k = sym (ap (λ (m : ℕ). bit m i) present-means ∙ bit-maskOf 50 (hasAt (settingOf F) W l) i) ∙ h in
         (ltb-true i 50 (and-l (ltb i 50) _ k), and-r (ltb i 50) _ k)
 
-    attribute-there : (i : ℕ) → i < 14 → Is (bit (placesIn F W l) i) → placeAttribute i ∈ attrsOf (settingOf F .side (placeSide i)) true
+    attribute-there : (i : ℕ) → i < 14 → Is (bit (placesIn F W l) i) → placeAttribute i isIn attrsOf (settingOf F .side (placeSide i)) true
     unfolding hasAt
     attribute-there i l14 h =
         attribute-wide (settingOf F .side (placeSide i)) (ownAt (placeSide i) l) (placeAttribute i) (elem-out (placeAttribute i) _ (and-l (elem (placeAttribute i) (attrsOf (settingOf F .side (placeSide i)) (ownAt (placeSide i) l))) _ (rw (lt-ltb i 14 l14) at (has-there i h .1))))

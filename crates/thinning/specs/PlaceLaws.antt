@@ -15,8 +15,10 @@ use Rattle.loaded.specs.Record.{tableOf}
 use Rattle.matches.specs.Matches.{metOf, lessOne}
 use Rattle.sets.specs.LoopLaws.{table-unique}
 use Rattle.sets.specs.MaskLaws.{or-false, bit-out, bit-maskOf, mask-lt, mask-same, mask-wide}
-use Rattle.sets.specs.Sets.{bit, subset, bit-zero, bit-suc, bit-none, maskOf, bit-mask}
-use Rattle.sets.specs.Tests.{test, same, all}
+use Rattle.sets.specs.Sets.{bit, subset, maskOf}
+use Rattle.sets.specs.SetLaws.{bit-zero, bit-suc, bit-none, bit-mask}
+use Rattle.sets.specs.Tests.{all}
+use Rattle.sets.specs.TestLaws.{test, same}
 use Rattle.words.specs.Flags.{placeSide}
 use Rattle.words.specs.Words.{Words, membersOf}
 use Rattle.thinning.specs.Kept.{metAt, metPlaces, allowedAt, conjunctAt, presentPlaces, grantsSame, thinBy, thinTo, keptIn}

@@ -21,11 +21,13 @@ use Rattle.pairing.specs.FitLaws.{row-bit}
 use Rattle.pairing.specs.Pairing.{tableSpans, less}
 use Rattle.policy.specs.RuleLaws.{same-in, same-out}
 use Rattle.policy.specs.Rules.{Side, Setting, by, sameBlock}
-use Rattle.sets.specs.LoopLaws.{narrowing, table-unique}
+use Rattle.sets.specs.LoopLaws.{table-unique}
+use Rattle.sets.specs.Sets.{narrowing, bit, subset, maskOf}
 use Rattle.sets.specs.Lowest.{lowestFrom}
 use Rattle.sets.specs.MaskLaws.{bit-maskOf, mask-lt, mask-none}
-use Rattle.sets.specs.Sets.{bit, subset, subset-out, bit-none, maskOf, bit-mask}
-use Rattle.sets.specs.Tests.{Is, and-in, and-l, and-r, never, test, fails, same, imp, imp-in, imp-out, all, all-out, all-in, upTo, upTo-in, upTo-out, not-in, not-out}
+use Rattle.sets.specs.SetLaws.{subset-out, bit-none, bit-mask}
+use Rattle.sets.specs.Tests.{Is, imp, all, upTo}
+use Rattle.sets.specs.TestLaws.{and-in, and-l, and-r, never, test, fails, same, imp-in, imp-out, all-out, all-in, upTo-in, upTo-out, not-in, not-out}
 use Rattle.words.specs.WordLaws.{all-ext}
 use Rattle.words.specs.Words.{Words}
 use Rattle.thinning.specs.Kept.{ruleOver, firstOther, grantsSame}

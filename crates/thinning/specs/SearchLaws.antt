@@ -13,12 +13,13 @@ use Rattle.pairing.specs.Pairing.{tableSpans}
 use Rattle.policy.specs.Rules.{Block}
 use Rattle.rulegrants.specs.RuleGrid.{rowOf}
 use Rattle.sets.specs.Sets.{bit}
-use Rattle.sets.specs.Tests.{iff, iff-in, _∈_, each, each-out, map-out, upTo}
+use Rattle.sets.specs.Tests.{iff, _isIn_, each, upTo}
+use Rattle.sets.specs.TestLaws.{iff-in, each-out, map-out}
 use Rattle.words.specs.Words.{Words}
 use Rattle.thinning.specs.Kept.{ruleOver, firstOther}
 
 -- where no member passes there is no first
-first-never : {T : Type 0} (f : T → Bool) (l : List T) → ((x : T) → x ∈ l → f x ≡ false) → first f l ≡ none
+first-never : {T : Type 0} (f : T → Bool) (l : List T) → ((x : T) → x isIn l → f x ≡ false) → first f l ≡ none
 first-never f [] h = refl
 first-never f (x ∷ xs) h = rw (h x (List·Memᴰ·head refl)) (first-never f xs (λ y m. h y (List·Memᴰ·tail m)))
 
@@ -47,7 +48,7 @@ module _ (links : List ℕ) (W : Words) (atoms who what : ℕ) where
   user-agrees rs os n p q h e =
       user-passed ruled (tableSpans links W) rs os n rs h (first-never (differAt ruled (tableSpans links W)) (each (λ r. map (λ o. (n, r, o)) (upTo os)) (upTo rs)) alike) refl
     where
-      alike : (t : ℕ × ℕ × ℕ) → t ∈ each (λ r. map (λ o. (n, r, o)) (upTo os)) (upTo rs) → differAt ruled (tableSpans links W) t ≡ false
+      alike : (t : ℕ × ℕ × ℕ) → t isIn each (λ r. map (λ o. (n, r, o)) (upTo os)) (upTo rs) → differAt ruled (tableSpans links W) t ≡ false
       alike t m =
           let k = each-out (λ r. map (λ o. (n, r, o)) (upTo os)) (upTo rs) m in
           let i = map-out (λ o. (n, k .0, o)) (upTo os) (k .2) in

@@ -10,10 +10,13 @@ use native.Mathlib.Nat.{add-zero, add-suc}
 use native.Mathlib.Omega.{arith}
 use Rattle.matches.specs.Matches.{lessOne}
 use Rattle.matches.specs.MemberLaws.{bit-less}
-use Rattle.sets.specs.Lowest.{lowestFrom, lowestFrom-misses}
+use Rattle.sets.specs.Lowest.{lowestFrom}
+use Rattle.sets.specs.LowestLaws.{lowestFrom-misses}
 use Rattle.sets.specs.MaskLaws.{and-true, bit-out, mask-lt}
-use Rattle.sets.specs.Sets.{bit, bit-none}
-use Rattle.sets.specs.Tests.{Is, and-l, and-r, never, test, fails, not-out}
+use Rattle.sets.specs.Sets.{bit}
+use Rattle.sets.specs.SetLaws.{bit-none}
+use Rattle.sets.specs.Tests.{Is}
+use Rattle.sets.specs.TestLaws.{and-l, and-r, never, test, fails, not-out}
 use Rattle.words.specs.Words.{Words}
 use Rattle.thinning.specs.Kept.{presentPlaces, thinBy, thinTo}
 use Rattle.thinning.specs.KeptLaws.{thin-within}

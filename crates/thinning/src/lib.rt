@@ -16,6 +16,12 @@ ghost use Rattle.words.specs.Flags.{placeSide};
 ghost use Rattle.words.specs.Words.{membersOf};
 use grants::Difference;
 use pairing::Group;
+use loaded::ByMember;
+use loaded::ByPlace;
+use loaded::ByPlaceMember;
+use loaded::CountBySide;
+use loaded::Links;
+use loaded::RoleFile;
 
 // Whether the rows c of the rule and a of the group differ at a resource and an operation.
 fn differ_at(operations: u64, c: u64, a: u64, resource: usize, operation: usize) -> bool
@@ -28,7 +34,7 @@ fn differ_at(operations: u64, c: u64, a: u64, resource: usize, operation: usize)
 // The first triple, by user, then resource, then operation, at which a group and a rule with its operations differ. The rule's atoms, and
 // who and what meet its conjuncts, are handed in.
 pub fn first_other(
-    links: &[u64; 2304],
+    links: &Links,
     g: Group,
     atoms: u64,
     who: u64,
@@ -71,7 +77,7 @@ fn members_at(g: Group, place: usize) -> u64
 }
 
 // Who meets the conjunct of a place, if the place is one of these; else nobody.
-fn met_at(matches: &[u64; 896], g: Group, places: u64, place: usize) -> u64
+fn met_at(matches: &ByPlaceMember, g: Group, places: u64, place: usize) -> u64
     requires { ⌜ place < 14 ⌝ }
     ensures { λ r. ⌜ r ≡ metAt (now (matches .entry)) (wordsIn g) places place ⌝ }
 {
@@ -82,17 +88,17 @@ fn met_at(matches: &[u64; 896], g: Group, places: u64, place: usize) -> u64
 }
 
 // Into a slice, since only a slice tells its length to a proof.
-fn fill_met<'a>(matches: &'a [u64; 896], g: Group, places: u64, out: &mut [u64])
+fn fill_met<'a>(matches: &'a ByPlaceMember, g: Group, places: u64, out: &mut [u64])
     requires { ⌜ length (now out) ≡ 14 ⌝ }
     ensures { λ _. ⌜ now (out .exit) ≡ metPlaces (now (matches .entry)) (wordsIn g) places ⌝ }
 {
-    for i in 0..14 {
+    for i in 0..RoleFile::PLACES {
         out[i] = met_at(matches, g, places, i);
     }
 }
 
 // Who meets the conjunct of each of these places, whatever the table held.
-fn met_places<'a>(matches: &'a [u64; 896], g: Group, places: u64, out: &mut [u64; 14])
+fn met_places<'a>(matches: &'a ByPlaceMember, g: Group, places: u64, out: &mut ByPlace)
     ensures { λ _. ⌜ now (out .exit) ≡ metPlaces (now (matches .entry)) (wordsIn g) places ⌝ }
 {
     fill_met(matches, g, places, out);
@@ -109,21 +115,21 @@ fn own_at(level: usize, place: usize) -> bool
 }
 
 // Whether a rule of a level may have a conjunct at a place.
-fn allowed_at(attributes: &[usize; 2], level: usize, place: usize) -> bool
+fn allowed_at(attributes: &CountBySide, level: usize, place: usize) -> bool
     requires { ⌜ place < 14 ⌝ }
     ensures { λ r. ⌜ r ≡ allowedAt (now (attributes .entry)) level place ⌝ }
 {
-    let attribute = place % 7;
-    if attribute == 6 {
+    let attribute = place % RoleFile::CONJUNCTS;
+    if attribute == RoleFile::ATTRIBUTES {
         return own_at(level, place);
     }
-    attribute < attributes[place / 7]
+    attribute < attributes[place / RoleFile::CONJUNCTS]
 }
 
 // Whether the covering rule of a group at a level has a conjunct at a place: the level allows it, and all members know the attribute.
 fn conjunct_at<'a>(
-    known: &'a [u64; 14],
-    attributes: &'a [usize; 2],
+    known: &'a ByPlace,
+    attributes: &'a CountBySide,
     g: Group,
     level: usize,
     place: usize,
@@ -138,16 +144,16 @@ fn conjunct_at<'a>(
 }
 
 // The places where the covering rule of a group at a level has a condition.
-fn present<'a>(known: &'a [u64; 14], attributes: &'a [usize; 2], g: Group, level: usize) -> u64
+fn present<'a>(known: &'a ByPlace, attributes: &'a CountBySide, g: Group, level: usize) -> u64
     ensures { λ r. ⌜ r ≡ presentPlaces (now (known .entry)) (now (attributes .entry)) (wordsIn g) level ⌝ }
 {
     let mut m: u64 = 0;
-    for i in 0..14 {
+    for i in 0..RoleFile::PLACES {
         if conjunct_at(known, attributes, g, level, i) {
             m = sets::with(m, i);
         }
     }
-    sets::union(m, sets::meet(g.atoms, sets::below(36)) << 14)
+    sets::union(m, sets::meet(g.atoms, sets::below(RoleFile::ATOMS)) << 14)
 }
 
 // All resources for every user.
@@ -156,28 +162,28 @@ fn widen_rows(out: &mut [u64])
     ensures { λ _. ⌜ now (out .exit) ≡ tableOf 64 (λ u. everything) ⌝ }
 {
     let all = sets::below(64);
-    for u in 0..64 {
+    for u in 0..RoleFile::MEMBERS {
         out[u] = all;
     }
 }
 
 // Of each user's resources those that an atom joins with the user.
-fn narrow_rows(links: &[u64; 2304], atom: usize, out: &mut [u64])
+fn narrow_rows(links: &Links, atom: usize, out: &mut [u64])
     requires { ⌜ (atom < 36) × (length (now out) ≡ 64) ⌝ }
     ensures { λ _. ⌜ now (out .exit) ≡ narrowedRows (now (links .entry)) atom (now (out .entry)) ⌝ }
 {
-    for u in 0..64 {
-        out[u] = sets::meet(out[u], links[64 * atom + u]);
+    for u in 0..RoleFile::MEMBERS {
+        out[u] = sets::meet(out[u], links[RoleFile::MEMBERS * atom + u]);
     }
 }
 
 // Into a slice, as above.
-fn fill_rows(links: &[u64; 2304], atoms: u64, out: &mut [u64])
+fn fill_rows(links: &Links, atoms: u64, out: &mut [u64])
     requires { ⌜ length (now out) ≡ 64 ⌝ }
     ensures { λ _. ⌜ now (out .exit) ≡ joinedRows (now (links .entry)) atoms ⌝ }
 {
     widen_rows(out);
-    let mut rest = sets::meet(atoms, sets::below(36));
+    let mut rest = sets::meet(atoms, sets::below(RoleFile::ATOMS));
     while 0 < rest {
         narrow_rows(links, sets::least(rest), out);
         rest = matches::without_least(rest);
@@ -185,14 +191,14 @@ fn fill_rows(links: &[u64; 2304], atoms: u64, out: &mut [u64])
 }
 
 // The resources that all atoms of a group join with each user, whatever the table held.
-fn joined_rows(links: &[u64; 2304], atoms: u64, out: &mut [u64; 64])
+fn joined_rows(links: &Links, atoms: u64, out: &mut ByMember)
     ensures { λ _. ⌜ now (out .exit) ≡ joinedRows (now (links .entry)) atoms ⌝ }
 {
     fill_rows(links, atoms, out);
 }
 
 // Whether no user of a set has one of these resources in its row.
-fn corner_free(rows: &[u64; 64], users: u64, resources: u64) -> bool
+fn corner_free(rows: &ByMember, users: u64, resources: u64) -> bool
     ensures { λ s. ⌜ s ≡ freeCorner (now (rows .entry)) users resources ⌝ }
 {
     if resources == 0 {
@@ -210,7 +216,7 @@ fn corner_free(rows: &[u64; 64], users: u64, resources: u64) -> bool
 }
 
 // Whether the group's users have none of the resources that the rule adds, and the users that it adds none at all.
-fn corners_free(rows: &[u64; 64], g: Group, who: u64, what: u64) -> bool
+fn corners_free(rows: &ByMember, g: Group, who: u64, what: u64) -> bool
     ensures { λ s. ⌜ s ≡ freeCorners (now (rows .entry)) (wordsIn g) who what ⌝ }
 {
     if corner_free(rows, g.users, sets::without(what, g.resources)) {
@@ -220,7 +226,7 @@ fn corners_free(rows: &[u64; 64], g: Group, who: u64, what: u64) -> bool
 }
 
 // The group's resources for a user, from the rows.
-fn row_in(rows: &[u64; 64], g: Group, user: usize) -> u64
+fn row_in(rows: &ByMember, g: Group, user: usize) -> u64
     requires { ⌜ user < 64 ⌝ }
     ensures { λ r. ⌜ r ≡ rowIn (now (rows .entry)) (wordsIn g) user ⌝ }
 {
@@ -231,7 +237,7 @@ fn row_in(rows: &[u64; 64], g: Group, user: usize) -> u64
 }
 
 // Whether the atoms join a user of the group with all its resources.
-fn is_full(rows: &[u64; 64], g: Group, user: usize) -> bool
+fn is_full(rows: &ByMember, g: Group, user: usize) -> bool
     requires { ⌜ user < 64 ⌝ }
     ensures { λ s. ⌜ s ≡ isFull (now (rows .entry)) (wordsIn g) user ⌝ }
 {
@@ -239,11 +245,11 @@ fn is_full(rows: &[u64; 64], g: Group, user: usize) -> bool
 }
 
 // Those users.
-fn full_users(rows: &[u64; 64], g: Group) -> u64
+fn full_users(rows: &ByMember, g: Group) -> u64
     ensures { λ r. ⌜ r ≡ maskOf 64 (isFull (now (rows .entry)) (wordsIn g)) ⌝ }
 {
     let mut m: u64 = 0;
-    for u in 0..64 {
+    for u in 0..RoleFile::MEMBERS {
         if is_full(rows, g, u) {
             m = sets::with(m, u);
         }
@@ -263,8 +269,8 @@ fn open_users(g: Group, full: u64, who: u64, what: u64) -> u64
 
 // Whether these atoms join those who meet the rule's conjuncts with none but the group's resources.
 fn adds_none<'a>(
-    links: &'a [u64; 2304],
-    rows: &'a [u64; 64],
+    links: &'a Links,
+    rows: &'a ByMember,
     g: Group,
     full: u64,
     atoms: u64,
@@ -299,7 +305,7 @@ fn asks_no_more(g: Group, atoms: u64, who: u64, what: u64, operations: usize) ->
 
 // Whether a rule with a group's operations grants the group's triples and no other, found triple by triple.
 fn no_other(
-    links: &[u64; 2304],
+    links: &Links,
     g: Group,
     atoms: u64,
     who: u64,
@@ -323,9 +329,9 @@ fn no_other(
 // besides is found in sets of resources: while it has all atoms of the group, in the rows alone. The users whose rows have all resources of
 // the group are handed in too.
 fn grants_same<'a>(
-    links: &'a [u64; 2304],
-    met: &'a [u64; 14],
-    rows: &'a [u64; 64],
+    links: &'a Links,
+    met: &'a ByPlace,
+    rows: &'a ByMember,
     g: Group,
     full: u64,
     places: u64,
@@ -340,7 +346,7 @@ fn grants_same<'a>(
     let what = conjuncts::met_by_all(met, places, 1, resources);
     let atoms = places >> 14;
     if asks_no_more(g, atoms, who, what, operations) {
-        if sets::meet(g.atoms, sets::below(36)) == atoms {
+        if sets::meet(g.atoms, sets::below(RoleFile::ATOMS)) == atoms {
             return corners_free(rows, g, who, what);
         }
         return adds_none(links, rows, g, full, atoms, who, what);
@@ -350,9 +356,9 @@ fn grants_same<'a>(
 
 // These places without one, if it is there and the grants stay the same without it; else all of them.
 fn thinned<'a>(
-    links: &'a [u64; 2304],
-    met: &'a [u64; 14],
-    rows: &'a [u64; 64],
+    links: &'a Links,
+    met: &'a ByPlace,
+    rows: &'a ByMember,
     g: Group,
     full: u64,
     places: u64,
@@ -385,10 +391,10 @@ fn thinned<'a>(
 
 // The places of the conditions that stay.
 pub fn kept_places<'a>(
-    links: &'a [u64; 2304],
-    matches: &'a [u64; 896],
-    known: &'a [u64; 14],
-    attributes: &'a [usize; 2],
+    links: &'a Links,
+    matches: &'a ByPlaceMember,
+    known: &'a ByPlace,
+    attributes: &'a CountBySide,
     g: Group,
     level: usize,
     users: usize,
@@ -399,9 +405,9 @@ pub fn kept_places<'a>(
     ensures { λ r. ⌜ r ≡ keptIn (now (links .entry)) (now (matches .entry)) (now (known .entry)) (now (attributes .entry)) users resources operations (wordsIn g) level ⌝ }
 {
     let mut kept = present(known, attributes, g, level);
-    let mut met = [0u64; 14];
+    let mut met = [0u64; RoleFile::PLACES];
     met_places(matches, g, kept, &mut met);
-    let mut rows = [0u64; 64];
+    let mut rows = [0u64; RoleFile::MEMBERS];
     joined_rows(links, g.atoms, &mut rows);
     let full = full_users(&rows, g);
     // No place comes in, so those without a condition need no turn.

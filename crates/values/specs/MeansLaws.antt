@@ -9,20 +9,22 @@ use mathlib.Core.List.{List, [], _∷_}
 use mathlib.Core.Option.{some}
 use mathlib.Core.Path.{_≡_, refl, sym, ap, ap₂, _∙_, fun-ext}
 use native.Mathlib.Omega.{arith}
-use Rattle.admit.specs.AdmitLaws.{Sized, side-kinds}
-use Rattle.loaded.specs.Record.{numberOr, recordWith, recordOf}
+use Rattle.admit.specs.AdmitLaws.{side-kinds}
+use Rattle.loaded.specs.Record.{Sized, numberOr, recordWith, recordOf}
 use Rattle.loaded.specs.RecordLaws.{table-get}
 use Rattle.matches.specs.MatchLaws.{value-means}
 use Rattle.matches.specs.Matches.{valueFor}
 use Rattle.policy.specs.Covering.{allKnow, valuesOf}
-use Rattle.policy.specs.Policy.{Policy, kindOf, order, isSetAt, sideOf, settingOf}
+use Rattle.policy.specs.Policy.{Policy, kindOf, meetsValue, isSetAt, sideOf, settingOf}
 use Rattle.policy.specs.Rules.{own, Which, by, user, resource, conjunct}
 use Rattle.policy.specs.SideLaws.{values-in, values-out, values-rising}
 use Rattle.policy.specs.Thinning.{strictly, trim, trimCond}
 use Rattle.sets.specs.MaskLaws.{bit-out}
-use Rattle.sets.specs.Sets.{bit, subset, bit-mask}
-use Rattle.sets.specs.Sorted.{rising-ext, numbers}
-use Rattle.sets.specs.Tests.{Is, and-l, and-r, never, test, fails, _∈_, any, all-out, any-out, keep, keep-in, upTo-in, isSome, isSome-out, not-in, not-out}
+use Rattle.sets.specs.Sets.{bit, subset}
+use Rattle.sets.specs.SetLaws.{bit-mask}
+use Rattle.sets.specs.SortedLaws.{rising-ext, numbers}
+use Rattle.sets.specs.Tests.{Is, _isIn_, any, keep, isSome}
+use Rattle.sets.specs.TestLaws.{and-l, and-r, never, test, fails, all-out, any-out, keep-in, upTo-in, isSome-out, not-in, not-out}
 use Rattle.values.specs.ValueLaws.{among-in, among-out, among-rising}
 use Rattle.values.specs.Values.{valuesAt, listsLeast, valuesAmong, listedOf}
 use Rattle.words.specs.FlagLaws.{cond-conjunct}
@@ -60,12 +62,12 @@ module _ (F : Policy) (Z : Sized F) where
   -- user sets are thinned by containment
   pub below-sets : (a : ℕ) → Is (settingOf F .side user .isSet a) → (x y : ℕ) → settingOf F .side user .below a x y ≡ subset x y
   unfolding settingOf sideOf
-  below-sets a h x y = ap (λ (b : Bool). order b x y) h
+  below-sets a h x y = ap (λ (b : Bool). meetsValue user b x y) h
 
   -- single user values are compared by equality
   pub below-singles : (a : ℕ) → settingOf F .side user .isSet a ≡ false → (x y : ℕ) → settingOf F .side user .below a x y ≡ eqb x y
   unfolding settingOf sideOf
-  below-singles a h x y = ap (λ (b : Bool). order b x y) h
+  below-singles a h x y = ap (λ (b : Bool). meetsValue user b x y) h
 
   -- THE LAW of where only the least sets are listed: in conjuncts of user sets
   pub least-means : (i : ℕ) → i < 14 → listsLeast (recordOf F .kinds) i ≡ by (placeSide i) (settingOf F .side (placeSide i) .isSet (placeAttribute i)) false
@@ -108,13 +110,13 @@ module _ (F : Policy) (Z : Sized F) where
       among-means =
           rising-ext (numbers .apart) (among-rising (valuesIn F i) members) (values-rising (settingOf F .side (placeSide i)) (bit members) (placeAttribute i)) there back
         where
-          there : (v : ℕ) → v ∈ valuesAmong (valuesIn F i) members → v ∈ valuesOf (settingOf F .side (placeSide i)) (bit members) (placeAttribute i)
+          there : (v : ℕ) → v isIn valuesAmong (valuesIn F i) members → v isIn valuesOf (settingOf F .side (placeSide i)) (bit members) (placeAttribute i)
           there v m =
               let t = among-out (valuesIn F i) members m in
               let l = member-there (settingOf F .side (placeSide i) .count) members (t .0) hm (t .2) in
               values-in (settingOf F .side (placeSide i)) (bit members) (placeAttribute i) l (t .2) (known-value (t .0) l (t .2) ∙ ap some (sym (t .3)))
 
-          back : (v : ℕ) → v ∈ valuesOf (settingOf F .side (placeSide i)) (bit members) (placeAttribute i) → v ∈ valuesAmong (valuesIn F i) members
+          back : (v : ℕ) → v isIn valuesOf (settingOf F .side (placeSide i)) (bit members) (placeAttribute i) → v isIn valuesAmong (valuesIn F i) members
           back v m =
               let t = values-out (settingOf F .side (placeSide i)) (bit members) (placeAttribute i) m in
               let n = side-room (placeSide i) in

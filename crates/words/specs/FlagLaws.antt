@@ -18,8 +18,10 @@ use Rattle.policy.specs.Thinning.{strike, trimCond, grantsJust, thinned, writte
 use Rattle.policy.specs.WrittenLaws.{written-ops}
 use Rattle.sets.specs.LoopLaws.{upTo-more}
 use Rattle.sets.specs.MaskLaws.{and-true}
-use Rattle.sets.specs.Sets.{bit, maskOf, bit-mask, size}
-use Rattle.sets.specs.Tests.{Is, test, fails, same, imp, _∈_, each, only, only-in, only-out, from, upTo, from-out, upTo-in, upTo-out, elem, elem-in, elem-out, sum}
+use Rattle.sets.specs.Sets.{bit, maskOf, size}
+use Rattle.sets.specs.SetLaws.{bit-mask}
+use Rattle.sets.specs.Tests.{Is, imp, _isIn_, each, only, from, upTo, elem, sum}
+use Rattle.sets.specs.TestLaws.{test, fails, same, only-in, only-out, from-out, upTo-in, upTo-out, elem-in, elem-out}
 use Rattle.words.specs.Flags.{placeSide, placeAttribute, condAt, hasAt, holdsAt, placesGrant, thinnedAt, thinnedTo, keptPlaces, placesCost}
 use Rattle.words.specs.WordLaws.{all-ext, all-chosen, known-same, values-same, meets-met, member-bit, atom-bit, same-tests, spans-own}
 use Rattle.words.specs.Words.{Words, membersOf, Roomy, metBy, atomIn, wordsOf, spans}
@@ -27,7 +29,7 @@ use Rattle.words.specs.Words.{Words, membersOf, Roomy, metBy, atomIn, wo
 -- ---- a list for each number
 
 module _ {C : Type 0} where
-  each-ext : {A : Type 0} (f g : A → List C) (l : List A) → ((a : A) → a ∈ l → f a ≡ g a) → each f l ≡ each g l
+  each-ext : {A : Type 0} (f g : A → List C) (l : List A) → ((a : A) → a isIn l → f a ≡ g a) → each f l ≡ each g l
   each-ext f g [] h = refl
   each-ext f g (x ∷ xs) h = ap₂ _++_ (h x (List·Memᴰ·head refl)) (each-ext f g xs (λ a m. h a (List·Memᴰ·tail m)))
 
@@ -39,7 +41,7 @@ module _ {C : Type 0} where
   each-each f g [] = refl
   each-each f g (x ∷ xs) = each-append f (g x) (each g xs) ∙ ap (λ (l : List C). each f (g x) ++ l) (each-each f g xs)
 
-  each-none : {A : Type 0} (f : A → List C) (l : List A) → ((a : A) → a ∈ l → f a ≡ []) → each f l ≡ []
+  each-none : {A : Type 0} (f : A → List C) (l : List A) → ((a : A) → a isIn l → f a ≡ []) → each f l ≡ []
   each-none f [] h = refl
   each-none f (x ∷ xs) h = ap₂ _++_ (h x (List·Memᴰ·head refl)) (each-none f xs (λ a m. h a (List·Memᴰ·tail m)))
 
@@ -80,11 +82,11 @@ module _ {A : Type 0} where
   sum-append f [] t = sym (zero-add (sum f t))
   sum-append f (x ∷ s) t = let e = sum-append f s t in omega arith
 
-  sum-ext : (f g : A → ℕ) (l : List A) → ((a : A) → a ∈ l → f a ≡ g a) → sum f l ≡ sum g l
+  sum-ext : (f g : A → ℕ) (l : List A) → ((a : A) → a isIn l → f a ≡ g a) → sum f l ≡ sum g l
   sum-ext f g [] h = refl
   sum-ext f g (x ∷ xs) h = ap₂ _+_ (h x (List·Memᴰ·head refl)) (sum-ext f g xs (λ a m. h a (List·Memᴰ·tail m)))
 
-  sum-none : (f : A → ℕ) (l : List A) → ((a : A) → a ∈ l → f a ≡ 0) → sum f l ≡ 0
+  sum-none : (f : A → ℕ) (l : List A) → ((a : A) → a isIn l → f a ≡ 0) → sum f l ≡ 0
   sum-none f [] h = refl
   sum-none f (x ∷ xs) h = ap₂ _+_ (h x (List·Memᴰ·head refl)) (sum-none f xs (λ a m. h a (List·Memᴰ·tail m)))
 
@@ -103,7 +105,7 @@ module _ (S : Side) (b : Bool) where
   unfolding attrsOf
   attrs-out a h = go (List·Memᴰ·append-cases (upTo (S .attrs)) (elem-out a _ h))
     where
-      go : (a ∈ upTo (S .attrs)) ⊎ (a ∈ only b own) → (a < S .attrs) ⊎ (Is b × (a ≡ own))
+      go : (a isIn upTo (S .attrs)) ⊎ (a isIn only b own) → (a < S .attrs) ⊎ (Is b × (a ≡ own))
       go (inl m) = inl (upTo-out (S .attrs) m)
       go (inr m) = inr (only-out b m)
 
@@ -143,7 +145,7 @@ module _ {C : Type 0} (c : ℕ → C) where
   abbrev listed : ℕ → List ℕ → List C
   listed m l = each (λ i. only (bit m i) (c i)) l
 
-  listed-same : (m n : ℕ) (l : List ℕ) → ((i : ℕ) → i ∈ l → bit m i ≡ bit n i) → listed m l ≡ listed n l
+  listed-same : (m n : ℕ) (l : List ℕ) → ((i : ℕ) → i isIn l → bit m i ≡ bit n i) → listed m l ≡ listed n l
   listed-same m n l h = each-ext _ _ l (λ i k. ap (λ (b : Bool). only b (c i)) (h i k))
 
   listed-more : (m k : ℕ) → listed m (upTo (suc k)) ≡ listed m (upTo k) ++ only (bit m k) (c k)
@@ -246,14 +248,14 @@ module _ (P : Setting) where
     unfolding trimCond
     conjunct-costs z = costs-split ∙ ap (λ (n : ℕ). sum costAt (upTo 14) + n) (sum-none costAt (from 14 36) none) ∙ add-zero (sum costAt (upTo 14))
       where
-        none : (i : ℕ) → i ∈ from 14 36 → costAt i ≡ 0
+        none : (i : ℕ) → i isIn from 14 36 → costAt i ≡ 0
         none i k = ap (λ (c : Cond). cond (bit m i) (f (trimCond P c)) 0) (cond-atom W i (from-out 14 36 k .0)) ∙ ap (λ (n : ℕ). cond (bit m i) n 0) (z ((i - 14) / 6) ((i - 14) % 6)) ∙ cond-same (bit m i) 0
 
     atom-costs : ((w : Which) (a : ℕ) (vs : List ℕ) → f (conjunct w a vs) ≡ 0) → sum f (listed (λ i. trimCond P (condAt P W i)) m (upTo 50)) ≡ sum costAt (from 14 36)
     unfolding trimCond
     atom-costs z = costs-split ∙ ap (λ (n : ℕ). n + sum costAt (from 14 36)) (sum-none costAt (upTo 14) none) ∙ zero-add (sum costAt (from 14 36))
       where
-        none : (i : ℕ) → i ∈ upTo 14 → costAt i ≡ 0
+        none : (i : ℕ) → i isIn upTo 14 → costAt i ≡ 0
         none i k = ap (λ (c : Cond). cond (bit m i) (f (trimCond P c)) 0) (cond-conjunct W i (upTo-out 14 k)) ∙ ap (λ (n : ℕ). cond (bit m i) n 0) (z (placeSide i) (placeAttribute i) _) ∙ cond-same (bit m i) 0
 
   -- what a rule with the conditions at some places, each trimmed, costs
@@ -310,7 +312,7 @@ module _ (P : Setting) where
         there : ℕ → ℕ → List Cond
         there a b = only (bit (wordsOf P B .atoms) (6 * a + b)) (atom a b)
 
-        first : (a : ℕ) → a ∈ upTo (P .side user .attrs) → a < 6
+        first : (a : ℕ) → a isIn upTo (P .side user .attrs) → a < 6
         first a m = let k = upTo-out (P .side user .attrs) m in let l = Z .attributes user in omega arith
 
         past-first : (a b : ℕ) → P .side user .attrs ≤ a → (ltb a (P .side user .attrs) && ltb b (P .side resource .attrs)) ≡ false

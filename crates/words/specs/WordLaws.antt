@@ -19,20 +19,22 @@ use Rattle.policy.specs.Rules.{Side, Which, by, Setting, Cond, Block, both, mee
 use Rattle.policy.specs.SideLaws.{Ordered, admits-out, admits-in, values-in, values-out}
 use Rattle.sets.specs.Lowest.{lowest}
 use Rattle.sets.specs.MaskLaws.{and-true, bit-maskOf, mask-same, mask-wide}
-use Rattle.sets.specs.Sets.{bit, maskOf, bit-mask}
+use Rattle.sets.specs.Sets.{bit, maskOf}
+use Rattle.sets.specs.SetLaws.{bit-mask}
 use Rattle.sets.specs.Sorted.{sort}
-use Rattle.sets.specs.Tests.{Is, and-in, and-l, and-r, or-l, or-r, or-out, test, same, imp, imp-in, imp-out, _∈_, all, any, all-out, all-in, any-in, any-out, keep, keep-in, each, only, upTo, upTo-in, upTo-out, any-ext, isSome, isSome-out}
+use Rattle.sets.specs.Tests.{Is, imp, _isIn_, all, any, keep, each, only, upTo, isSome}
+use Rattle.sets.specs.TestLaws.{and-in, and-l, and-r, or-l, or-r, or-out, test, same, imp-in, imp-out, all-out, all-in, any-in, any-out, keep-in, upTo-in, upTo-out, any-ext, isSome-out}
 use Rattle.words.specs.Words.{Words, membersOf, Roomy, metBy, passes, joined, together, atomIn, wordsOf, atomsHold, coverGrants, spans, pairFits, ownFits, partAtom}
 
 -- ---- tests over lists
 
 module _ {A : Type 0} where
   -- tests that agree at each member
-  pub all-ext : (f g : A → Bool) (l : List A) → ((a : A) → a ∈ l → f a ≡ g a) → all f l ≡ all g l
+  pub all-ext : (f g : A → Bool) (l : List A) → ((a : A) → a isIn l → f a ≡ g a) → all f l ≡ all g l
   all-ext f g [] h = refl
   all-ext f g (x ∷ xs) h = ap₂ _&&_ (h x (List·Memᴰ·head refl)) (all-ext f g xs (λ a m. h a (List·Memᴰ·tail m)))
 
-  keep-ext : (f g : A → Bool) (l : List A) → ((a : A) → a ∈ l → f a ≡ g a) → keep f l ≡ keep g l
+  keep-ext : (f g : A → Bool) (l : List A) → ((a : A) → a isIn l → f a ≡ g a) → keep f l ≡ keep g l
   keep-ext f g [] h = refl
   keep-ext f g (x ∷ xs) h = ap₂ (λ (b : Bool) (k : List A). cond b (x ∷ k) k) (h x (List·Memᴰ·head refl)) (keep-ext f g xs (λ a m. h a (List·Memᴰ·tail m)))
 
@@ -344,16 +346,16 @@ module _ (P : Setting) where
 
   -- ---- the words of a part
 
-  module _ (R : Roles) (p : Part) (m : p ∈ parts P R) where
+  module _ (R : Roles) (p : Part) (m : p isIn parts P R) where
     -- the lowest operation of a part's class is one of the class
     lead-alike : Is (alike P R (p .role) (p .lead) (p .lead))
     lead-alike = alike-in P R (p .role) (p .lead) (p .lead) (λ r l. refl)
 
-    part-user : (u : ℕ) × (u ∈ upTo (P .side user .count)) × Is (R .held (p .role) u)
+    part-user : (u : ℕ) × (u isIn upTo (P .side user .count)) × Is (R .held (p .role) u)
     unfolding isPart
     part-user = any-out (λ u. R .held (p .role) u) (upTo (P .side user .count)) (and-l (any (λ u. R .held (p .role) u) (upTo (P .side user .count))) _ (parts-out P R m .2))
 
-    part-resource : (r : ℕ) × (r ∈ upTo (P .side resource .count)) × Is (R .gives (p .role) r (p .lead))
+    part-resource : (r : ℕ) × (r isIn upTo (P .side resource .count)) × Is (R .gives (p .role) r (p .lead))
     unfolding isPart leads
     part-resource =
         any-out (λ r. R .gives (p .role) r (p .lead)) (upTo (P .side resource .count))
@@ -397,7 +399,7 @@ module _ (P : Setting) where
         (all-ext _ _ (upTo (P .side user .count)) λ u _. all-ext _ _ (upTo (P .side resource .count)) λ r _. ap (λ (x : Bool). imp x (holds P (atom a b) u r)) (part-pair u r))
 
   -- the words of a part: its holders, its resources, its class, and the atoms true of all of them
-  pub part-words : (R : Roles) (p : Part) → p ∈ parts P R
+  pub part-words : (R : Roles) (p : Part) → p isIn parts P R
       → wordsOf P (blockOf P R p) ≡ record { users = maskOf (P .side user .count) (R .held (p .role)); resources = maskOf (P .side resource .count) (λ r. R .gives (p .role) r (p .lead)); ops = classOf P R p; atoms = maskOf 36 (λ i. partAtom P R p (i / 6) (i % 6)) }
   unfolding wordsOf classOf
   part-words R p m =

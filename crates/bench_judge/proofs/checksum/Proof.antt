@@ -4,14 +4,15 @@ use borrow.Author.Needs.{needs}
 use mathlib.Core.Path.{_≡_, ap, ap₂, _∙_}
 use native.Mathlib.Numerals.{add-one}
 use native.Mathlib.Omega.{arith}
+use Rattle.files.specs.Answer.{told}
 use Rattle.files.specs.Calls.{judge}
-use Rattle.judging.specs.Judgement.{judgementOf}
+use Rattle.judging.specs.Judgement.{verdictTold}
 use Rattle.bench_judge.specs.Checksum.{plus, sampleOf, total}
 use Rattle.bench_judge.proofs.checksum.Statement.{statement}
 use Rattle.bench_judge.proofs.checksum.Tie as tie
 
 abbrev Inv-loop : tie.InvT-loop
-Inv-loop file rules turns sum₀ turn₀ sum turn = (turn ≤ turns) × (sum ≡ total (sampleOf (judgementOf (judge 2 file rules))) turn)
+Inv-loop file rules turns sum₀ turn₀ sum turn = (turn ≤ turns) × (sum ≡ total (sampleOf (told verdictTold (judge 2 file rules))) turn)
 
 abbrev μ-loop : tie.MeasureT-loop
 μ-loop file rules turns sum₀ turn₀ sum turn = turns - turn
@@ -25,7 +26,7 @@ returns : tie.Need-returns Inv-loop μ-loop
 returns c =
     let a = c .before .before .before .before .args in
     let e : c .before .loop .turn ≡ a .turns = omega arith in
-    c .before .loop .inv .1 ∙ ap (total (sampleOf (judgementOf (judge 2 (a .file .now) (a .rules .now))))) e
+    c .before .loop .inv .1 ∙ ap (total (sampleOf (told verdictTold (judge 2 (a .file .now) (a .rules .now))))) e
 
 pub checksum-spec : {M : Type 1} → statement M
 checksum-spec =

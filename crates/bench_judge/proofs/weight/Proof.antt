@@ -1,9 +1,20 @@
 -- Each arm adds up the values of its case. Assumes nothing.
-use Rattle.bench_judge.specs.Checksum.{weightOf}
+use Prim.Native.Nat.{ℕ, _%_, _^_}
 use borrow.Author.Needs.{needs}
-use mathlib.Core.Path.{refl}
+use mathlib.Core.List.{[], _∷_}
+use mathlib.Core.Path.{_≡_, refl}
+use native.Mathlib.Omega.{arith}
+use Rattle.bench_judge.specs.Checksum.{plus, weightOf}
+use Rattle.sets.specs.Tests.{sum}
 use Rattle.bench_judge.proofs.weight.Statement.{statement}
 use Rattle.bench_judge.proofs.weight.Tie as tie
+
+-- the order of adding up is free
+one : (a b : ℕ) → plus a b ≡ sum (λ x. x) (a ∷ b ∷ []) % 2 ^ 64
+one a b = omega arith
+
+three : (a u r o : ℕ) → plus (plus a u) (plus r o) ≡ sum (λ x. x) (a ∷ u ∷ r ∷ o ∷ []) % 2 ^ 64
+three a u r o = omega arith
 
 returns : tie.Need-returns
 unfolding weightOf
@@ -11,15 +22,15 @@ returns c = rw (c .enum-told .given .1) refl
 
 returns-2 : tie.Need-returns-2
 unfolding weightOf
-returns-2 c = rw (c .before .before .before .before .judgement .given .1, c .wrapping-add-u643 .ensures, c .before .wrapping-add-u642 .ensures, c .before .before .wrapping-add-u64 .ensures) refl
+returns-2 c = rw (c .before .before .before .before .judgement .given .1, c .wrapping-add-u643 .ensures, c .before .wrapping-add-u642 .ensures, c .before .before .wrapping-add-u64 .ensures) (three _ _ _ _)
 
 returns-3 : tie.Need-returns-3
 unfolding weightOf
-returns-3 c = rw (c .before .before .judgement2 .given .1, c .wrapping-add-u644 .ensures) refl
+returns-3 c = rw (c .before .before .judgement2 .given .1, c .wrapping-add-u644 .ensures) (one _ _)
 
 returns-4 : tie.Need-returns-4
 unfolding weightOf
-returns-4 c = rw (c .before .before .judgement3 .given .1, c .wrapping-add-u645 .ensures) refl
+returns-4 c = rw (c .before .before .judgement3 .given .1, c .wrapping-add-u645 .ensures) (one _ _)
 
 returns-5 : tie.Need-returns-5
 unfolding weightOf

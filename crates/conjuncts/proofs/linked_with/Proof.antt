@@ -4,8 +4,8 @@ use mathlib.Core.Logic.{⊎-elim}
 use mathlib.Core.Path.{_≡_, sym, _∙_}
 use native.Mathlib.Omega.{arith}
 use Prim.Native.Nat.{_+_, _*_, _-_, _≤_}
-use Rattle.sets.specs.LoopLaws.{turn-within, narrowing, narrow-none, narrow-in, narrow-out, narrow-end}
-use Rattle.sets.specs.Sets.{bit, maskOf}
+use Rattle.sets.specs.LoopLaws.{turn-within, narrow-none, narrow-in, narrow-out, narrow-end}
+use Rattle.sets.specs.Sets.{narrowing, bit, maskOf}
 use Rattle.conjuncts.specs.Summary.{linkedWith}
 use Rattle.conjuncts.specs.SummaryLaws.{no-atoms}
 use lib.ListN.{getD}

@@ -4,9 +4,9 @@ use mathlib.Core.Logic.{⊎-elim}
 use mathlib.Core.Path.{_≡_, refl, sym, _∙_}
 use native.Mathlib.Omega.{arith}
 use Prim.Native.Nat.{ℕ, _+_, _*_, _-_, _≤_, _<_}
-use Rattle.sets.specs.LoopLaws.{turn-within, narrowing, narrow-none, narrow-in, narrow-out, narrow-end}
+use Rattle.sets.specs.LoopLaws.{turn-within, narrow-none, narrow-in, narrow-out, narrow-end}
+use Rattle.sets.specs.Sets.{narrowing, bit, maskOf}
 use Rattle.sets.specs.MaskLaws.{mask-lt}
-use Rattle.sets.specs.Sets.{bit, maskOf}
 use lib.Dec.{ltb}
 use Rattle.conjuncts.specs.Summary.{metByAll}
 use lib.ListN.{getD}

@@ -1,7 +1,7 @@
 -- Assumes nothing.
 use mathlib.Core.Path.{sym, _∙_}
 use Rattle.distinct.specs.InsideLaws.{not-refused, inside-not-least, inside-nobody, inside-somebody}
-use Rattle.sets.specs.Tests.{not-out}
+use Rattle.sets.specs.TestLaws.{not-out}
 use borrow.Author.Needs.{needs}
 use Rattle.distinct.proofs.inside_word.Statement.{statement}
 use Rattle.distinct.proofs.inside_word.Tie as tie

@@ -8,8 +8,8 @@ use mathlib.Core.Path.{_≡_, sym, _∙_}
 use native.Mathlib.Omega.{arith}
 use Rattle.distinct.specs.Filling.{withinBefore}
 use Rattle.policy.specs.Thinning.{strictly}
-use Rattle.sets.specs.LoopLaws.{turn-within, joining, join-none, join-in, join-out, join-end}
-use Rattle.sets.specs.Sets.{subset, maskOf}
+use Rattle.sets.specs.LoopLaws.{turn-within, join-none, join-in, join-out, join-end}
+use Rattle.sets.specs.Sets.{joining, subset, maskOf}
 use borrow.Author.Needs.{needs}
 use Rattle.distinct.proofs.within_before.Statement.{statement}
 use Rattle.distinct.proofs.within_before.Tie as tie

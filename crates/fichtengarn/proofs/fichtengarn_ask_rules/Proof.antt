@@ -1,8 +1,7 @@
 -- Assumes nothing.
 use borrow.Author.Needs.{needs}
 use denote.Ref.{now}
-use Rattle.fichtengarn.specs.NumberLaws.{reply-told, handed-on}
-use Rattle.files.specs.Calls.{ruleQuestion}
+use Rattle.fichtengarn.specs.NumberLaws.{handed-on}
 use Rattle.fichtengarn.proofs.fichtengarn_ask_rules.Statement.{statement}
 use Rattle.fichtengarn.proofs.fichtengarn_ask_rules.Tie as tie
 
@@ -10,7 +9,7 @@ returns : tie.Need-returns
 returns c =
     let asked = c .before .before in
     let a = asked .before .before .before .args in
-    handed-on (reply-told (asked .ask .result) (ruleQuestion 2 (now (a .file)) (now (a .rules)) (a .user) (a .resource) (a .operation)) (asked .ask .ensures)) (now (a .answer)) _ _ (c .store-reply .ensures)
+    handed-on (asked .ask .ensures) (now (a .answer)) _ _ (c .store-reply .ensures)
 
 pub fichtengarn-ask-rules-spec : {M : Type 1} → statement M
 fichtengarn-ask-rules-spec = tie.close (tie.spec (λ c κs. search needs) (λ c κs. search needs) returns)

@@ -1,9 +1,7 @@
 -- Assumes nothing.
 use borrow.Author.Needs.{needs}
 use denote.Ref.{now}
-use lib.ListN.{length}
-use Rattle.fichtengarn.specs.NumberLaws.{mined-told, handed-on}
-use Rattle.files.specs.Calls.{mineAnswer}
+use Rattle.fichtengarn.specs.NumberLaws.{handed-on}
 use Rattle.fichtengarn.proofs.fichtengarn_mine.Statement.{statement}
 use Rattle.fichtengarn.proofs.fichtengarn_mine.Tie as tie
 
@@ -11,7 +9,7 @@ returns : tie.Need-returns
 returns c =
     let mined = c .before .before .before .before .before .before in
     let a = mined .before .before .before .before .before .before .args in
-    let h = handed-on (mined-told (mined .mine .result) (mineAnswer 2 (now (a .file)) (length (now (a .scratch))) (length (now (a .out)))) (mined .mine .ensures .0)) (now (a .counts)) _ _ (c .store-mined .ensures) in
+    let h = handed-on (mined .mine .ensures .0) (now (a .counts)) _ _ (c .store-mined .ensures) in
     (h .0, h .1, mined .mine .ensures .1, mined .mine .ensures .2)
 
 pub fichtengarn-mine-spec : {M : Type 1} → statement M

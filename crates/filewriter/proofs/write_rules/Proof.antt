@@ -6,7 +6,7 @@ use native.Mathlib.Omega.{arith}
 use Prim.Native.Nat.{_≤_, _-_}
 use Rattle.filewriter.specs.CountLaws.{file-room, file-ended}
 use Rattle.filewriter.specs.FileTable.{ruleAt}
-use Rattle.linewriter.specs.Writing.{Runs, runs-begin, runs-room, runs-within, runs-more}
+use Rattle.linewriter.specs.WritingLaws.{Runs, runs-begin, runs-room, runs-within, runs-more}
 use Rattle.filewriter.proofs.write_rules.Statement.{statement}
 use Rattle.filewriter.proofs.write_rules.Tie as tie
 

@@ -8,7 +8,8 @@ use Prim.Native.Nat.{ℕ}
 use lib.ListN.{length}
 use Rattle.filewriter.specs.CountLaws.{slot-head, slot-none, nothing-wrote}
 use Rattle.filewriter.specs.FileTable.{ruleAt}
-use Rattle.linewriter.specs.Writing.{wrote, length-wrote}
+use Rattle.linewriter.specs.Writing.{wrote}
+use Rattle.linewriter.specs.WritingLaws.{length-wrote}
 use Rattle.rulelists.specs.RoleLaws.{roles-at}
 use Rattle.filewriter.proofs.write_slot.Statement.{statement}
 use Rattle.filewriter.proofs.write_slot.Tie as tie

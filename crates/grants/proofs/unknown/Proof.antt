@@ -6,7 +6,7 @@ use lib.Dec.{eqb}
 use lib.ListN.{getD}
 use mathlib.Core.Bool.{Bool, _||_}
 use mathlib.Core.Path.{sym, ap}
-use Rattle.sets.specs.Tests.{or-l}
+use Rattle.sets.specs.TestLaws.{or-l}
 use Rattle.grants.proofs.unknown.Statement.{statement}
 use Rattle.grants.proofs.unknown.Tie as tie
 

@@ -3,22 +3,25 @@ use borrow.Author.Needs.{needs}
 use denote.Ref.{now}
 use mathlib.Core.Path.{_≡_, sym, ap, _∙_}
 use Prim.Native.Nat.{_≤_}
+use Rattle.files.specs.Answer.{told}
 use Rattle.files.specs.Calls.{judge}
 use Rattle.judging.specs.JudgeLaws.{byPart, differenceIn, strayIn, judgedBy, judged-so, difference-from, judged-refused, judged-differ, judged-stray, judged-part}
-use Rattle.judging.specs.Judgement.{judgementOf}
+use Rattle.judging.specs.Judgement.{verdictTold, judgementNumbers}
 use Rattle.rulefile.specs.LegalLaws.{both-sizes}
+use Rattle.listings.specs.declared.StrayPart.{StrayPart as Stray}
+use Rattle.rulefile.specs.declared.BothFiles.{BothFiles}
 use Rattle.judging.proofs.judge.Statement.{statement}
 use Rattle.judging.proofs.judge.Tie as tie
 
 -- what was read decides the verdict
-means : (c : tie.After-read) → judgedBy (c .read .result) ≡ judgementOf (judge 2 (now (c .before .before .before .args .file)) (now (c .before .before .before .args .rules)))
-means c = ap judgedBy (c .read .ensures) ∙ judged-so (now (c .before .before .before .args .file)) (now (c .before .before .before .args .rules))
+means : (c : tie.After-read) → judgementNumbers (judgedBy (c .read .result)) ≡ told verdictTold (judge 2 (now (c .before .before .before .args .file)) (now (c .before .before .before .args .rules)))
+means c = ap (λ (b : BothFiles). judgementNumbers (judgedBy b)) (c .read .ensures) ∙ judged-so (now (c .before .before .before .args .file)) (now (c .before .before .before .args .rules))
 
 sizes : (c : tie.Else1) → (c .before .read .result .file .users ≤ 64) × (c .before .read .result .file .resources ≤ 64) × (c .before .read .result .file .operations ≤ 16) × (c .before .read .result .file .roles ≤ 32)
 sizes c = let r = c .before in both-sizes (now (r .before .before .before .args .file)) (now (r .before .before .before .args .rules)) (r .read .result) (r .read .ensures) (c .if1 .left)
 
 returns : tie.Need-returns
-returns c = judged-refused (c .before .read .result) (c .if1 .taken) ∙ means (c .before)
+returns c = ap judgementNumbers (judged-refused (c .before .read .result) (c .if1 .taken)) ∙ means (c .before)
 
 roles-grid-requires : tie.Need-roles-grid-requires
 roles-grid-requires c κs = sizes (c .before .before .before .before .before) .3
@@ -34,7 +37,7 @@ returns-2 : tie.Need-returns-2
 returns-2 c =
     let d = c .before .before .before in
     let e = d .before .before .before .before .before .before .before .before .before .before in
-    judged-stray (e .before .read .result) (e .if1 .left) (d .first-difference .result) (compared d) (c .before .enum-told .given .1) (c .if2 .taken) ∙ means (e .before)
+    ap judgementNumbers (judged-stray (e .before .read .result) (e .if1 .left) (d .first-difference .result) (compared d) (c .before .enum-told .given .1) (c .if2 .taken)) ∙ means (e .before)
 
 first-stray-requires : tie.Need-first-stray-requires
 first-stray-requires c κs = let z = sizes (c .before .before .before .before .before .before .before .before .before .before .before .before .before .before .before .before .before .before .before) in (z .3, z .2)
@@ -43,22 +46,22 @@ returns-3 : tie.Need-returns-3
 returns-3 c =
     let d = c .before .before .before in
     let e = d .before .before .before .before .before .before .before .before .before .before in
-    judged-differ (e .before .read .result) (e .if1 .left) (d .first-difference .result) (compared d) _ _ _ (c .before .user .given .1) ∙ means (e .before)
+    ap judgementNumbers (judged-differ (e .before .read .result) (e .if1 .left) (d .first-difference .result) (compared d) _ _ _ (c .before .user .given .1)) ∙ means (e .before)
 
 -- the first part that is not listed exactly once
-listed : (c : tie.After-first-stray) → byPart (c .first-stray .result) ≡ judgementOf (judge 2 (now (c .before .before .before .before .before .before .before .before .before .before .before .before .before .before .before .before .before .before .before .before .before .before .before .before .args .file)) (now (c .before .before .before .before .before .before .before .before .before .before .before .before .before .before .before .before .before .before .before .before .before .before .before .before .args .rules)))
+listed : (c : tie.After-first-stray) → judgementNumbers (byPart (c .first-stray .result)) ≡ told verdictTold (judge 2 (now (c .before .before .before .before .before .before .before .before .before .before .before .before .before .before .before .before .before .before .before .before .before .before .before .before .args .file)) (now (c .before .before .before .before .before .before .before .before .before .before .before .before .before .before .before .before .before .before .before .before .before .before .before .before .args .rules)))
 unfolding strayIn
 listed c =
     let f = c .before .before .before .before .before .before .before in
     let d = f .before .before .before in
     let e = d .before .before .before .before .before .before .before .before .before .before in
-    judged-part (e .before .read .result) (e .if1 .left) (d .first-difference .result) (compared d) (f .before .enum-told .given .1) (f .if2 .left) (c .first-stray .result) (c .first-stray .ensures) ∙ means (e .before)
+    ap judgementNumbers (judged-part (e .before .read .result) (e .if1 .left) (d .first-difference .result) (compared d) (f .before .enum-told .given .1) (f .if2 .left) (c .first-stray .result) (c .first-stray .ensures)) ∙ means (e .before)
 
 returns-4 : tie.Need-returns-4
-returns-4 c = ap byPart (sym (c .before .part .given .1)) ∙ listed (c .before .before .before)
+returns-4 c = ap (λ (t : Stray). judgementNumbers (byPart t)) (sym (c .before .part .given .1)) ∙ listed (c .before .before .before)
 
 returns-5 : tie.Need-returns-5
-returns-5 c = ap byPart (sym (c .enum-told2 .given .1)) ∙ listed (c .before .before)
+returns-5 c = ap (λ (t : Stray). judgementNumbers (byPart t)) (sym (c .enum-told2 .given .1)) ∙ listed (c .before .before)
 
 pub judge-spec : {M : Type 1} → statement M
 judge-spec =

@@ -5,8 +5,8 @@ use lib.ListN.{getD}
 use mathlib.Core.List.{List}
 use mathlib.Core.Path.{refl}
 use native.Mathlib.Omega.{arith}
-use Rattle.linewriter.specs.Writing.{Runs, runs-begin, runs-room, runs-within, runs-more, runs-end}
-use Rattle.rulelines.specs.RuleBytes.{partBytes}
+use Rattle.linewriter.specs.WritingLaws.{Runs, runs-begin, runs-room, runs-within, runs-more, runs-end}
+use Rattle.rulelines.specs.RuleLines.{partBytes}
 use borrow.Author.Needs.{needs}
 use Rattle.linewriter.proofs.put_classes.Statement.{statement}
 use Rattle.linewriter.proofs.put_classes.Tie as tie

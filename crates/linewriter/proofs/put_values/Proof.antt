@@ -5,8 +5,8 @@ use lib.ListN.{getD}
 use mathlib.Core.Bool.{Bool}
 use mathlib.Core.List.{List}
 use native.Mathlib.Omega.{arith}
-use Rattle.linewriter.specs.Writing.{Runs, runs-begin, runs-room, runs-within, runs-more, runs-end}
-use Rattle.rulelines.specs.RuleBytes.{valueBytes}
+use Rattle.linewriter.specs.WritingLaws.{Runs, runs-begin, runs-room, runs-within, runs-more, runs-end}
+use Rattle.rulelines.specs.RuleLines.{valueBytes}
 use Rattle.words.specs.Flags.{placeSide, placeAttribute}
 use borrow.Author.Needs.{needs}
 use Rattle.linewriter.proofs.put_values.Statement.{statement}

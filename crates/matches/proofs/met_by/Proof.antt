@@ -6,8 +6,7 @@ use mathlib.Core.Path.{_≡_, sym, ap, _∙_}
 use native.Mathlib.Omega.{arith}
 use Rattle.matches.specs.Matches.{lessOne, metOf}
 use Rattle.matches.specs.MemberLaws.{least-in, less-less, join-begin, join-turn, join-done}
-use Rattle.sets.specs.LoopLaws.{joining}
-use Rattle.sets.specs.Sets.{bit, maskOf}
+use Rattle.sets.specs.Sets.{joining, bit, maskOf}
 use borrow.Author.Needs.{needs}
 use Rattle.matches.proofs.met_by.Statement.{statement}
 use Rattle.matches.proofs.met_by.Tie as tie

@@ -6,9 +6,9 @@ use native.Mathlib.Omega.{arith}
 use Prim.Native.Nat.{ℕ, _-_, _≤_, _<_}
 use Rattle.meeting.specs.Meeting.{holdsAll}
 use Rattle.meeting.specs.MeetingLaws.{holds-narrowed}
-use Rattle.sets.specs.LoopLaws.{turn-within, narrowing, narrow-none, narrow-in, narrow-out, narrow-end}
+use Rattle.sets.specs.LoopLaws.{turn-within, narrow-none, narrow-in, narrow-out, narrow-end}
+use Rattle.sets.specs.Sets.{narrowing, bit, maskOf}
 use Rattle.sets.specs.MaskLaws.{mask-lt}
-use Rattle.sets.specs.Sets.{bit, maskOf}
 use lib.Dec.{ltb}
 use lib.ListN.{getD}
 use Rattle.sets.proofs.below.Reads as below-reads

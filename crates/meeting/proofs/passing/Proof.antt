@@ -4,7 +4,7 @@ use borrow.Author.Needs.{needs}
 use lib.ListN.{getD}
 use mathlib.Core.Bool.{Bool}
 use mathlib.Core.Path.{sym, ap, _∙_}
-use Rattle.policy.specs.Policy.{order}
+use Rattle.meeting.specs.Meeting.{order}
 use Rattle.sets.specs.Sets.{maskOf}
 use Rattle.meeting.proofs.passing.Statement.{statement}
 use Rattle.meeting.proofs.passing.Tie as tie

@@ -4,7 +4,7 @@ use borrow.Author.Needs.{needs}
 use lib.ListN.{length}
 use mathlib.Core.Path.{_≡_, sym, _∙_}
 use native.Mathlib.Omega.{arith}
-use Rattle.admit.specs.AdmitLaws.{Sized}
+use Rattle.loaded.specs.Record.{Sized}
 use Rattle.merging.specs.HeadLaws.{heads-most, heads-fewer, marks-joined}
 use Rattle.merging.specs.MetLaws.{none-met, group-begun, group-joined}
 use Rattle.merging.specs.OpenLaws.{one-of}

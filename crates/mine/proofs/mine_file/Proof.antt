@@ -4,18 +4,17 @@ use lib.ListN.{length}
 use mathlib.Core.Path.{_≡_, sym, subst}
 use native.Mathlib.Omega.{arith}
 use Prim.Native.Nat.{ℕ}
-use Rattle.mine.specs.Room.{Fits, answer-fits}
+use Rattle.mine.specs.Room.{Fits}
+use Rattle.mine.specs.RoomLaws.{answer-fits}
 use Rattle.mine.proofs.mine_file.Statement.{statement}
 use Rattle.mine.proofs.mine_file.Tie as tie
-use Rattle.mining.specs.declared.Mined.{Mined}
 
 finish-requires : tie.Need-finish-requires
 finish-requires c κs =
     let m = c .before .before .before in
     let former = m .before .before .before .large-buffer .result in
     let e : length (m .mine .last .1 .1 .0) ≡ length former = omega arith in
-    subst (λ (n : ℕ). Fits (m .mine .result) n) (sym e)
-    (subst (λ (r : Mined). Fits r (length former)) (sym (m .mine .ensures .0)) (answer-fits _ _ former))
+    subst (λ (n : ℕ). Fits (m .mine .result) n) (sym e) (answer-fits _ _ former (m .mine .result) (m .mine .ensures .0))
 
 pub mine-file-spec : {M : Type 1} → statement M
 mine-file-spec =

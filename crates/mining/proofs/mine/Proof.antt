@@ -6,6 +6,7 @@ use native.Mathlib.Omega.{arith}
 use Rattle.files.specs.BytesLaws.{Bytes}
 use Rattle.mining.specs.AssemblyLaws.{bytes-all}
 use Rattle.mining.specs.MineLaws.{small, promised}
+use Rattle.mining.specs.declared.Mined.the-variants.{Refused}
 use Rattle.mining.proofs.mine.Statement.{statement}
 use Rattle.mining.proofs.mine.Tie as tie
 
@@ -16,12 +17,12 @@ bytes c = bytes-all (now (c .before .args .file)) (λ i. let b = c .shared-slice
 returns : tie.Need-returns
 returns c =
     let a = c .before .before .before .before .args in
-    promised (now (a .file)) (length (now (a .scratch))) (now (a .out)) (bytes (c .before .before .before)) _ _ (small (now (a .file)) (length (now (a .scratch))) (now (a .out)) (c .if1 .taken))
+    promised (now (a .file)) (length (now (a .scratch))) (now (a .out)) (bytes (c .before .before .before)) (Refused 8) _ (small (now (a .file)) (length (now (a .scratch))) (now (a .out)) (c .if1 .taken))
 
 returns-2 : tie.Need-returns-2
 returns-2 c =
     let a = c .before .before .before .before .before .before .before .before .before .before .before .args in
-    promised (now (a .file)) (length (now (a .scratch))) (now (a .out)) (bytes (c .before .before .before .before .before .before .before .before .before .before)) _ _ (c .before .before .before .before .mine-in .ensures (length (now (a .scratch))) (c .before .before .before .before .before .before .before .if1 .left))
+    promised (now (a .file)) (length (now (a .scratch))) (now (a .out)) (bytes (c .before .before .before .before .before .before .before .before .before .before)) (c .before .before .before .before .mine-in .result) _ (c .before .before .before .before .mine-in .ensures (length (now (a .scratch))) (c .before .before .before .before .before .before .before .if1 .left))
 
 pub mine-spec : {M : Type 1} → statement M
 mine-spec = tie.close (tie.spec returns (λ c. search needs) (λ c. search needs) (λ c. search needs) (λ c κs. search needs) (λ c. search needs) (λ c. search needs) returns-2)

@@ -2,10 +2,9 @@
 use borrow.Author.Needs.{needs}
 use denote.Ref.{now}
 use mathlib.Core.Path.{_≡_}
-use Rattle.admit.specs.AdmitLaws.{Sized}
+use Rattle.loaded.specs.Record.{Sized, recordOf}
 use Rattle.files.specs.Answer.{accepted}
 use Rattle.files.specs.RoleFile.{readRoles}
-use Rattle.loaded.specs.Record.{recordOf}
 use Rattle.mining.specs.AssemblyLaws.{loaded-policy, record-sizes, stored}
 use Rattle.mining.specs.MineLaws.{unread}
 use Rattle.policy.specs.Policy.{Policy}

@@ -4,7 +4,7 @@ use lib.Pow.{pow-pos}
 use mathlib.Core.Path.{_≡_, ap, _∙_, sym, subst}
 use native.Mathlib.Nat.{div-add-mod', mod-lt, div-eq-of-lt, zero-mul, zero-add}
 use Prim.Native.Nat.{ℕ, _+_, _*_, _/_, _%_, _^_, _<_}
-use Rattle.sets.specs.Tests.{same}
+use Rattle.sets.specs.TestLaws.{same}
 use borrow.Author.Needs.{needs}
 use Rattle.operands.proofs.all_below.Statement.{statement}
 use Rattle.operands.proofs.all_below.Tie as tie

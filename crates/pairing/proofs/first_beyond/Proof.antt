@@ -6,7 +6,7 @@ use mathlib.Core.Path.{sym, _∙_}
 use native.Mathlib.Omega.{arith}
 use Rattle.grants.specs.GridLaws.{UsersPassed, ResourcesPassed, OperationsPassed, no-users, no-resources, no-operations, operation-passed, resource-passed, user-passed}
 use Rattle.sets.specs.LoopLaws.{turn-within}
-use Rattle.sets.specs.Tests.{not-out}
+use Rattle.sets.specs.TestLaws.{not-out}
 use Rattle.pairing.specs.Pairing.{wordsIn, covered, grouped}
 use Rattle.pairing.specs.PairingLaws.{differs-at, user-skipped, user-agrees, beyond-at, beyond-none}
 use Rattle.pairing.proofs.first_beyond.Statement.{statement}

@@ -8,8 +8,7 @@ use native.Mathlib.Omega.{arith}
 use Rattle.conjuncts.specs.Summary.{linkedWith}
 use Rattle.matches.specs.Matches.{lessOne}
 use Rattle.matches.specs.MemberLaws.{least-in, less-less}
-use Rattle.sets.specs.LoopLaws.{narrowing}
-use Rattle.sets.specs.Sets.{bit, maskOf}
+use Rattle.sets.specs.Sets.{narrowing, bit, maskOf}
 use Rattle.sets.specs.Tests.{Is}
 use Rattle.pairing.specs.LinkedLaws.{atoms-cut, narrow-turn, narrow-nothing, narrow-done, linked-begin, cut-low, less-low}
 use Rattle.pairing.proofs.linked.Statement.{statement}

@@ -5,10 +5,11 @@ use mathlib.Core.Bool.{Bool, true, false}
 use mathlib.Core.Path.{_≡_, refl, sym, ap, _∙_}
 use native.Mathlib.Omega.{arith}
 use Prim.Native.Nat.{ℕ, _≤_, _<_}
-use Rattle.files.specs.Calls.{roleQuestion}
+use Rattle.files.specs.Answer.{told}
+use Rattle.files.specs.Calls.{yesNo, roleQuestion}
 use Rattle.rolefile.specs.declared.Loaded.{Loaded}
 use Rattle.rolequestion.specs.QuestionLaws.{asked, asked-means, asked-refused, asked-by, loaded-sized}
-use Rattle.rolequestion.specs.Reply.{replyOf}
+use Rattle.rolequestion.specs.Reply.{replyNumbers}
 use Rattle.rolequestion.proofs.ask.Statement.{statement}
 use Rattle.rolequestion.proofs.ask.Tie as tie
 use Rattle.rolequestion.proofs.ask.Reads as reads
@@ -17,27 +18,27 @@ use Rattle.rolefile.proofs.read.Reads as read-reads
 use Rattle.rolequestion.proofs.granted.Reads as granted-reads
 
 -- what was loaded answers the question
-means : (c : tie.After-read) → asked (c .read .result) (c .before .before .args .user) (c .before .before .args .resource) (c .before .before .args .operation)
-    ≡ replyOf (roleQuestion 2 (now (c .before .before .args .file)) (c .before .before .args .user) (c .before .before .args .resource) (c .before .before .args .operation))
-means c = ap (λ (l : Loaded). asked l (c .before .before .args .user) (c .before .before .args .resource) (c .before .before .args .operation)) (c .read .ensures) ∙ asked-means (now (c .before .before .args .file)) (c .before .before .args .user) (c .before .before .args .resource) (c .before .before .args .operation)
+means : (c : tie.After-read) → replyNumbers (asked (c .read .result) (c .before .before .args .user) (c .before .before .args .resource) (c .before .before .args .operation))
+    ≡ told yesNo (roleQuestion 2 (now (c .before .before .args .file)) (c .before .before .args .user) (c .before .before .args .resource) (c .before .before .args .operation))
+means c = ap (λ (l : Loaded). replyNumbers (asked l (c .before .before .args .user) (c .before .before .args .resource) (c .before .before .args .operation))) (c .read .ensures) ∙ asked-means (now (c .before .before .args .file)) (c .before .before .args .user) (c .before .before .args .resource) (c .before .before .args .operation)
 
 returns : tie.Need-returns
-returns c = asked-refused _ _ _ _ (c .if1 .taken) ∙ means (c .before .before)
+returns c = ap replyNumbers (asked-refused _ _ _ _ (c .if1 .taken)) ∙ means (c .before .before)
 
 returns-2 : tie.Need-returns-2
 returns-2 c =
     let e = c .before .before in
-    sym (asked-by _ _ _ _ false _ _ _ (e .if1 .left) (le-ltb _ _ (c .if2 .taken)) refl refl refl) ∙ means (e .before .before)
+    ap replyNumbers (sym (asked-by _ _ _ _ false _ _ _ (e .if1 .left) (le-ltb _ _ (c .if2 .taken)) refl refl refl)) ∙ means (e .before .before)
 
 returns-3 : tie.Need-returns-3
 returns-3 c =
     let e = c .before .before .before in
-    sym (asked-by _ _ _ _ true false _ _ (e .if1 .left) (lt-ltb _ _ (c .before .if2 .left)) (le-ltb _ _ (c .if3 .taken)) refl refl) ∙ means (e .before .before)
+    ap replyNumbers (sym (asked-by _ _ _ _ true false _ _ (e .if1 .left) (lt-ltb _ _ (c .before .if2 .left)) (le-ltb _ _ (c .if3 .taken)) refl refl)) ∙ means (e .before .before)
 
 returns-4 : tie.Need-returns-4
 returns-4 c =
     let e = c .before .before .before .before in
-    sym (asked-by _ _ _ _ true true false _ (e .if1 .left) (lt-ltb _ _ (c .before .before .if2 .left)) (lt-ltb _ _ (c .before .if3 .left)) (le-ltb _ _ (c .if4 .taken)) refl) ∙ means (e .before .before)
+    ap replyNumbers (sym (asked-by _ _ _ _ true true false _ (e .if1 .left) (lt-ltb _ _ (c .before .before .if2 .left)) (lt-ltb _ _ (c .before .if3 .left)) (le-ltb _ _ (c .if4 .taken)) refl)) ∙ means (e .before .before)
 
 granted-requires : tie.Need-granted-requires
 granted-requires c κs =
@@ -50,13 +51,13 @@ returns-5 : tie.Need-returns-5
 returns-5 c =
     let d = c .before .before .before .before .before in
     let e = d .before .before .before .before in
-    sym (asked-by _ _ _ _ true true true true (e .if1 .left) (lt-ltb _ _ (d .before .before .if2 .left)) (lt-ltb _ _ (d .before .if3 .left)) (lt-ltb _ _ (d .if4 .left)) (sym (c .before .granted .ensures) ∙ c .if5 .taken)) ∙ means (e .before .before)
+    ap replyNumbers (sym (asked-by _ _ _ _ true true true true (e .if1 .left) (lt-ltb _ _ (d .before .before .if2 .left)) (lt-ltb _ _ (d .before .if3 .left)) (lt-ltb _ _ (d .if4 .left)) (sym (c .before .granted .ensures) ∙ c .if5 .taken))) ∙ means (e .before .before)
 
 returns-6 : tie.Need-returns-6
 returns-6 c =
     let d = c .before .before .before .before .before in
     let e = d .before .before .before .before in
-    sym (asked-by _ _ _ _ true true true false (e .if1 .left) (lt-ltb _ _ (d .before .before .if2 .left)) (lt-ltb _ _ (d .before .if3 .left)) (lt-ltb _ _ (d .if4 .left)) (sym (c .before .granted .ensures) ∙ c .if5 .left)) ∙ means (e .before .before)
+    ap replyNumbers (sym (asked-by _ _ _ _ true true true false (e .if1 .left) (lt-ltb _ _ (d .before .before .if2 .left)) (lt-ltb _ _ (d .before .if3 .left)) (lt-ltb _ _ (d .if4 .left)) (sym (c .before .granted .ensures) ∙ c .if5 .left))) ∙ means (e .before .before)
 
 pub ask-spec : {M : Type 1} → statement M
 ask-spec =

@@ -14,7 +14,7 @@ use Rattle.rolefile.specs.StateLaws.{tail}
 use Rattle.rulecommands.specs.Raw.{rawOf}
 use Rattle.rulefile.specs.ReadsLaws.{Reads, roles-refused, roles-resources, reads-begun, sizes, inside, reads-cut, reads-strange, command-bytes, reads-unfinished, reads-opened, reads-late, reads-ended, reads-misplaced, reads-illegal, line-part, reads-line}
 use Rattle.rulesteps.specs.Kept.{mayClose, followsWith}
-use Rattle.sets.specs.Tests.{or-out, not-out}
+use Rattle.sets.specs.TestLaws.{or-out, not-out}
 use Rattle.rulecommands.specs.declared.Raw.the-variants.{Whole}
 use Rattle.rulefile.proofs.read.Statement.{statement}
 use Rattle.rulefile.proofs.read.Tie as tie

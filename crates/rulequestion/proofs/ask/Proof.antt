@@ -5,8 +5,9 @@ use denote.Ref.{now}
 use mathlib.Core.Bool.{true, false}
 use mathlib.Core.Path.{_≡_, refl, sym, ap, _∙_}
 use native.Mathlib.Omega.{arith}
-use Rattle.files.specs.Calls.{ruleQuestion}
-use Rattle.rolequestion.specs.Reply.{replyOf}
+use Rattle.files.specs.Answer.{told}
+use Rattle.files.specs.Calls.{yesNo, ruleQuestion}
+use Rattle.rolequestion.specs.Reply.{replyNumbers}
 use Rattle.rulefile.specs.LegalLaws.{both-sizes}
 use Rattle.rulefile.specs.declared.BothFiles.{BothFiles}
 use Rattle.rulequestion.specs.QuestionLaws.{answeredBy, answered-means, answered-refused, answered-by}
@@ -14,24 +15,24 @@ use Rattle.rulequestion.proofs.ask.Statement.{statement}
 use Rattle.rulequestion.proofs.ask.Tie as tie
 
 -- what was read answers the question
-means : (c : tie.After-read) → answeredBy (c .read .result) (c .before .before .before .args .user) (c .before .before .before .args .resource) (c .before .before .before .args .operation)
-    ≡ replyOf (ruleQuestion 2 (now (c .before .before .before .args .file)) (now (c .before .before .before .args .rules)) (c .before .before .before .args .user) (c .before .before .before .args .resource) (c .before .before .before .args .operation))
+means : (c : tie.After-read) → replyNumbers (answeredBy (c .read .result) (c .before .before .before .args .user) (c .before .before .before .args .resource) (c .before .before .before .args .operation))
+    ≡ told yesNo (ruleQuestion 2 (now (c .before .before .before .args .file)) (now (c .before .before .before .args .rules)) (c .before .before .before .args .user) (c .before .before .before .args .resource) (c .before .before .before .args .operation))
 means c =
     let a = c .before .before .before .args in
-    ap (λ (b : BothFiles). answeredBy b (a .user) (a .resource) (a .operation)) (c .read .ensures) ∙ answered-means (now (a .file)) (now (a .rules)) (a .user) (a .resource) (a .operation)
+    ap (λ (b : BothFiles). replyNumbers (answeredBy b (a .user) (a .resource) (a .operation))) (c .read .ensures) ∙ answered-means (now (a .file)) (now (a .rules)) (a .user) (a .resource) (a .operation)
 
 returns : tie.Need-returns
-returns c = answered-refused _ _ _ _ (c .if1 .taken) ∙ means (c .before)
+returns c = ap replyNumbers (answered-refused _ _ _ _ (c .if1 .taken)) ∙ means (c .before)
 
 returns-2 : tie.Need-returns-2
-returns-2 c = sym (answered-by _ _ _ _ false _ _ _ (c .before .if1 .left) (le-ltb _ _ (c .if2 .taken)) refl refl refl) ∙ means (c .before .before)
+returns-2 c = ap replyNumbers (sym (answered-by _ _ _ _ false _ _ _ (c .before .if1 .left) (le-ltb _ _ (c .if2 .taken)) refl refl refl)) ∙ means (c .before .before)
 
 returns-3 : tie.Need-returns-3
-returns-3 c = sym (answered-by _ _ _ _ true false _ _ (c .before .before .if1 .left) (lt-ltb _ _ (c .before .if2 .left)) (le-ltb _ _ (c .if3 .taken)) refl refl) ∙ means (c .before .before .before)
+returns-3 c = ap replyNumbers (sym (answered-by _ _ _ _ true false _ _ (c .before .before .if1 .left) (lt-ltb _ _ (c .before .if2 .left)) (le-ltb _ _ (c .if3 .taken)) refl refl)) ∙ means (c .before .before .before)
 
 returns-4 : tie.Need-returns-4
 returns-4 c =
-    sym (answered-by _ _ _ _ true true false _ (c .before .before .before .if1 .left) (lt-ltb _ _ (c .before .before .if2 .left)) (lt-ltb _ _ (c .before .if3 .left)) (le-ltb _ _ (c .if4 .taken)) refl) ∙ means (c .before .before .before .before)
+    ap replyNumbers (sym (answered-by _ _ _ _ true true false _ (c .before .before .before .if1 .left) (lt-ltb _ _ (c .before .before .if2 .left)) (lt-ltb _ _ (c .before .if3 .left)) (le-ltb _ _ (c .if4 .taken)) refl)) ∙ means (c .before .before .before .before)
 
 in-grid-requires : tie.Need-in-grid-requires
 in-grid-requires c κs =
@@ -45,12 +46,12 @@ in-grid-requires c κs =
 returns-5 : tie.Need-returns-5
 returns-5 c =
     let e = c .before .before .before .before in
-    sym (answered-by _ _ _ _ true true true true (e .before .before .before .if1 .left) (lt-ltb _ _ (e .before .before .if2 .left)) (lt-ltb _ _ (e .before .if3 .left)) (lt-ltb _ _ (e .if4 .left)) (sym (c .before .in-grid .ensures) ∙ c .if5 .taken)) ∙ means (e .before .before .before .before)
+    ap replyNumbers (sym (answered-by _ _ _ _ true true true true (e .before .before .before .if1 .left) (lt-ltb _ _ (e .before .before .if2 .left)) (lt-ltb _ _ (e .before .if3 .left)) (lt-ltb _ _ (e .if4 .left)) (sym (c .before .in-grid .ensures) ∙ c .if5 .taken))) ∙ means (e .before .before .before .before)
 
 returns-6 : tie.Need-returns-6
 returns-6 c =
     let e = c .before .before .before .before in
-    sym (answered-by _ _ _ _ true true true false (e .before .before .before .if1 .left) (lt-ltb _ _ (e .before .before .if2 .left)) (lt-ltb _ _ (e .before .if3 .left)) (lt-ltb _ _ (e .if4 .left)) (sym (c .before .in-grid .ensures) ∙ c .if5 .left)) ∙ means (e .before .before .before .before)
+    ap replyNumbers (sym (answered-by _ _ _ _ true true true false (e .before .before .before .if1 .left) (lt-ltb _ _ (e .before .before .if2 .left)) (lt-ltb _ _ (e .before .if3 .left)) (lt-ltb _ _ (e .if4 .left)) (sym (c .before .in-grid .ensures) ∙ c .if5 .left))) ∙ means (e .before .before .before .before)
 
 pub ask-spec : {M : Type 1} → statement M
 ask-spec = tie.close (tie.spec (λ c κs. search needs) returns returns-2 returns-3 returns-4 in-grid-requires returns-5 returns-6)

@@ -4,7 +4,7 @@ use denote.Ref.{now}
 use lib.ListN.{length}
 use mathlib.Core.List.{List}
 use native.Mathlib.Omega.{arith}
-use Rattle.linewriter.specs.Writing.{Runs, runs-begin, runs-room, runs-within, runs-more, runs-end}
+use Rattle.linewriter.specs.WritingLaws.{Runs, runs-begin, runs-room, runs-within, runs-more, runs-end}
 use Rattle.rulewriter.specs.RuleTable.{placeBytesIn}
 use Rattle.rulewriter.specs.SectionLaws.{written-as, room-as, kind-places}
 use Rattle.words.specs.Flags.{placeSide}

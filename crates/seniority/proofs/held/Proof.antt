@@ -6,8 +6,8 @@ use mathlib.Core.Logic.{⊎-elim}
 use mathlib.Core.Path.{_≡_, sym, _∙_}
 use native.Mathlib.Omega.{arith}
 use Rattle.seniority.specs.Closure.{heldBy}
-use Rattle.sets.specs.LoopLaws.{turn-within, joining, join-none, join-in, join-out, join-end}
-use Rattle.sets.specs.Sets.{bit, maskOf}
+use Rattle.sets.specs.LoopLaws.{turn-within, join-none, join-in, join-out, join-end}
+use Rattle.sets.specs.Sets.{joining, bit, maskOf}
 use Rattle.seniority.proofs.held.Statement.{statement}
 use Rattle.seniority.proofs.held.Tie as tie
 

@@ -7,8 +7,8 @@ use mathlib.Core.List.{List}
 use mathlib.Core.Logic.{⊎-elim}
 use mathlib.Core.Path.{_≡_, sym, ap, _∙_}
 use native.Mathlib.Omega.{arith}
-use Rattle.sets.specs.LoopLaws.{turn-within, joining, join-none, join-in, join-end}
-use Rattle.sets.specs.Sets.{bit, maskOf}
+use Rattle.sets.specs.LoopLaws.{turn-within, join-none, join-in, join-end}
+use Rattle.sets.specs.Sets.{joining, bit, maskOf}
 use Rattle.tables.specs.Tables.{joins, unionOf}
 use Rattle.tables.specs.TurnLaws.{join-nobody}
 use Rattle.tables.proofs.joined.Statement.{statement}

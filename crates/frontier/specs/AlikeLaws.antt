@@ -5,8 +5,8 @@ use mathlib.Core.Bool.{Bool, true, false, cond}
 use mathlib.Core.List.{List, [], _∷_, map, List·Memᴰ·head, List·Memᴰ·tail}
 use mathlib.Core.Option.{Option, none, some, Option·map}
 use mathlib.Core.Path.{_≡_, refl, ap, subst}
-use Rattle.policy.specs.Merging.{absorb, step, run, merges}
-use Rattle.policy.specs.MergeLaws.{Every, every-cons}
+use Rattle.policy.specs.Merging.{absorb, step}
+use Rattle.policy.specs.MergeLaws.{Every, every-cons, run, merges}
 use Rattle.sets.specs.Tests.{Is}
 
 module _ {A B : Type 0} (f : A → B) (okA : A → A → Bool) (joinA : A → A → A) (okB : B → B → Bool) (joinB : B → B → B) (Q : A → Type 0) (okSame : (g h : A) → Q g → Q h → okA g h ≡ okB (f g) (f h)) (joinSame : (g h : A) → Q g → Q h → f (joinA g h) ≡ joinB (f g) (f h)) (keeps : (g h : A) → Q g → Q h → Is (okA g h) → Q (joinA g h)) where
@@ -54,6 +54,8 @@ module _ {A B : Type 0} (f : A → B) (okA : A → A → Bool) (joinA : A → A 
   run-image zero gs e = (refl, refl)
   run-image (suc k) gs e = go (λ s. run-image k s) (step okA joinA gs) (step okB joinB (map f gs)) (step-image gs e)
     where
-      go : ((s : List A) → Every Q s → (map f (run okA joinA k s) ≡ run okB joinB k (map f s)) × (merges okA joinA k s ≡ merges okB joinB k (map f s))) → (o : Option (List A)) (p : Option (List B)) → Stepped o p → _≡_ {A = List B} (map f (elim o as (λ _. List A) [ none ↦ gs | some s ↦ run okA joinA k s ])) (elim p as (λ _. List B) [ none ↦ map f gs | some s ↦ run okB joinB k s ]) × _≡_ {A = ℕ} (elim o as (λ _. ℕ) [ none ↦ 0 | some s ↦ suc (merges okA joinA k s) ]) (elim p as (λ _. ℕ) [ none ↦ 0 | some s ↦ suc (merges okB joinB k s) ])
+      go : ((s : List A) → Every Q s → (map f (run okA joinA k s) ≡ run okB joinB k (map f s)) × (merges okA joinA k s ≡ merges okB joinB k (map f s))) → (o : Option (List A)) (p : Option (List B)) → Stepped o p → let a = elim o as (λ _. List A × ℕ) [ none ↦ (gs, 0) | some s ↦ (run okA joinA k s, suc (merges okA joinA k s)) ] in
+          let b = elim p as (λ _. List B × ℕ) [ none ↦ (map f gs, 0) | some s ↦ (run okB joinB k s, suc (merges okB joinB k s)) ] in
+          (map f (a .0) ≡ b .0) × (a .1 ≡ b .1)
       go r o p at-rest = (refl, refl)
       go r o p (moved {gs = s} l) = let q = r s l in (q .0, ap suc (q .1))

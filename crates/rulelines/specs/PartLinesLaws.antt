@@ -8,7 +8,7 @@ use mathlib.Core.Bool.{cond}
 use mathlib.Core.List.{List, [], _∷_, _++_, map}
 use mathlib.Core.Path.{_≡_, refl, sym, ap, _∙_}
 use native.Mathlib.Omega.{arith}
-use Rattle.files.specs.ReadBack.{lines-strict}
+use Rattle.files.specs.ReadBackLaws.{lines-strict}
 use Rattle.files.specs.RuleFile.{RuleCommand, precedes, isPartLine, Lines, condLines, operations, part}
 use Rattle.policy.specs.ClassLaws.{class-part}
 use Rattle.policy.specs.Covering.{fits, levelOf}
@@ -21,8 +21,10 @@ use Rattle.policy.specs.Thinning.{written}
 use Rattle.rulelines.specs.ListLaws.{each-ext, Distinct, map-rising, sort-is, sort-next, sort-length, sort-map}
 use Rattle.rulelines.specs.RuleLines.{ruleLines, ofRole, partLinesOf}
 use Rattle.rulelines.specs.RuleLinesLaws.{role-first, part-next, lines-sorted}
-use Rattle.sets.specs.Sorted.{sort, sort-in, sort-out, sort-rising, each-rising, numbers, from-rising, none-left, and-then}
-use Rattle.sets.specs.Tests.{Is, _∈_, keep, keep-in, keep-out, each, each-in, each-out, upTo, upTo-in, map-in, map-out}
+use Rattle.sets.specs.Sorted.{sort, none-left, and-then}
+use Rattle.sets.specs.SortedLaws.{sort-in, sort-out, sort-rising, each-rising, numbers, from-rising}
+use Rattle.sets.specs.Tests.{Is, _isIn_, keep, each, upTo}
+use Rattle.sets.specs.TestLaws.{keep-in, keep-out, each-in, each-out, upTo-in, map-in, map-out}
 use Rattle.words.specs.Flags.{keptPlaces}
 use Rattle.words.specs.Words.{Roomy, wordsOf}
 
@@ -35,14 +37,14 @@ pub times-distinct : (g : List ℕ) → ((p : ℕ) → times p g ≤ 1) → Dist
 times-distinct [] h = none-left
 times-distinct (x ∷ xs) h = and-then (λ y m e. alone y m (sym e)) (times-distinct xs (λ p. let k = h p in omega arith))
   where
-    alone : (y : ℕ) → y ∈ xs → y ≡ x → ⊥
+    alone : (y : ℕ) → y isIn xs → y ≡ x → ⊥
     alone y m e = let k = times-in y m in let t = once y (eq-eqb y x e) (h y) in omega arith
       where
         once : (y : ℕ) → Is (eqb y x) → cond (eqb y x) 1 0 + times y xs ≤ 1 → times y xs ≤ 0
         once y e k = let t = rw e at k in omega arith
 
 -- the least number comes first, and then those above it
-pub least-first : (l : List ℕ) (n : ℕ) → n ∈ l → ((x : ℕ) → x ∈ l → n ≤ x) → sort ltb l ≡ n ∷ sort ltb (keep (ltb n) l)
+pub least-first : (l : List ℕ) (n : ℕ) → n isIn l → ((x : ℕ) → x isIn l → n ≤ x) → sort ltb l ≡ n ∷ sort ltb (keep (ltb n) l)
 least-first l n m h = sort-next ltb numbers l n m (λ x k. le-ltb x n (h x k))
 
 -- lines of parts, each of role k, ascend by operation set
@@ -64,7 +66,7 @@ module _ (cls : ℕ → ℕ) (g : List ℕ) where
   part-lines-still c m = part-lines-only c (sort-out precedes (map slotLine g) m)
 
   -- there are as many as slots, where those of one role differ in their operation sets
-  pub part-lines-length : Distinct g → ((i j : ℕ) → i ∈ g → j ∈ g → i / 16 ≡ j / 16 → cls i ≡ cls j → i ≡ j) → length (partLinesOf cls g) ≡ length g
+  pub part-lines-length : Distinct g → ((i j : ℕ) → i isIn g → j isIn g → i / 16 ≡ j / 16 → cls i ≡ cls j → i ≡ j) → length (partLinesOf cls g) ≡ length g
   unfolding partLinesOf
   part-lines-length d one =
       sort-length precedes lines-strict (map-rising slotLine (λ i j mi mj n e. n (one i j mi mj (role-of e) (class-of e))) d)
@@ -90,17 +92,17 @@ module _ (cls : ℕ → ℕ) (g : List ℕ) where
       roleLines : ℕ → Lines
       roleLines k = sort precedes (map (λ i. part k (cls i)) (ofRole g k))
 
-      role-out : (k : ℕ) {c : RuleCommand} → c ∈ sort precedes (map (λ i. part k (cls i)) (ofRole g k)) → (i : ℕ) × (i ∈ ofRole g k) × (c ≡ part k (cls i))
+      role-out : (k : ℕ) {c : RuleCommand} → c isIn sort precedes (map (λ i. part k (cls i)) (ofRole g k)) → (i : ℕ) × (i isIn ofRole g k) × (c ≡ part k (cls i))
       role-out k m = map-out (λ i. part k (cls i)) (ofRole g k) (sort-out precedes (map (λ i. part k (cls i)) (ofRole g k)) m)
 
-      there : (c : RuleCommand) → (i : ℕ) × (i ∈ g) × (c ≡ slotLine i) → c ∈ each (λ k. sort precedes (map (λ i. part k (cls i)) (ofRole g k))) (upTo 32)
+      there : (c : RuleCommand) → (i : ℕ) × (i isIn g) × (c ≡ slotLine i) → c isIn each (λ k. sort precedes (map (λ i. part k (cls i)) (ofRole g k))) (upTo 32)
       there c t =
           let l = low (t .0) (t .1) in
           rw (t .2)
           (each-in (λ k. sort precedes (map (λ i. part k (cls i)) (ofRole g k))) (upTo-in {n = 32} {i = t .0 / 16} (omega arith))
           (sort-in precedes lines-strict (map-in (λ i. part (t .0 / 16) (cls i)) (keep-in (λ i. eqb (i / 16) (t .0 / 16)) (t .1) (eq-eqb (t .0 / 16) (t .0 / 16) refl)))))
 
-      back : (c : RuleCommand) (k : ℕ) → (i : ℕ) × (i ∈ ofRole g k) × (c ≡ part k (cls i)) → c ∈ map slotLine g
+      back : (c : RuleCommand) (k : ℕ) → (i : ℕ) × (i isIn ofRole g k) × (c ≡ part k (cls i)) → c isIn map slotLine g
       back c k t =
           let s = keep-out (λ i. eqb (i / 16) k) g (t .1) in
           rw (t .2 ∙ ap (λ (n : ℕ). part n (cls (t .0))) (sym (eqb-true (t .0 / 16) k (s .1)))) (map-in slotLine (s .0))
@@ -115,14 +117,14 @@ partOf i = record { role = i / 16; lead = i % 16 }
 
 module _ (P : Setting) (R : Roles) where
   -- two slots with the same role and the same class are one
-  pub class-slot : (i j : ℕ) → partOf i ∈ parts P R → partOf j ∈ parts P R → i / 16 ≡ j / 16 → classOf P R (partOf i) ≡ classOf P R (partOf j) → i ≡ j
+  pub class-slot : (i j : ℕ) → partOf i isIn parts P R → partOf j isIn parts P R → i / 16 ≡ j / 16 → classOf P R (partOf i) ≡ classOf P R (partOf j) → i ≡ j
   class-slot i j mi mj e c = let q = ap (λ (p : Part). p .lead) (class-part P R (partOf i) (partOf j) mi mj e c) in slots-equal i j e q
     where
       slots-equal : (i j : ℕ) → i / 16 ≡ j / 16 → i % 16 ≡ j % 16 → i ≡ j
       slots-equal i j e q = omega arith
 
   -- a group of parts has a line for each
-  pub class-lines-length : (g : List ℕ) → Distinct g → Every (λ i. partOf i ∈ parts P R) g → length (partLinesOf (λ i. classOf P R (partOf i)) g) ≡ length g
+  pub class-lines-length : (g : List ℕ) → Distinct g → Every (λ i. partOf i isIn parts P R) g → length (partLinesOf (λ i. classOf P R (partOf i)) g) ≡ length g
   class-lines-length g d h = part-lines-length (λ i. classOf P R (partOf i)) g d (λ i j mi mj. class-slot i j (h i mi) (h j mj))
 
 -- the lines of a written rule and of a list of slots, sorted

@@ -15,8 +15,10 @@ use Rattle.files.specs.RuleFile.{RuleCommand, byteOf, operandsOf, ruleCo
 use Rattle.policy.specs.MergeLaws.{Every}
 use Rattle.policy.specs.Roles.{Roles}
 use Rattle.policy.specs.Rules.{Setting, user, resource}
-use Rattle.sets.specs.Sorted.{Rising, Before, Strict, and-then}
-use Rattle.sets.specs.Tests.{Is, and-in, and-l, and-r, fails, _∈_, any, all-in, any-out, each, not-in}
+use Rattle.sets.specs.Sorted.{Rising, and-then}
+use Rattle.sets.specs.SortedLaws.{Before, Strict}
+use Rattle.sets.specs.Tests.{Is, _isIn_, any, each}
+use Rattle.sets.specs.TestLaws.{and-in, and-l, and-r, fails, all-in, any-out, not-in}
 
 -- ---- commands
 
@@ -93,14 +95,14 @@ module _ (W : ℕ) where
     pub record Writable (ls : Lines) : Type 0 where
       pub rising : Rising (Before precedes) ls
       pub good : Every Good ls
-      pub single : (c d : RuleCommand) → c ∈ ls → d ∈ ls → Is (isOperations c) → Is (isOperations d) → c ≡ d
+      pub single : (c d : RuleCommand) → c isIn ls → d isIn ls → Is (isOperations c) → Is (isOperations d) → c ≡ d
       pub complete : Is (whole ls)
 
-    rising-before : {A : Type 0} {Q : A → A → Type 0} (pre : List A) (c : A) (ls : List A) → Rising Q (pre ++ (c ∷ ls)) → (d : A) → d ∈ pre → Q d c
+    rising-before : {A : Type 0} {Q : A → A → Type 0} (pre : List A) (c : A) (ls : List A) → Rising Q (pre ++ (c ∷ ls)) → (d : A) → d isIn pre → Q d c
     rising-before [] c ls r d m = absurd (List·Memᴰ·not-nil m)
     rising-before {A = A} {Q = Q} (x ∷ pre) c ls (and-then h r) d m = go (rising-before pre c ls r) (List·Memᴰ·cases-cons m)
       where
-        go : ((d : A) → d ∈ pre → Q d c) → (d ≡ x) ⊎ (d ∈ pre) → Q d c
+        go : ((d : A) → d isIn pre → Q d c) → (d ≡ x) ⊎ (d isIn pre) → Q d c
         go rec (inl e) = rw e (h c (Memᴰ·append-right pre (List·Memᴰ·head refl)))
         go rec (inr k) = rec d k
 

@@ -1,5 +1,6 @@
 -- The bytes of a rule's lines, how many there are, and the rule's cost, all place by place.
 -- Assumes nothing.
+-- the bytes of a line 27
 use Prim.Native.Nat.{ℕ, suc, _+_, _*_, _/_, _%_, _<_}
 use lib.Dec.{ltb}
 use lib.ListN.{length, length-append, length-map}
@@ -8,38 +9,24 @@ use mathlib.Core.List.{List, [], _∷_, _++_, append-nil, map}
 use mathlib.Core.Path.{_≡_, refl, sym, ap, ap₂, _∙_}
 use native.Mathlib.Omega.{arith}
 use Rattle.files.specs.Bytes.{spread}
-use Rattle.files.specs.RuleFile.{RuleCommand, valueByte, isPartLine, Lines, encode, opens, value, operations, link, part, ends}
+use Rattle.files.specs.RuleFile.{RuleCommand, isPartLine, Lines, encode, opens, value, operations, link, part, ends}
 use Rattle.policy.specs.Covering.{fits, levelOf}
 use Rattle.policy.specs.MergeLaws.{Every}
 use Rattle.policy.specs.RuleLaws.{Lawful}
 use Rattle.policy.specs.Rules.{Which, Setting, Cond, Block, user, resource}
 use Rattle.policy.specs.Thinning.{trimCond, written, singleCost, setCost, ruleCost}
 use Rattle.rulelines.specs.ListLaws.{each-ext, each-append, each-only, each-cond, length-each, each-each, each-map, sum-ext, sum-each, sum-kept, sum-append, sum-both}
-use Rattle.rulelines.specs.PartLines.{part-lines-sorted}
-use Rattle.rulelines.specs.RuleLines.{kindPlace, writtenValues, attributeLines, isKind, kindLines, atomLines, ruleLines, ofRole, partLinesOf}
+use Rattle.rulelines.specs.PartLinesLaws.{part-lines-sorted}
+use Rattle.rulelines.specs.RuleLines.{kindPlace, writtenValues, attributeLines, isKind, kindLines, atomLines, ruleLines, ofRole, partLinesOf, valueBytes, partBytes, atomSet, linkBytes}
 use Rattle.rulelines.specs.RuleLinesLaws.{attribute-byte, written-conjunct}
 use Rattle.sets.specs.MaskLaws.{size-mask}
-use Rattle.sets.specs.Sets.{bit, maskOf, size}
+use Rattle.sets.specs.Sets.{bit, size}
 use Rattle.sets.specs.Sorted.{sort}
-use Rattle.sets.specs.Tests.{Is, each, only, from, upTo, upTo-out, sum}
+use Rattle.sets.specs.TestLaws.{upTo-out}
+use Rattle.sets.specs.Tests.{Is, each, only, from, upTo, sum}
 use Rattle.words.specs.FlagLaws.{written-cost}
 use Rattle.words.specs.Flags.{placeSide, placeAttribute, condAt, keptPlaces, placesCost}
 use Rattle.words.specs.Words.{Words, Roomy, wordsOf}
-
--- ---- one line
-
--- the bytes of a line 22 to 25: values of sets are 8 bytes wide, the others 2
-abbrev pub valueBytes : Which → Bool → ℕ → ℕ → List ℕ
-valueBytes w set a v = valueByte w set ∷ a ∷ spread (cond set 8 2) v
-
--- the bytes of a line 27
-abbrev pub linkBytes : ℕ → ℕ → List ℕ
-linkBytes a b = 0x27 ∷ a ∷ b ∷ []
-
--- the bytes of a line 28
-abbrev pub partBytes : ℕ → ℕ → List ℕ
-partBytes k n = 0x28 ∷ k ∷ spread 2 n
-
 -- a byte stands for itself, and nothing follows the last operand
 two-operands : (b x : ℕ) (l : List ℕ) → x < 256 → b ∷ (x % 256 ∷ (l ++ [])) ≡ b ∷ x ∷ l
 two-operands b x l h = let e : x % 256 ≡ x = omega arith in ap₂ (λ (y : ℕ) (s : List ℕ). b ∷ y ∷ s) e (append-nil l)
@@ -109,12 +96,6 @@ parts-bytes cls g low =
     ∙ each-each (encode 2) (λ k. map (part k) (sort ltb (map cls (ofRole g k)))) (upTo 32)
     ∙ each-ext (λ k. each (encode 2) (map (part k) (sort ltb (map cls (ofRole g k))))) (λ k. each (partBytes k) (sort ltb (map cls (ofRole g k)))) (upTo 32)
     (λ k m. let l = upTo-out 32 m in role-bytes k (omega arith) (sort ltb (map cls (ofRole g k))))
-
--- ---- the lines of atoms
-
--- the atoms among the places of a set
-abbrev pub atomSet : ℕ → ℕ
-atomSet m = maskOf 36 (λ j. bit m (14 + j))
 
 module _ (m : ℕ) where
   -- atom by atom

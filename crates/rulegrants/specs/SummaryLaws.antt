@@ -10,44 +10,39 @@ use mathlib.Core.List.{[], _∷_, _++_, List·Memᴰ·head, List·Memᴰ·tail, 
 use mathlib.Core.Logic.{_⊎_, inl, inr, ⊎-elim}
 use mathlib.Core.Path.{_≡_, refl, sym, ap, ap₂, _∙_, subst}
 use native.Mathlib.Omega.{arith}
-use Rattle.admit.specs.AdmitLaws.{Sized}
 use Rattle.conjuncts.specs.LineLaws.{only-none}
 use Rattle.conjuncts.specs.Summary.{placeSide, placeAttribute, valuesFor, metFor, metTable, askedPlaces, isAtom, atomPlaces, metByAll, linkedWith}
 use Rattle.conjuncts.specs.SummaryLaws.{all-append, all-same, side-met}
 use Rattle.files.specs.Calls.{isTriple}
-use Rattle.files.specs.LineLaws.{same-side}
+use Rattle.files.specs.LineLaws.{operationsOr, same-side}
 use Rattle.files.specs.RoleFile.{sideBy, sameSide}
-use Rattle.files.specs.RuleFile.{RuleCommand, Lines, listed, linkOf, operationsOr, operationsIn, valuesIn, conjunctsIn, ruleIn, legal, opens, value, operations, link, part, ends}
+use Rattle.files.specs.RuleFile.{RuleCommand, Lines, listed, linkOf, operationsIn, valuesIn, conjunctsIn, ruleIn, legal, opens, value, operations, link, part, ends}
 use Rattle.grants.specs.LinkLaws.{link-means}
 use Rattle.grants.specs.Links.{linkTable}
-use Rattle.loaded.specs.Record.{recordOf}
+use Rattle.loaded.specs.Record.{Sized, recordOf}
 use Rattle.loaded.specs.RecordLaws.{table-get}
 use Rattle.policy.specs.Policy.{Policy, sideOf, settingOf, rolesIn}
 use Rattle.policy.specs.Roles.{Roles}
 use Rattle.policy.specs.Rules.{own, Which, by, Setting, Cond, meets, attrsOf, holds, grants, at, user, resource, atom}
-use Rattle.rulegrants.specs.RuleGrid.{summaryGrants}
-use Rattle.sets.specs.LoopLaws.{narrowing}
+use Rattle.rulegrants.specs.RuleGrid.{summaryGrants, Legal}
 use Rattle.sets.specs.MaskLaws.{bit-out}
-use Rattle.sets.specs.Sets.{bit, maskOf, bit-mask}
-use Rattle.sets.specs.Tests.{Is, and-l, and-r, test, fails, same, imp, imp-in, imp-out, iff, _∈_, all, any, all-out, all-in, any-in, any-out, each, each-in, each-out, only, only-in, only-out, upTo, upTo-in, upTo-out}
-
--- every line of a rule is legal
-abbrev pub Legal : (P : Setting) → Roles → Lines → Type 0
-Legal P R ls = (c : RuleCommand) → c ∈ ls → Is (legal P R c)
-
+use Rattle.sets.specs.SetLaws.{bit-mask}
+use Rattle.sets.specs.Sets.{narrowing, bit, maskOf}
+use Rattle.sets.specs.TestLaws.{and-l, and-r, test, fails, same, imp-in, imp-out, all-out, all-in, any-in, any-out, each-in, each-out, only-in, only-out, upTo-in, upTo-out}
+use Rattle.sets.specs.Tests.{Is, imp, iff, _isIn_, all, any, each, only, upTo}
 legal-rest : (P : Setting) (R : Roles) (c : RuleCommand) (ls : Lines) → Legal P R (c ∷ ls) → Legal P R ls
 legal-rest P R c ls h d m = h d (List·Memᴰ·tail m)
 
 -- the attributes that a rule may use: those declared and the 255
-attribute-cases : (F : Policy) (w : Which) (a : ℕ) → a ∈ attrsOf (settingOf F .side w) true → (a < length (F .table w .kinds)) ⊎ (a ≡ own)
+attribute-cases : (F : Policy) (w : Which) (a : ℕ) → a isIn attrsOf (settingOf F .side w) true → (a < length (F .table w .kinds)) ⊎ (a ≡ own)
 unfolding attrsOf settingOf sideOf
 attribute-cases F w a m = ⊎-elim (λ k. inl (upTo-out (length (F .table w .kinds)) k)) (λ k. inr (only-out true k .1)) (List·Memᴰ·append-cases (upTo (length (F .table w .kinds))) m)
 
-declared-in : (F : Policy) (w : Which) (a : ℕ) → a < length (F .table w .kinds) → a ∈ attrsOf (settingOf F .side w) true
+declared-in : (F : Policy) (w : Which) (a : ℕ) → a < length (F .table w .kinds) → a isIn attrsOf (settingOf F .side w) true
 unfolding attrsOf settingOf sideOf
 declared-in F w a l = Memᴰ·append-left (only true own) (upTo-in l)
 
-own-in : (F : Policy) (w : Which) → own ∈ attrsOf (settingOf F .side w) true
+own-in : (F : Policy) (w : Which) → own isIn attrsOf (settingOf F .side w) true
 unfolding attrsOf settingOf sideOf
 own-in F w = Memᴰ·append-right (upTo (length (F .table w .kinds))) (only-in own refl)
 
@@ -162,7 +157,7 @@ module _ (F : Policy) (Z : Sized F) where
     atom-line i (part k m) q = absurd (false≢true q)
     atom-line i ends q = absurd (false≢true q)
 
-    link-line : (d : Cond) (c : RuleCommand) → d ∈ linkOf c → (a : ℕ) × (b : ℕ) × (c ≡ link a b) × (d ≡ atom a b)
+    link-line : (d : Cond) (c : RuleCommand) → d isIn linkOf c → (a : ℕ) × (b : ℕ) × (c ≡ link a b) × (d ≡ atom a b)
     link-line d opens m = absurd (List·Memᴰ·not-nil m)
     link-line d (value w s a v) m = absurd (List·Memᴰ·not-nil m)
     link-line d (operations n) m = absurd (List·Memᴰ·not-nil m)
@@ -171,7 +166,7 @@ module _ (F : Policy) (Z : Sized F) where
     link-line d ends m = absurd (List·Memᴰ·not-nil m)
 
     -- its attributes are declared
-    link-declared : (a b : ℕ) → link a b ∈ ls → (a < length (F .table user .kinds)) × (b < length (F .table resource .kinds))
+    link-declared : (a b : ℕ) → link a b isIn ls → (a < length (F .table user .kinds)) × (b < length (F .table resource .kinds))
     unfolding legal settingOf sideOf
     link-declared a b m =
         let q = h (link a b) m in
@@ -189,7 +184,7 @@ module _ (F : Policy) (Z : Sized F) where
         there q = all-in (λ c. holds (settingOf F) c u r) (each linkOf ls) (λ d m.
             let t = each-out linkOf ls m in
             let w = link-line d (t .0) (t .2) in
-            let p = subst (λ c. c ∈ ls) (w .2) (t .1) in
+            let p = subst (λ c. c isIn ls) (w .2) (t .1) in
             let k = link-declared (w .0) (w .1) p in
             let ka = k .0 in
             let kb = k .1 in
@@ -206,7 +201,7 @@ module _ (F : Policy) (Z : Sized F) where
             let l = upTo-out 36 m in
             let t = any-out (isAtom i) ls (sym (bit-mask 36 (λ i. any (isAtom i) ls) i l) ∙ g) in
             let w = atom-line i (t .0) (t .2) in
-            let p = subst (λ c. c ∈ ls) (w .2) (t .1) in
+            let p = subst (λ c. c isIn ls) (w .2) (t .1) in
             let k = link-declared (w .0) (w .1) p in
             let e = link-means F Z (w .0) (w .1) u r (k .0) (k .1) hu hr in
             subst (λ (x : ℕ). Is (linkedRow x u r)) (sym (w .3)) (e ∙ all-out (λ c. holds (settingOf F) c u r) q (each-in linkOf p (List·Memᴰ·head refl)))))

@@ -1,0 +1,44 @@
+-- The stages of mining: what each is handed of a policy, and what it leaves.
+-- Assumes nothing.
+use Prim.Native.Nat.{ℕ, _≤_}
+use lib.ListN.{length}
+use mathlib.Core.List.{List}
+use mathlib.Core.Path.{_≡_}
+use Rattle.distinct.specs.Distinct.{distinctTable, havingTable, insideTable}
+use Rattle.files.specs.Answer.{told, accepted}
+use Rattle.files.specs.Calls.{countValues, mineAnswer, mineOutput}
+use Rattle.files.specs.RoleFile.{readRoles}
+use Rattle.loaded.specs.Record.{recordOf}
+use Rattle.merging.specs.Steps.{Tables}
+use Rattle.mining.specs.Mined.{minedNumbers}
+use Rattle.policy.specs.Policy.{Policy}
+use Rattle.mining.specs.declared.Mined.{Mined}
+
+-- the tables and numbers are those of the policy's record
+pub record Stored (F : Policy) (known values kinds attributes holders permissions : List ℕ) (users resources operations roles : ℕ) : Type 0 where
+  pub of-known : known ≡ recordOf F .known
+  pub of-values : values ≡ recordOf F .values
+  pub of-kinds : kinds ≡ recordOf F .kinds
+  pub of-attributes : attributes ≡ recordOf F .attributes
+  pub of-holders : holders ≡ recordOf F .holders
+  pub of-permissions : permissions ≡ recordOf F .permissions
+  pub of-users : users ≡ recordOf F .users
+  pub of-resources : resources ≡ recordOf F .resources
+  pub of-operations : operations ≡ recordOf F .operations
+  pub of-roles : roles ≡ recordOf F .roles
+
+-- the tables by which parts are merged and rules written are those of the policy
+pub record Tabled (F : Policy) (links matches known attributes holders permissions kinds distinct having inside : List ℕ) (users resources operations roles : ℕ) : Type 0 where
+  pub merging-by : Tables F links matches known attributes holders permissions users resources operations roles
+  pub of-kinds : kinds ≡ recordOf F .kinds
+  pub of-distinct : distinct ≡ distinctTable (recordOf F .values) (recordOf F .holders) (recordOf F .kinds) (recordOf F .roles)
+  pub of-having : having ≡ havingTable (recordOf F .values) (recordOf F .holders) (recordOf F .kinds) (recordOf F .roles)
+  pub of-inside : inside ≡ insideTable (recordOf F .values) (recordOf F .holders) (recordOf F .kinds) (recordOf F .roles)
+
+-- the answer and the output, from the file, the words of scratch and the former output
+abbrev pub Outcome : List ℕ → ℕ → List ℕ → Mined → List ℕ → Type 0
+Outcome file scratch former r out = (minedNumbers r ≡ told countValues (mineAnswer 2 file scratch (length former))) × (out ≡ mineOutput 2 file scratch former)
+
+-- the same for every file that states a policy
+abbrev pub Result : Policy → List ℕ → Mined → List ℕ → Type 0
+Result F former r out = (file : List ℕ) (n : ℕ) → 4096 ≤ n → readRoles 2 file ≡ accepted F → Outcome file n former r out

@@ -1,0 +1,125 @@
+#!/usr/bin/env python3
+"""Try wrong meanings: each must fail a row of the table of examples.
+
+    tests/meanings.py
+
+A file tests/meanings/NAME.edit is a wrong meaning: a definition's file, its old and its new
+text, as in a must-fail edit, and the name of the row that it fails.
+
+`rt must-fail` edits one crate and proves that crate alone, and the definitions stand in crates
+below the table's. So the table and the definitions that it rests on are copied to
+target/meanings. There the table is proved as it stands; then, with each edit in turn, that the
+row fails. What the table does not rest on, code and laws, is not copied: many laws are true of
+a wrong meaning too, and none is to refuse it in the table's place.
+"""
+import os
+import re
+import shutil
+import subprocess
+import sys
+
+ROOT = os.path.dirname(os.path.dirname(os.path.abspath(__file__)))
+EDITS = os.path.join(ROOT, "tests", "meanings")
+COPY = os.path.join(ROOT, "target", "meanings")
+
+# each crate stands on all before it
+CRATES = ["sets", "policy", "files", "examples"]
+
+# the table's proof: its module and its statement, and what is stated of a wrong meaning
+PROOF = ("examples", "ExamplesLaws")
+ALL_HOLD = "pub shown : failing table ≡ []\n"
+ONE_FAILS = 'pub shown : any (eqt "{row}") (failing table) ≡ true\n'
+WORDS = """use lib.Text.{eqt}
+use mathlib.Core.Bool.{true}
+use Rattle.sets.specs.Tests.{any}
+"""
+
+# `use Rattle.policy.specs.Rules.{..}`, and inside crate policy `use Rattle.policy.specs.Rules.{..}`
+USE = re.compile(r"^use Rattle·(\w+)(?:·specs)?\.specs\.(\w+)\.", re.MULTILINE)
+
+
+def fail(why):
+    sys.exit(f"meanings: {why}")
+
+
+def read(*path):
+    with open(os.path.join(*path), encoding="utf-8") as file:
+        return file.read()
+
+
+def write(text, *path):
+    name = os.path.join(*path)
+    os.makedirs(os.path.dirname(name), exist_ok=True)
+    with open(name, "w", encoding="utf-8") as file:
+        file.write(text)
+
+
+def replaced(text, old, new, where):
+    if text.count(old) != 1:
+        fail(f"{where}: {old.strip()!r} stands there {text.count(old)} times")
+    return text.replace(old, new)
+
+
+def source(crate, module):
+    return os.path.join("crates", crate, "specs", f"{module}.antt")
+
+
+def rests_on(module, found):
+    """The module, those that it uses, those that they use, and so on."""
+    if module not in found:
+        found.add(module)
+        for used in USE.findall(read(ROOT, source(*module))):
+            rests_on(used, found)
+    return found
+
+
+def copy_crates():
+    shutil.rmtree(COPY, ignore_errors=True)
+    modules = rests_on(PROOF, set())
+    for crate in CRATES:
+        names = sorted(name for owner, name in modules if owner == crate)
+        for name in names:
+            write(read(ROOT, source(crate, name)), COPY, source(crate, name))
+        write("".join(f"pub mod {name}\n" for name in names), COPY, source(crate, "Lib"))
+        write("// Definitions only.\n", COPY, "crates", crate, "src", "lib.rt")
+    order = [f"{crate}: {' '.join(reversed(CRATES[:at]))}" for at, crate in enumerate(CRATES)]
+    write("".join(f"{line}\n" for line in order), COPY, "crates.txt")
+
+
+def prove(what):
+    """Prove the table's crate in the copy, or end with what the prover says."""
+    done = subprocess.run(["rt", "check", "examples"], cwd=COPY, capture_output=True, text=True)
+    if done.returncode != 0:
+        fail(f"{what}: not proved\n{done.stdout}{done.stderr}")
+
+
+def read_edit(name):
+    keys = ["file", "old", "new", "row"]
+    lines = [line.split(": ", 1) for line in read(EDITS, name).splitlines()]
+    if [line[0] for line in lines] != keys:
+        fail(f"{name}: its lines are {', '.join(keys)}")
+    return [line[1] for line in lines]
+
+
+def try_edit(name):
+    path, old, new, row = read_edit(name)
+    text, proof = read(COPY, path), read(COPY, source(*PROOF))
+    write(replaced(text, old, new, f"{name}: {path}"), COPY, path)
+    write(WORDS + replaced(proof, ALL_HOLD, ONE_FAILS.format(row=row), source(*PROOF)), COPY, source(*PROOF))
+    prove(f"{name}: that it fails the row '{row}'")
+    write(text, COPY, path)
+    write(proof, COPY, source(*PROOF))
+    print(f"meanings: {name[: -len('.edit')]} fails '{row}'", flush=True)
+
+
+def main():
+    names = [name for name in os.listdir(EDITS) if name.endswith(".edit")]
+    copy_crates()
+    prove("the table")
+    # those of one file together: what stands below it is not proved again
+    for name in sorted(names, key=lambda name: (read_edit(name)[0], name)):
+        try_edit(name)
+    print(f"meanings: the table refuses {len(names)} wrong meanings")
+
+
+main()
