@@ -24,7 +24,11 @@
  *   - A length is that of the memory behind its pointer, and that memory stays as it is until the
  *     call returns.
  *   - What is lent to be written to overlaps nothing else that is lent to the same call.
- *   - The stack has the room that the call names: one that is too small is not noticed.
+ *   - The stack has at least the room that the call names. The calls keep their tables there, arrays
+ *     of tens of kilobytes in a single frame: a thread's stack of 128 KB is too small for the judge.
+ *     No call notices that there is too little. Without a guard page below the stack, memory beside
+ *     it is overwritten; and a frame of this size may step over a guard page. Today's archive touches
+ *     the pages of a frame one after the other and so runs into it, but nothing promises that.
  *
  * Lengths of files and of output are in bytes, that of scratch is in words of 64 bits. Users,
  * resources, operations, roles, rules and parts are numbered from 0.

@@ -22,11 +22,11 @@ import rattle
 
 # The public calls: crate and function, or a crate alone for all its functions for C. No crate is named elsewhere here.
 CALLS = [
-    ("rolefile", "read"),
-    ("rolequestion", "ask"),
-    ("rulefile", "read"),
-    ("rulequestion", "ask"),
-    ("judging", "judge"),
+    ("role_file", "read"),
+    ("role_question", "ask"),
+    ("rule_file", "read"),
+    ("rule_question", "ask"),
+    ("rule_judge", "judge"),
     ("mining", "mine"),
     ("fichtengarn", None),
 ]

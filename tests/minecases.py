@@ -1,7 +1,7 @@
 #!/usr/bin/env python3
-"""Make the cases of the program minecases, and their answers, with the help of a second miner.
+"""Make the cases of the program test_mine, and their answers, with the help of a second miner.
 
-    tests/minecases.py SECOND-MINER      write crates/minecases/stdin and crates/minecases/stdout
+    tests/minecases.py SECOND-MINER      write crates/test_mine/stdin and crates/test_mine/stdout
 
 SECOND-MINER is the command of an independent implementation of the paper 01. It takes
 'batch' and then one command a line on standard input (see secondminer.py); here 'gen',
@@ -613,7 +613,7 @@ def main():
     if len(sys.argv) != 2:
         sys.exit(__doc__)
     second_miner = sys.argv[1]
-    crate = os.path.join(os.path.dirname(os.path.abspath(__file__)), "..", "crates", "minecases")
+    crate = os.path.join(os.path.dirname(os.path.abspath(__file__)), "..", "crates", "test_mine")
     found = list(each_once(GROUPS + [functools.partial(group, second_miner) for group in MADE]))
     long_ones = list(long_files())
     files = {file: None for file, *_ in found + long_ones}

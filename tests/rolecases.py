@@ -1,8 +1,8 @@
 #!/usr/bin/env python3
-"""Make the cases of the program rolecases, and their answers by a second miner.
+"""Make the cases of the program test_role, and their answers by a second miner.
 
-    tests/rolecases.py                   write crates/rolecases/stdin
-    tests/rolecases.py SECOND-MINER      write crates/rolecases/stdout as well
+    tests/rolecases.py                   write crates/test_role/stdin
+    tests/rolecases.py SECOND-MINER      write crates/test_role/stdout as well
 
 SECOND-MINER is the command of an independent implementation of the paper 01. It
 takes 'batch' and then, on standard input, lines 'read-roles FILE' and
@@ -468,7 +468,7 @@ def answers(second_miner, all_cases):
 def main():
     if len(sys.argv) > 2:
         sys.exit(__doc__)
-    crate = os.path.join(os.path.dirname(os.path.abspath(__file__)), "..", "crates", "rolecases")
+    crate = os.path.join(os.path.dirname(os.path.abspath(__file__)), "..", "crates", "test_role")
     all_cases = list(each_once(GROUPS))
     whole = corpus(all_cases)
     with open(os.path.join(crate, "stdin"), "wb") as out:

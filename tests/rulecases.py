@@ -1,7 +1,7 @@
 #!/usr/bin/env python3
-"""Make the cases of the program rulecases, and their answers, with the help of a second miner.
+"""Make the cases of the program test_rule, and their answers, with the help of a second miner.
 
-    tests/rulecases.py SECOND-MINER      write crates/rulecases/stdin and crates/rulecases/stdout
+    tests/rulecases.py SECOND-MINER      write crates/test_rule/stdin and crates/test_rule/stdout
 
 SECOND-MINER is the command of an independent implementation of the paper 01. It takes
 'batch' and then one command a line on standard input (see secondminer.py).
@@ -1203,7 +1203,7 @@ def main():
     if len(sys.argv) != 2:
         sys.exit(__doc__)
     second_miner = sys.argv[1]
-    crate = os.path.join(os.path.dirname(os.path.abspath(__file__)), "..", "crates", "rulecases")
+    crate = os.path.join(os.path.dirname(os.path.abspath(__file__)), "..", "crates", "test_rule")
     all_cases = list(each_once(GROUPS + [functools.partial(group, second_miner) for group in MADE]))
     whole = corpus(all_cases)
     with open(os.path.join(crate, "stdin"), "wb") as out:

@@ -2,7 +2,11 @@
 //! describes with every promise. No heap is used, so the package does without `std`.
 //!
 //! A slice is what the C interface asks for: its pointer is never null, its length is true, and
-//! what is lent to be written to overlaps nothing else. So no caller owes anything more.
+//! what is lent to be written to overlaps nothing else. So a caller owes no more than the stack
+//! that the header names for each call.
+//!
+//! The build links `libfichtengarn.a` from the repository's `target/staticlib`, or from the folder
+//! that the variable `FICHTENGARN_LIB_DIR` names.
 #![no_std]
 
 mod interface;

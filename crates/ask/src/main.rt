@@ -3,7 +3,7 @@
 // Where the system does not read a file, a line on standard error says so and there is no answer.
 ghost use Prim.Native.Nat.{_≤_};
 use programs::Number;
-use rolequestion::Reply;
+use role_question::Reply;
 
 enum Asked {
     About(usize, usize, usize),
@@ -20,13 +20,25 @@ fn usage() {
 fn question(i: usize) -> Asked
     requires { ⌜ i ≤ 3 ⌝ }
 {
-    let Number::Given(user) = programs::number_named(i) else {
+    let Number::Given(user) = programs::number_named(
+        b"ask",
+        i,
+        b"USER is no number of up to 4,096 digits\n",
+    ) else {
         return Asked::Wrong;
     };
-    let Number::Given(resource) = programs::number_named(i + 1) else {
+    let Number::Given(resource) = programs::number_named(
+        b"ask",
+        i + 1,
+        b"RESOURCE is no number of up to 4,096 digits\n",
+    ) else {
         return Asked::Wrong;
     };
-    let Number::Given(operation) = programs::number_named(i + 2) else {
+    let Number::Given(operation) = programs::number_named(
+        b"ask",
+        i + 2,
+        b"OPERATION is no number of up to 4,096 digits\n",
+    ) else {
         return Asked::Wrong;
     };
     Asked::About(user, resource, operation)
@@ -39,7 +51,10 @@ fn say_granted(by_rules: bool, granted: bool, user: usize, resource: usize, oper
     let headed = programs::say_count(true, b"answer ", granted as usize);
     let marked = programs::say(headed, b": ");
     let told = programs::say(marked, &words[..length]);
-    programs::end_line(programs::say_triple(told, user, resource, operation));
+    programs::end_line(
+        b"ask",
+        programs::say_triple(told, user, resource, operation),
+    );
 }
 
 // Prints the answer.
@@ -52,7 +67,7 @@ fn answer(by_rules: bool, reply: Reply, user: usize, resource: usize, operation:
             say_granted(by_rules, false, user, resource, operation);
         }
         Reply::Refused(n) => {
-            programs::refuse(n);
+            programs::refuse(b"ask", n);
         }
     }
 }
@@ -60,19 +75,19 @@ fn answer(by_rules: bool, reply: Reply, user: usize, resource: usize, operation:
 // The rule question about a role file that was read.
 fn ask_rules(file: &[u8], user: usize, resource: usize, operation: usize) {
     let mut lines = programs::rules_buffer();
-    let rules = programs::read_rules(2, &mut lines);
+    let rules = programs::read_rules(b"ask", 2, file, &mut lines);
     if rules.failed {
         return;
     }
     let n = rules.length;
-    let reply = rulequestion::ask(file, &lines[0..n], user, resource, operation);
+    let reply = rule_question::ask(file, &lines[0..n], user, resource, operation);
     answer(true, reply, user, resource, operation);
 }
 
 // Reads the role file, and asks the roles or the rules.
 fn ask_files(by_rules: bool, user: usize, resource: usize, operation: usize) {
     let mut file = io::large_buffer();
-    let roles = programs::read_named(1, &mut file);
+    let roles = programs::read_named(b"ask", 1, &mut file);
     if roles.failed {
         return;
     }
@@ -81,7 +96,7 @@ fn ask_files(by_rules: bool, user: usize, resource: usize, operation: usize) {
         ask_rules(&file[0..n], user, resource, operation);
         return;
     }
-    let reply = rolequestion::ask(&file[0..n], user, resource, operation);
+    let reply = role_question::ask(&file[0..n], user, resource, operation);
     answer(false, reply, user, resource, operation);
 }
 

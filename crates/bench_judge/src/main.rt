@@ -3,10 +3,10 @@
 // does the same, and the two are measured against each other; beside the proofs it judges example A of 01, a hundred times.
 ghost use mathlib.Core.Path.{_≡_};
 ghost use Rattle.files.specs.Answer.{told};
-ghost use Rattle.files.specs.Calls.{judge};
-ghost use Rattle.judging.specs.Judgement.{verdictTold, judgementNumbers};
+ghost use Rattle.files.specs.Calls.{judge, verdictTold};
+ghost use Rattle.rule_judge.specs.Judgement.{judgementNumbers};
 ghost use Rattle.bench_judge.specs.Checksum.{weightOf, sampleOf, total};
-use judging::Judgement;
+use rule_judge::Judgement;
 
 // The verdict's number and values, added up.
 fn weight(judgement: Judgement) -> u64
@@ -29,11 +29,12 @@ fn weight(judgement: Judgement) -> u64
 fn sample(file: &[u8], rules: &[u8], turn: usize) -> u64
     ensures { λ r. ⌜ r ≡ sampleOf (told verdictTold (judge 2 (now (file .entry)) (now (rules .entry)))) turn ⌝ }
 {
-    std::num::wrapping_add_u64(weight(judging::judge(file, rules)), turn as u64)
+    std::num::wrapping_add_u64(weight(rule_judge::judge(file, rules)), turn as u64)
 }
 
 fn checksum(file: &[u8], rules: &[u8], turns: usize) -> u64
-    ensures { λ r. ⌜ r ≡ total (sampleOf (told verdictTold (judge 2 (now (file .entry)) (now (rules .entry))))) turns ⌝ }
+    ensures { λ r. ⌜
+        r ≡ total (sampleOf (told verdictTold (judge 2 (now (file .entry)) (now (rules .entry))))) turns ⌝ }
 {
     let mut sum: u64 = 0;
     for turn in 0..turns {
@@ -44,9 +45,9 @@ fn checksum(file: &[u8], rules: &[u8], turns: usize) -> u64
 
 // Prints the checksum of what stands behind the numbers in front.
 fn print_checksum(s: &[u8]) {
-    let turns = commands::byte_at(s, 0) + 256 * commands::byte_at(s, 1);
-    let low = commands::byte_at(s, 2);
-    let high = commands::byte_at(s, 3);
+    let turns = role_commands::byte_at(s, 0) + 256 * role_commands::byte_at(s, 1);
+    let low = role_commands::byte_at(s, 2);
+    let high = role_commands::byte_at(s, 3);
     let end = 4 + low + 256 * high;
     if s.len() < end {
         return;

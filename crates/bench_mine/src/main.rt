@@ -31,13 +31,25 @@ fn weight(mined: Mined) -> u64
 
 // Mines once, and adds the turn.
 fn sample(file: &[u8], scratch: &mut [u64], out: &mut [u8], turn: usize) -> u64
-    ensures { λ r. ⌜ r ≡ sampleOf (told countValues (mineAnswer 2 (now (file .entry)) (length (now (scratch .entry))) (length (now (out .entry))))) turn ⌝ }
+    ensures { λ r. ⌜
+        r
+        ≡ sampleOf
+        (told countValues
+        (mineAnswer 2 (now (file .entry)) (length (now (scratch .entry))) (length (now (out .entry)))))
+        turn ⌝ }
 {
     std::num::wrapping_add_u64(weight(mining::mine(file, scratch, out)), turn as u64)
 }
 
 fn checksum(file: &[u8], scratch: &mut [u64], out: &mut [u8], turns: usize) -> u64
-    ensures { λ r. ⌜ r ≡ total (sampleOf (told countValues (mineAnswer 2 (now (file .entry)) (length (now (scratch .entry))) (length (now (out .entry)))))) turns ⌝ }
+    ensures { λ r. ⌜
+        r
+        ≡ total
+        (sampleOf
+        (told countValues
+        (mineAnswer 2 (now (file .entry)) (length (now (scratch .entry)))
+        (length (now (out .entry))))))
+        turns ⌝ }
 {
     let mut sum: u64 = 0;
     for turn in 0..turns {
@@ -51,7 +63,7 @@ fn print_checksum(s: &[u8]) {
     if s.len() < 2 {
         return;
     }
-    let turns = commands::byte_at(s, 0) + 256 * commands::byte_at(s, 1);
+    let turns = role_commands::byte_at(s, 0) + 256 * role_commands::byte_at(s, 1);
     let mut scratch = [0u64; 4096];
     // more than the longest rule file of bench/mine
     let mut out = [0u8; 524288];

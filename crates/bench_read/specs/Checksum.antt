@@ -2,7 +2,7 @@
 -- Assumes nothing.
 use Prim.Native.Nat.{ℕ, zero, suc, _+_, _%_, _^_}
 use lib.ListN.{getD}
-use Rattle.rolefile.specs.declared.Loaded.{Loaded}
+use Rattle.role_file.specs.declared.Loaded.{Loaded}
 
 abbrev pub plus : ℕ → ℕ → ℕ
 plus a b = (a + b) % 2 ^ 64

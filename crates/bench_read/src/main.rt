@@ -3,14 +3,14 @@
 // it reads example A of 01, a hundred times.
 ghost use mathlib.Core.Path.{_≡_};
 ghost use Rattle.files.specs.RoleFile.{readRoles};
-ghost use Rattle.rolefile.specs.Reading.{loadedOf};
+ghost use Rattle.role_file.specs.Reading.{loadedOf};
 ghost use Rattle.bench_read.specs.Checksum.{sampleOf, total};
 
 // Reads once, and adds up some words of the record, other words each turn.
 fn sample(s: &[u8], turn: usize) -> u64
     ensures { λ r. ⌜ r ≡ sampleOf (loadedOf (readRoles 2 (now (s .entry)))) turn ⌝ }
 {
-    let l = rolefile::read(s);
+    let l = role_file::read(s);
     let f = l.file;
     let given = std::num::wrapping_add_u64(f.values[turn % 768], f.permissions[turn % 512]);
     let worked_out = std::num::wrapping_add_u64(f.seniors[turn % 32], f.holders[turn % 32]);
@@ -31,7 +31,7 @@ fn checksum(s: &[u8], turns: usize) -> u64
 fn main() {
     let mut head = [0u8; 2];
     io::read_full(0, &mut head);
-    let turns = commands::byte_at(&head, 0) + 256 * commands::byte_at(&head, 1);
+    let turns = role_commands::byte_at(&head, 0) + 256 * role_commands::byte_at(&head, 1);
     let mut file = io::large_buffer();
     let n = io::read_full(0, &mut file);
     io::print_decimal(1, checksum(&file[..n], turns));

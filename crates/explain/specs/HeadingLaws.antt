@@ -1,4 +1,4 @@
--- Reading a heading line by line.
+-- Reading a rule's lines one by one.
 -- Assumes nothing.
 use Prim.Native.Nat.{ℕ, zero, suc, _+_, _≤_, _<_}
 use borrow.Author.Tests.{ltb-false}
@@ -6,18 +6,18 @@ use lib.Dec.{eqb, ltb}
 use lib.ListN.{length, getD, drop, length-drop}
 use lib.Seq.{drop-drop}
 use mathlib.Core.Bool.{Bool, true, false, cond}
-use mathlib.Core.List.{List, []}
+use mathlib.Core.List.{List}
 use mathlib.Core.Option.{Option, none, some}
 use mathlib.Core.Path.{_≡_, refl, sym, ap, ap₂, _∙_, subst}
 use native.Mathlib.Omega.{arith}
-use Rattle.commands.specs.Decode.{numberAt, totalOf, numbersAt}
-use Rattle.explain.specs.Headings.{asLine, lineOf, inRule, noted, headOn, headingOf}
+use Rattle.role_commands.specs.Decode.{numberAt, totalOf, numbersAt}
+use Rattle.explain.specs.Headings.{asLine, lineOf, inRule, noted, notesOn, notesOf}
 use Rattle.files.specs.RuleFile.{ruleWidths}
-use Rattle.rulecommands.specs.Raw.{takenBy, rawBy, rawOf}
-use Rattle.explain.specs.declared.line.Heading.{Heading}
+use Rattle.rule_commands.specs.Raw.{takenBy, rawBy, rawOf}
+use Rattle.explain.specs.declared.line.Notes.{Notes}
 use Rattle.explain.specs.declared.line.Line.{Line}
-use Rattle.rulecommands.specs.declared.Raw.{Raw}
-use Rattle.rulecommands.specs.declared.Raw.the-variants.{Whole, Unknown, Short}
+use Rattle.rule_commands.specs.declared.Raw.{Raw}
+use Rattle.rule_commands.specs.declared.Raw.the-variants.{Whole, Unknown, Short}
 
 -- ---- a line takes bytes, and no more than there are
 
@@ -68,23 +68,23 @@ front-line s r e = (ap asLine e, subst (λ (t : Raw). asLine t .width ≤ length
 
 -- ---- reading on
 
--- reading on from here with this heading gives the rule's heading
-pub record Reading (s : List ℕ) (h : Heading) (at : ℕ) : Type 0 where
+-- reading on from here with these notes gives the rule's notes
+pub record Reading (s : List ℕ) (h : Notes) (at : ℕ) : Type 0 where
   pub fuel : ℕ
   pub enough : length s < at + fuel
   pub inside : at ≤ length s
-  pub rest : headOn fuel h (drop at s) ≡ headingOf s
+  pub rest : notesOn fuel h (drop at s) ≡ notesOf s
 
 pub begun : (s : List ℕ) → Reading s (record { operations = 0; roles = false; numbers = false }) 0
-unfolding headingOf
+unfolding notesOf
 begun s = record { fuel = suc (length s); enough = omega arith; inside = omega arith; rest = refl }
 
-module _ (s : List ℕ) (h : Heading) (at : ℕ) (r : Reading s h at) (l : Line) (found : l ≡ lineOf (drop at s)) where
+module _ (s : List ℕ) (h : Notes) (at : ℕ) (r : Reading s h at) (l : Line) (found : l ≡ lineOf (drop at s)) where
   -- where the line does not stand inside the rule, or there is none
-  pub ended : inRule (l .byte) ≡ false → h ≡ headingOf s
+  pub ended : inRule (l .byte) ≡ false → h ≡ notesOf s
   ended e = go (r .fuel) (r .rest)
     where
-      go : (n : ℕ) → headOn n h (drop at s) ≡ headingOf s → h ≡ headingOf s
+      go : (n : ℕ) → notesOn n h (drop at s) ≡ notesOf s → h ≡ notesOf s
       go zero k = k
       go (suc n) k = sym (rw (ap (λ (t : Line). inRule (t .byte)) (sym found) ∙ e) refl) ∙ k
 
@@ -98,16 +98,16 @@ module _ (s : List ℕ) (h : Heading) (at : ℕ) (r : Reading s h at) (l : Line)
         let d = line-some (drop at s) (ap (λ (t : Line). inRule (t .byte)) (sym found) ∙ e) in
         (omega arith, omega (arith, length-drop at s))
 
-    pub one-more : (t : Heading) → t ≡ noted h (l .byte) (l .first) → Reading s t (at + l .width)
+    pub one-more : (t : Notes) → t ≡ noted h (l .byte) (l .first) → Reading s t (at + l .width)
     one-more t q = go (r .fuel) (r .enough) (r .rest)
       where
-        -- what is left behind the line, with the heading that it makes
-        left : (n : ℕ) → headOn n t (drop (at + l .width) s) ≡ headOn n (noted h (lineOf (drop at s) .byte) (lineOf (drop at s) .first)) (drop (lineOf (drop at s) .width) (drop at s))
+        -- what is left behind the line, with the notes that it makes
+        left : (n : ℕ) → notesOn n t (drop (at + l .width) s) ≡ notesOn n (noted h (lineOf (drop at s) .byte) (lineOf (drop at s) .first)) (drop (lineOf (drop at s) .width) (drop at s))
         left n =
-            ap₂ (headOn n) (q ∙ ap (λ (m : Line). noted h (m .byte) (m .first)) found)
+            ap₂ (notesOn n) (q ∙ ap (λ (m : Line). noted h (m .byte) (m .first)) found)
             (sym (drop-drop (l .width) at s) ∙ ap (λ (m : Line). drop (m .width) (drop at s)) found)
 
-        go : (n : ℕ) → length s < at + n → headOn n h (drop at s) ≡ headingOf s → Reading s t (at + l .width)
+        go : (n : ℕ) → length s < at + n → notesOn n h (drop at s) ≡ notesOf s → Reading s t (at + l .width)
         go zero m k = let a = r .inside in absurd (omega arith)
         go (suc n) m k =
             let w = taken in

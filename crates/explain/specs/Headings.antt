@@ -1,18 +1,25 @@
--- What the lines of a rule say of it: its operations and its level.
+-- What the heading of a rule says of it: its operations and its level. And which lines are told as what.
 -- Assumes nothing.
 use Prim.Native.Nat.{ℕ, zero, suc}
 use lib.Dec.{eqb}
 use lib.ListN.{length, drop}
-use mathlib.Core.Bool.{Bool, true, false, cond, _&&_, _||_, not}
-use mathlib.Core.List.{List}
-use Rattle.policy.specs.Rules.{ownAt, user, resource}
+use mathlib.Core.Bool.{Bool, false, cond, _&&_, _||_}
+use mathlib.Core.List.{List, []}
+use mathlib.Core.Option.{some}
+use mathlib.Core.Path.{_≡_}
+use Rattle.files.specs.Answer.{andThen, accepted}
+use Rattle.files.specs.Bytes.{readOn}
+use Rattle.files.specs.RoleFile.{readRoles}
+use Rattle.files.specs.RuleFile.{Lines, ruleFormat}
+use Rattle.levels.specs.Levels.{levelOf}
+use Rattle.policy.specs.Policy.{Policy, settingOf, rolesIn}
 use Rattle.programs.specs.Numbers.{isWithin}
-use Rattle.rulecommands.specs.Raw.{rawOf}
-use Rattle.sets.specs.Lowest.{lowest}
+use Rattle.rule_commands.specs.Raw.{rawOf}
 use Rattle.explain.specs.declared.line.Heading.{Heading}
 use Rattle.explain.specs.declared.line.Line.{Line}
-use Rattle.rulecommands.specs.declared.Raw.{Raw}
-use Rattle.rulecommands.specs.declared.Raw.the-variants.{Whole, Unknown, Short}
+use Rattle.explain.specs.declared.line.Notes.{Notes}
+use Rattle.rule_commands.specs.declared.Raw.{Raw}
+use Rattle.rule_commands.specs.declared.Raw.the-variants.{Whole, Unknown, Short}
 
 abbrev pub noLine : Line
 noLine = record { byte = 0; first = 0; second = 0; width = 0 }
@@ -31,20 +38,41 @@ abbrev pub inRule : ℕ → Bool
 inRule b = isWithin b 0x22 0x28
 
 -- one line more: a 26 says the operations, a 23 with 255 lists roles, a 24 with 255 resources
-unfoldable pub noted : Heading → ℕ → ℕ → Heading
+unfoldable pub noted : Notes → ℕ → ℕ → Notes
 noted h b x =
     cond (eqb b 0x26)
     (record { operations = x; roles = h .roles; numbers = h .numbers })
     (record { operations = h .operations; roles = h .roles || (eqb b 0x23 && eqb x 255); numbers = h .numbers || (eqb b 0x24 && eqb x 255) })
 
 -- all lines up to the next command that does not stand inside a rule; n is more than there can be
-abbrev pub headOn : ℕ → Heading → List ℕ → Heading
-headOn zero h s = h
-headOn (suc n) h s = let r = headOn n (noted h (lineOf s .byte) (lineOf s .first)) (drop (lineOf s .width) s) in cond (inRule (lineOf s .byte)) r h
+abbrev pub notesOn : ℕ → Notes → List ℕ → Notes
+notesOn zero h s = h
+notesOn (suc n) h s = let r = notesOn n (noted h (lineOf s .byte) (lineOf s .first)) (drop (lineOf s .width) s) in cond (inRule (lineOf s .byte)) r h
 
+unfoldable pub notesOf : List ℕ → Notes
+notesOf s = notesOn (suc (length s)) (record { operations = 0; roles = false; numbers = false }) s
+
+-- the heading of the rule whose lines stand in front
 unfoldable pub headingOf : List ℕ → Heading
-headingOf s = headOn (suc (length s)) (record { operations = 0; roles = false; numbers = false }) s
+headingOf s = record { operations = notesOf s .operations; level = levelOf (notesOf s .roles) (notesOf s .numbers) }
 
--- "A rule's level is the lowest that allows its conjuncts", by the two 255s that it uses
-unfoldable pub levelOf : Bool → Bool → ℕ
-levelOf roles numbers = lowest (λ l. (not roles || ownAt user l) && (not numbers || ownAt resource l))
+-- These bytes stand behind the 21 of rule n of a rule file that was accepted with these rules: the reader, which has the rules before it and has
+-- opened this one, goes on from here and comes to them.
+pub record RuleAt (F : Policy) (rules : List Lines) (n : ℕ) (s : List ℕ) : Type 0 where
+  -- the policy is that of a role file
+  pub file : List ℕ
+  pub stated : readRoles 2 file ≡ accepted F
+  pub earlier : List Lines
+  pub number : length earlier ≡ n
+  pub fuel : ℕ
+  pub accepts : andThen (readOn (ruleFormat 2 (settingOf F) (rolesIn F)) fuel false (record { complete = earlier; current = some [] }) s) (λ t. accepted (t .complete)) ≡ accepted rules
+
+-- ---- which lines are told as what
+
+-- a line that states a condition: a value of a conjunct, 22 to 25, or an atom, 27
+abbrev pub isCondition : ℕ → Bool
+isCondition b = isWithin b 0x22 0x25 || eqb b 0x27
+
+-- a line gives a further value of the conjunct that the line before it gives one of: the same command of 22 to 25, with the same attribute
+abbrev pub goesOn : ℕ → ℕ → ℕ → ℕ → Bool
+goesOn b a former attribute = isWithin b 0x22 0x25 && (eqb b former && eqb a attribute)

@@ -1,2 +1,3 @@
 pub mod Headings
 pub mod HeadingLaws
+pub mod RuleLevelLaws

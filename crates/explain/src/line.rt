@@ -1,11 +1,16 @@
 // The lines of a rule file, one after the other, and what a rule's heading needs to know of its lines.
 ghost use mathlib.Core.Bool.{_&&_, _||_};
+ghost use mathlib.Core.List.{List, []};
 ghost use mathlib.Core.Path.{_≡_};
-ghost use Prim.Native.Nat.{_≤_};
+ghost use Prim.Native.Nat.{ℕ, _≤_};
 ghost use lib.Dec.{eqb};
-ghost use lib.ListN.{length};
-ghost use Rattle.explain.specs.Headings.{lineOf, inRule, noted, headingOf, levelOf};
-use rulecommands::Raw;
+ghost use lib.ListN.{length, getD};
+ghost use Rattle.explain.specs.Headings.{lineOf, inRule, noted, notesOf, headingOf, RuleAt};
+ghost use Rattle.files.specs.RuleFile.{Lines, ruleIn};
+ghost use Rattle.levels.specs.Levels.{levelOf};
+ghost use Rattle.policy.specs.Policy.{Policy, settingOf};
+ghost use Rattle.policy.specs.Rules.{ruleLevel};
+use rule_commands::Raw;
 
 // A command as numbers, and how many bytes it takes: 0 where there is none.
 pub struct Line {
@@ -15,18 +20,24 @@ pub struct Line {
     pub width: usize,
 }
 
-// What the lines of a rule say of it: its operations, and whether it lists roles or resources by their numbers.
+// What is noted of the lines of a rule: its operations, and whether it lists roles or resources by their numbers.
+struct Notes {
+    operations: u64,
+    roles: bool,
+    numbers: bool,
+}
+
+// What the heading of a rule says of it.
 pub struct Heading {
     pub operations: u64,
-    pub roles: bool,
-    pub numbers: bool,
+    pub level: usize,
 }
 
 // The command in front.
 pub fn front(s: &[u8]) -> Line
     ensures { λ r. ⌜ (r ≡ lineOf (now (s .entry))) × (r .width ≤ length (now (s .entry))) ⌝ }
 {
-    match rulecommands::next(s) {
+    match rule_commands::next(s) {
         Raw::Whole(byte, first, second, width) => Line {
             byte: byte,
             first: first,
@@ -74,12 +85,12 @@ fn either(a: bool, b: bool) -> bool
     b
 }
 
-// The heading with one line more.
-fn note(h: Heading, byte: usize, first: u64) -> Heading
+// The notes with one line more.
+fn note(h: Notes, byte: usize, first: u64) -> Notes
     ensures { λ r. ⌜ r ≡ noted h byte first ⌝ }
 {
     if byte == 0x26 {
-        return Heading {
+        return Notes {
             operations: first,
             roles: h.roles,
             numbers: h.numbers,
@@ -87,18 +98,18 @@ fn note(h: Heading, byte: usize, first: u64) -> Heading
     }
     let roles = either(h.roles, is_own(byte, first, 0x23));
     let numbers = either(h.numbers, is_own(byte, first, 0x24));
-    Heading {
+    Notes {
         operations: h.operations,
         roles: roles,
         numbers: numbers,
     }
 }
 
-// The heading of the rule whose lines stand in front.
-pub fn heading_of(s: &[u8]) -> Heading
-    ensures { λ r. ⌜ r ≡ headingOf (now (s .entry)) ⌝ }
+// The notes of the rule whose lines stand in front.
+fn notes_of(s: &[u8]) -> Notes
+    ensures { λ r. ⌜ r ≡ notesOf (now (s .entry)) ⌝ }
 {
-    let mut h = Heading {
+    let mut h = Notes {
         operations: 0,
         roles: false,
         numbers: false,
@@ -115,7 +126,7 @@ pub fn heading_of(s: &[u8]) -> Heading
 }
 
 // The level of a rule that lists roles or not, and resources or not.
-pub fn level(roles: bool, numbers: bool) -> usize
+fn level(roles: bool, numbers: bool) -> usize
     ensures { λ r. ⌜ r ≡ levelOf roles numbers ⌝ }
 {
     if roles {
@@ -128,4 +139,19 @@ pub fn level(roles: bool, numbers: bool) -> usize
         return 2;
     }
     0
+}
+
+// The heading of the rule whose lines stand in front. If they are those of a rule of a rule file that was accepted, its level is that rule's.
+pub fn heading_of(s: &[u8]) -> Heading
+    ensures { λ r. ⌜
+        (r ≡ headingOf (now (s .entry)))
+        × ((F : Policy) (rules : List Lines) (n : ℕ)
+        → RuleAt F rules n (now (s .entry))
+        → r .level ≡ ruleLevel (settingOf F) (ruleIn (settingOf F) (getD rules n []))) ⌝ }
+{
+    let n = notes_of(s);
+    Heading {
+        operations: n.operations,
+        level: level(n.roles, n.numbers),
+    }
 }

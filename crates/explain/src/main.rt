@@ -3,14 +3,13 @@
 mod line;
 mod tell;
 
-ghost use Prim.Native.Nat.{_≤_};
 use tell::tell_rules;
 
 // Reads both files, and tells the rules if both are legal.
 fn explain(file: &[u8], rules: &[u8]) {
-    let b = rulefile::read(file, rules);
+    let b = rule_file::read(file, rules);
     if b.code != 0 {
-        programs::refuse(b.code);
+        programs::refuse(b"explain", b.code);
         return;
     }
     let f = b.file;
@@ -29,7 +28,12 @@ fn explain(file: &[u8], rules: &[u8]) {
 fn main() {
     let mut file = io::large_buffer();
     let mut rules = programs::rules_buffer();
-    let both = programs::read_both(b"usage: explain ROLES RULES\n", &mut file, &mut rules);
+    let both = programs::read_both(
+        b"explain",
+        b"usage: explain ROLES RULES\n",
+        &mut file,
+        &mut rules,
+    );
     if both.failed {
         return;
     }

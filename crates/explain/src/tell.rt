@@ -1,19 +1,20 @@
 // Rules in words. Each function says whether all was printed so far, as those of `programs` do.
 ghost use Prim.Native.Nat.{_≤_};
-ghost use lib.ListN.{length};
+ghost use mathlib.Core.Bool.{_||_};
+ghost use mathlib.Core.Path.{_≡_};
+ghost use Rattle.explain.specs.Headings.{isCondition, goesOn};
 use crate::line::front;
 use crate::line::heading_of;
-use crate::line::level;
-use operands::Checked;
 use programs::say;
 use programs::say_count;
 use programs::say_number;
-use rulecommands::Atom;
-use rulecommands::RuleCommand;
-use loaded::ByRole;
-use loaded::ByRoleOperation;
-use loaded::BySide;
-use loaded::CountBySide;
+use role_record::ByRole;
+use role_record::ByRoleOperation;
+use role_record::BySide;
+use role_record::CountBySide;
+use rule_commands::Atom;
+use rule_commands::RuleCommand;
+use rule_operands::Checked;
 
 // ---- sets
 
@@ -230,7 +231,7 @@ fn say_gap(printed: bool, number: usize) -> bool {
 fn tell_heading(printed: bool, number: usize, s: &[u8]) -> bool {
     let h = heading_of(s);
     let named = say_count(say_gap(printed, number), b"rule ", number);
-    let leveled = say_count(named, b", level ", level(h.roles, h.numbers));
+    let leveled = say_count(named, b", level ", h.level);
     let told = say_operations(say(leveled, b": any user may do "), h.operations);
     say(told, b" on any resource")
 }
@@ -238,29 +239,39 @@ fn tell_heading(printed: bool, number: usize, s: &[u8]) -> bool {
 // The end of the file.
 fn tell_end(printed: bool, number: usize) {
     if number == 0 {
-        programs::end_line(say(printed, b"there is no rule: nobody may do anything"));
+        programs::end_line(
+            b"explain",
+            say(printed, b"there is no rule: nobody may do anything"),
+        );
         return;
     }
-    programs::end_line(printed);
+    programs::end_line(b"explain", printed);
 }
 
 // Whether a rule that has a condition, or has none, has one with this line.
-fn has_condition(some: bool, byte: usize) -> bool {
-    match byte {
-        0x22 | 0x23 | 0x24 | 0x25 | 0x27 => true,
-        _ => some,
+fn has_condition(some: bool, byte: usize) -> bool
+    ensures { λ r. ⌜ r ≡ (isCondition byte || some) ⌝ }
+{
+    if programs::within(byte, 0x22, 0x25) {
+        return true;
     }
+    if byte == 0x27 {
+        return true;
+    }
+    some
 }
 
-// Whether a line gives a further value of the conjunct that the line before it gives one of.
-fn goes_on(byte: usize, first: u64, former: usize, former_first: u64) -> bool {
-    if byte > 0x25 {
+// Whether a line gives a further value of the conjunct that the line before it, of these former numbers, gives one of.
+fn goes_on(byte: usize, first: u64, former: usize, earlier: u64) -> bool
+    ensures { λ r. ⌜ r ≡ goesOn byte first former earlier ⌝ }
+{
+    if !programs::within(byte, 0x22, 0x25) {
         return false;
     }
     if byte != former {
         return false;
     }
-    first == former_first
+    first == earlier
 }
 
 // A paragraph for each rule of a legal rule file.
@@ -295,7 +306,7 @@ pub fn tell_rules<'a>(
             some = false;
         } else {
             let same = goes_on(l.byte, l.first, former, former_first);
-            let checked = operands::check(
+            let checked = rule_operands::check(
                 l.byte,
                 l.first,
                 l.second,

@@ -11,10 +11,10 @@ use Rattle.files.specs.Answer.{numberOf, Answer, told, refused, accepted}
 use Rattle.files.specs.BytesLaws.{number-positive}
 use Rattle.files.specs.RuleFile.{Lines}
 use Rattle.policy.specs.Policy.{Policy}
-use Rattle.rolefile.specs.Reading.{refusal, loadedOf}
-use Rattle.rulefile.specs.BothFiles.{nothingRead, bothOf}
-use Rattle.rolefile.specs.declared.Loaded.{Loaded}
-use Rattle.rulefile.specs.declared.BothFiles.{BothFiles}
+use Rattle.role_file.specs.Reading.{refusal, loadedOf}
+use Rattle.rule_file.specs.BothFiles.{nothingRead, bothOf}
+use Rattle.role_file.specs.declared.Loaded.{Loaded}
+use Rattle.rule_file.specs.declared.BothFiles.{BothFiles}
 
 -- ---- the numbers of what was read
 

@@ -55,6 +55,10 @@ verdictValues (strayRule i) = i ∷ []
 verdictValues (strayPart p) = p ∷ []
 verdictValues sound = []
 
+-- a verdict in 01's numbers: its own, and then its values
+abbrev pub verdictTold : Verdict → List ℕ
+verdictTold v = verdictNumber v ∷ verdictValues v
+
 -- "1 and the first triple ...; else 2 and the first rule ...; else 3 and the first part ...; else 0"
 abbrev pub decided : Option (ℕ × ℕ × ℕ) → Option ℕ → Option ℕ → Verdict
 decided (some t) i p = differ (t .0) (t .1) (t .2)

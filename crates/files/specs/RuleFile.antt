@@ -63,48 +63,31 @@ ruleCommand b xs =
     (cond (eqb b 0x27) (link (getD xs 0 0) (getD xs 1 0))
     (cond (eqb b 0x28) (part (getD xs 0 0) (getD xs 1 0)) ends)))))))
 
--- Something of one sort of command, and a default `d` for all others.
+-- Something for each sort of command; and of one sort, with a default `d` for all others.
 module _ {A : Type 0} where
+  abbrev pub byCommand : A → (Which → Bool → ℕ → ℕ → A) → (ℕ → A) → (ℕ → ℕ → A) → (ℕ → ℕ → A) → A → RuleCommand → A
+  byCommand f g h i j k opens = f
+  byCommand f g h i j k (value w set a v) = g w set a v
+  byCommand f g h i j k (operations m) = h m
+  byCommand f g h i j k (link a b) = i a b
+  byCommand f g h i j k (part r m) = j r m
+  byCommand f g h i j k ends = k
+
   abbrev pub ifValue : (Which → Bool → ℕ → ℕ → A) → A → RuleCommand → A
-  ifValue f d opens = d
-  ifValue f d (value w set a v) = f w set a v
-  ifValue f d (operations m) = d
-  ifValue f d (link a b) = d
-  ifValue f d (part k m) = d
-  ifValue f d ends = d
+  ifValue f d = byCommand d f (λ m. d) (λ a b. d) (λ k m. d) d
 
   abbrev pub ifOperations : (ℕ → A) → A → RuleCommand → A
-  ifOperations f d opens = d
-  ifOperations f d (value w set a v) = d
-  ifOperations f d (operations m) = f m
-  ifOperations f d (link a b) = d
-  ifOperations f d (part k m) = d
-  ifOperations f d ends = d
+  ifOperations f d = byCommand d (λ w set a v. d) f (λ a b. d) (λ k m. d) d
 
   abbrev pub ifLink : (ℕ → ℕ → A) → A → RuleCommand → A
-  ifLink f d opens = d
-  ifLink f d (value w set a v) = d
-  ifLink f d (operations m) = d
-  ifLink f d (link a b) = f a b
-  ifLink f d (part k m) = d
-  ifLink f d ends = d
+  ifLink f d = byCommand d (λ w set a v. d) (λ m. d) f (λ k m. d) d
 
   abbrev pub ifPart : (ℕ → ℕ → A) → A → RuleCommand → A
-  ifPart f d opens = d
-  ifPart f d (value w set a v) = d
-  ifPart f d (operations m) = d
-  ifPart f d (link a b) = d
-  ifPart f d (part k m) = f k m
-  ifPart f d ends = d
+  ifPart f d = byCommand d (λ w set a v. d) (λ m. d) (λ a b. d) f d
 
-  -- of a command that opens a rule, of the one that ends the file, and of a line within a rule
+  -- a command that opens a rule, the one that ends the file, and a line within a rule
   abbrev pub byPlace : A → A → A → RuleCommand → A
-  byPlace f g d opens = f
-  byPlace f g d (value w set a v) = d
-  byPlace f g d (operations m) = d
-  byPlace f g d (link a b) = d
-  byPlace f g d (part k m) = d
-  byPlace f g d ends = g
+  byPlace f g d = byCommand f (λ w set a v. d) (λ m. d) (λ a b. d) (λ k m. d) g
 
 -- "ascend strictly by command byte, then operands as numbers"
 abbrev pub precedes : RuleCommand → RuleCommand → Bool

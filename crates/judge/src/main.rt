@@ -1,7 +1,7 @@
 // Judges a rule file beside its role file: judge ROLES RULES prints the verdict or the refusal, a line with its number and its
 // meaning. Where the system does not read a file, a line on standard error says so and there is no answer.
-use judging::Judgement;
-use rolequestion::Reply;
+use role_question::Reply;
+use rule_judge::Judgement;
 
 // Prints the meaning of a verdict.
 fn say_meaning(printed: bool, n: usize) -> bool {
@@ -31,7 +31,7 @@ fn say_difference(file: &[u8], user: usize, resource: usize, operation: usize) -
     let headed = programs::say(true, b"verdict 1: ");
     let named = programs::say_triple(headed, user, resource, operation);
     let told = say_meaning(named, 1);
-    say_side(told, rolequestion::ask(file, user, resource, operation))
+    say_side(told, role_question::ask(file, user, resource, operation))
 }
 
 // Prints the verdict that all is well.
@@ -42,21 +42,21 @@ fn say_sound() -> bool {
 
 // Judges, and prints the answer.
 fn answer(file: &[u8], rules: &[u8]) {
-    match judging::judge(file, rules) {
+    match rule_judge::judge(file, rules) {
         Judgement::Sound => {
-            programs::end_line(say_sound());
+            programs::end_line(b"judge", say_sound());
         }
         Judgement::Differ(user, resource, operation) => {
-            programs::end_line(say_difference(file, user, resource, operation));
+            programs::end_line(b"judge", say_difference(file, user, resource, operation));
         }
         Judgement::StrayRule(n) => {
-            programs::end_line(say_stray(2, b": rule ", n));
+            programs::end_line(b"judge", say_stray(2, b": rule ", n));
         }
         Judgement::StrayPart(n) => {
-            programs::end_line(say_stray(3, b": part ", n));
+            programs::end_line(b"judge", say_stray(3, b": part ", n));
         }
         Judgement::Refused(n) => {
-            programs::refuse(n);
+            programs::refuse(b"judge", n);
         }
     }
 }
@@ -64,7 +64,12 @@ fn answer(file: &[u8], rules: &[u8]) {
 fn main() {
     let mut file = io::large_buffer();
     let mut rules = programs::rules_buffer();
-    let both = programs::read_both(b"usage: judge ROLES RULES\n", &mut file, &mut rules);
+    let both = programs::read_both(
+        b"judge",
+        b"usage: judge ROLES RULES\n",
+        &mut file,
+        &mut rules,
+    );
     if both.failed {
         return;
     }

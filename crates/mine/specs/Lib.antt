@@ -1,2 +1,4 @@
 pub mod Room
 pub mod RoomLaws
+pub mod Needed
+pub mod NeededLaws

@@ -1,51 +1,14 @@
 // Mines the role file on standard input. Writes the rules to rules.out in the working directory and prints the counts and the cost; on a
-// refusal prints its number, and rules.out stays as it is. Where the system does not read or write, a line on standard error says so and
-// rules.out stays as it is too: the rules go to a new file beside it, which takes its name when all is written.
+// refusal prints its number, and rules.out stays as it is; standard error has the number's meaning. Where the system does not read or
+// write, a line on standard error says so and rules.out stays as it is too.
+mod save;
+mod wider;
+
 ghost use lib.ListN.{length};
 ghost use Rattle.mine.specs.Room.{Fits};
 use mining::Mined;
-
-// Writes the rules to a file that is open, for everybody to read, and sees them to the device.
-fn fill(fd: i32, rules: &[u8]) -> bool {
-    if !io::write_all(fd, rules) {
-        return false;
-    }
-    if libc::fchmod(fd, 0o644) < 0 {
-        return false;
-    }
-    libc::fsync(fd) == 0
-}
-
-// Writes the rules to a new file of this name, whose last letters are replaced by others. If that fails no file is left.
-fn write_new(name: &mut [u8], rules: &[u8]) -> bool {
-    let fd = os::create_temp(name);
-    if fd < 0 {
-        os::fail(b"mine: cannot make a file beside rules.out");
-        return false;
-    }
-    if fill(fd, rules) {
-        libc::close(fd);
-        return true;
-    }
-    os::fail(b"mine: cannot write the rules");
-    libc::close(fd);
-    os::unlink(name);
-    false
-}
-
-// Puts the rules in the place of rules.out, whole or not at all.
-fn save(rules: &[u8]) -> bool {
-    let mut name = *b"rules.out.XXXXXX";
-    if !write_new(&mut name, rules) {
-        return false;
-    }
-    if os::rename(&name, b"rules.out") < 0 {
-        os::fail(b"mine: cannot replace rules.out");
-        os::unlink(&name);
-        return false;
-    }
-    true
-}
+use save::save;
+use wider::tell_length;
 
 // Prints the counts and the cost.
 fn print_counts(parts: usize, rules: usize, merges: usize, cost: usize) -> bool {
@@ -55,13 +18,22 @@ fn print_counts(parts: usize, rules: usize, merges: usize, cost: usize) -> bool 
     programs::say_count(three, b" cost ", cost)
 }
 
-// Saves and prints what came of mining.
-fn finish(mined: Mined, out: &[u8])
+// Prints the line of a refusal as 01 has it, the number alone; its meaning goes to standard error.
+fn refuse(n: usize, file: &[u8]) {
+    programs::end_line(b"mine", programs::say_count(true, b"refused ", n));
+    programs::complain_refused(b"mine", n);
+    if n == 9 {
+        tell_length(file);
+    }
+}
+
+// Saves and prints what came of mining the file.
+fn finish(mined: Mined, file: &[u8], out: &[u8])
     requires { ⌜ Fits mined (length (now out)) ⌝ }
 {
     match mined {
         Mined::Refused(n) => {
-            programs::end_line(programs::say_count(true, b"refused ", n));
+            refuse(n, file);
         }
         Mined::Written {
             length,
@@ -71,7 +43,7 @@ fn finish(mined: Mined, out: &[u8])
             cost,
         } => {
             if save(&out[0..length]) {
-                programs::end_line(print_counts(parts, rules, merges, cost));
+                programs::end_line(b"mine", print_counts(parts, rules, merges, cost));
             }
         }
     }
@@ -82,15 +54,21 @@ fn mine_file(file: &[u8]) {
     let mut scratch = [0u64; 4096];
     let mut out = io::large_buffer();
     let mined = mining::mine(file, &mut scratch, &mut out);
-    finish(mined, &out);
+    finish(mined, file, &out);
 }
 
 fn main() {
+    if os::arg_count() > 1 {
+        programs::complain(
+            b"usage: mine < ROLES, which writes the rules to rules.out in the working directory\n",
+        );
+        return;
+    }
     // one byte more than a role file may have, so that a longer one is seen
     let mut input = io::large_buffer();
     let read = programs::read_open(libc::STDIN_FILENO, &mut input);
     if read.failed {
-        os::fail(b"mine: cannot read standard input");
+        programs::fail(b"mine", b"cannot read standard input");
         return;
     }
     let n = read.length;

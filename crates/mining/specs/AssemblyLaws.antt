@@ -1,35 +1,35 @@
 -- The tables that mining works out of a record are those of its policy, and so is what comes of them.
 -- Assumes nothing.
-use Prim.Native.Nat.{ℕ, suc, _-_, _≤_, _<_}
+use Prim.Native.Nat.{ℕ, suc, _≤_, _<_}
 use lib.ListN.{length, getD}
 use mathlib.Core.List.{List, List·Memᴰ·head, List·Memᴰ·tail}
 use mathlib.Core.Path.{_≡_, refl, sym, ap, _∙_, subst}
 use native.Mathlib.Omega.{arith}
-use Rattle.loaded.specs.Record.{Sized, attributeTable, recordWith, recordOf}
-use Rattle.distinct.specs.Distinct.{distinctTable, havingTable, insideTable, distinctIn, havingIn, insideIn}
+use Rattle.role_record.specs.Record.{Sized, attributeTable, recordWith, recordOf}
+use Rattle.mine_distinct.specs.Distinct.{distinctTable, havingTable, insideTable}
 use Rattle.files.specs.Answer.{Answer, refused, accepted}
 use Rattle.files.specs.BytesLaws.{Bytes, Carries, number-positive}
 use Rattle.files.specs.Calls.{Counts, minedBytes, minedCounts}
 use Rattle.files.specs.RoleFile.{readRoles}
-use Rattle.grants.specs.Links.{linkTable}
-use Rattle.matches.specs.Matches.{matchTable, knownPlaces}
-use Rattle.filewriter.specs.FileLaws.{keptIn, file-means, measure-means}
-use Rattle.filewriter.specs.FileTable.{keptTable, fileBytes, measuredOf}
+use Rattle.grant_grids.specs.Links.{linkTable}
+use Rattle.mine_matches.specs.Matches.{matchTable, knownPlaces}
+use Rattle.write_file.specs.FileLaws.{keptIn, file-means, measure-means}
+use Rattle.write_file.specs.FileTable.{keptTable, fileBytes, measuredOf}
 use Rattle.mining.specs.MineLaws.{written}
 use Rattle.mining.specs.Stages.{Stored, Tabled, Outcome}
-use Rattle.linewriter.specs.Writing.{wrote}
-use Rattle.linewriter.specs.WritingLaws.{length-wrote}
+use Rattle.write_lines.specs.Writing.{wrote}
+use Rattle.write_lines.specs.WritingLaws.{length-wrote}
 use Rattle.policy.specs.Policy.{Policy}
 use Rattle.policy.specs.Rules.{user, resource}
-use Rattle.rolefile.specs.Reading.{refusal, loadedOf}
-use Rattle.rolefile.specs.SizedLaws.{accepted-sized}
+use Rattle.role_file.specs.Reading.{refusal, loadedOf}
+use Rattle.role_file.specs.SizedLaws.{accepted-sized}
 use Rattle.sets.specs.Tests.{_isIn_}
-use Rattle.slotgroups.specs.Scratch.{Merged}
-use Rattle.slotgroups.specs.Slots.{slotMerges}
-use Rattle.loaded.specs.declared.RoleFile.{RoleFile}
-use Rattle.filewriter.specs.declared.Measured.{Measured}
+use Rattle.mine_groups.specs.Scratch.{Merged}
+use Rattle.mine_groups.specs.Seats.{seatMerges}
+use Rattle.role_record.specs.declared.RoleFile.{RoleFile}
+use Rattle.write_file.specs.declared.Measured.{Measured}
 use Rattle.mining.specs.declared.Mined.the-variants.{Written}
-use Rattle.rolefile.specs.declared.Loaded.{Loaded}
+use Rattle.role_file.specs.declared.Loaded.{Loaded}
 
 -- ---- the role file
 
@@ -100,7 +100,7 @@ module _ (F : Policy) (Z : Sized F) (links matches known attributes holders perm
   file-so = rw (kept-so, T .of-distinct, T .of-having, T .of-inside, T .of-kinds, T .merging-by .of-permissions, T .merging-by .of-operations) (file-means F Z t M)
 
   pub measured-so : (m : Measured) → m ≡ measuredOf kept distinct having inside kinds permissions operations t
-      → (m .bytes ≡ length (minedBytes 2 F)) × (minedCounts 2 F ≡ record { size = m .bytes; parts = m .parts; rules = m .rules; merges = slotMerges F; cost = m .cost })
+      → (m .bytes ≡ length (minedBytes 2 F)) × (minedCounts 2 F ≡ record { size = m .bytes; parts = m .parts; rules = m .rules; merges = seatMerges F; cost = m .cost })
   measured-so m e =
       measure-means F Z t M m (e ∙ rw (kept-so, T .of-distinct, T .of-having, T .of-inside, T .of-kinds, T .merging-by .of-permissions, T .merging-by .of-operations) refl)
 
@@ -119,7 +119,7 @@ record-sizes F Z f e =
 
 -- the answer once the file is written
 pub answered : (file : List ℕ) (scratch : ℕ) (former : List ℕ) → 4096 ≤ scratch → (F : Policy) → readRoles 2 file ≡ accepted F → (m : Measured) (merges : ℕ)
-    → minedCounts 2 F ≡ record { size = m .bytes; parts = m .parts; rules = m .rules; merges = slotMerges F; cost = m .cost } → merges ≡ slotMerges F → length (minedBytes 2 F) ≤ length former
+    → minedCounts 2 F ≡ record { size = m .bytes; parts = m .parts; rules = m .rules; merges = seatMerges F; cost = m .cost } → merges ≡ seatMerges F → length (minedBytes 2 F) ≤ length former
     → (bytes out : List ℕ) → bytes ≡ minedBytes 2 F → out ≡ wrote bytes former → Outcome file scratch former (Written (m .bytes) (m .parts) (m .rules) merges (m .cost)) out
 answered file scratch former h F q m merges e g l bytes out b o =
     subst (λ (c : Counts). Outcome file scratch former (Written (c .size) (c .parts) (c .rules) (c .merges) (c .cost)) out) (e ∙ ap (λ (k : ℕ). record { size = m .bytes; parts = m .parts; rules = m .rules; merges = k; cost = m .cost }) (sym g))

@@ -16,10 +16,10 @@ use Rattle.files.specs.RoleFile.{readRoles}
 use Rattle.mining.specs.Mined.{minedNumbers}
 use Rattle.mining.specs.Stages.{Outcome}
 use Rattle.policy.specs.Policy.{Policy, settingOf, rolesIn}
-use Rattle.rolefile.specs.Reading.{refusal, loadedOf}
+use Rattle.role_file.specs.Reading.{refusal, loadedOf}
 use Rattle.mining.specs.declared.Mined.{Mined}
 use Rattle.mining.specs.declared.Mined.the-variants.{Refused, Written}
-use Rattle.rolefile.specs.declared.Loaded.{Loaded}
+use Rattle.role_file.specs.declared.Loaded.{Loaded}
 
 module _ (file : List ℕ) (scratch : ℕ) (former : List ℕ) where
   -- a refusal

@@ -4,12 +4,12 @@ use Prim.Native.Nat.{ℕ, _≤_}
 use lib.ListN.{length}
 use mathlib.Core.List.{List}
 use mathlib.Core.Path.{_≡_}
-use Rattle.distinct.specs.Distinct.{distinctTable, havingTable, insideTable}
+use Rattle.mine_distinct.specs.Distinct.{distinctTable, havingTable, insideTable}
 use Rattle.files.specs.Answer.{told, accepted}
 use Rattle.files.specs.Calls.{countValues, mineAnswer, mineOutput}
 use Rattle.files.specs.RoleFile.{readRoles}
-use Rattle.loaded.specs.Record.{recordOf}
-use Rattle.merging.specs.Steps.{Tables}
+use Rattle.role_record.specs.Record.{recordOf}
+use Rattle.mine_merge.specs.Steps.{Tables}
 use Rattle.mining.specs.Mined.{minedNumbers}
 use Rattle.policy.specs.Policy.{Policy}
 use Rattle.mining.specs.declared.Mined.{Mined}

@@ -3,7 +3,7 @@ ghost use Prim.Native.Nat.{ℕ, _≤_};
 ghost use lib.Dec.{ltb};
 ghost use lib.ListN.{length, getD, take};
 ghost use mathlib.Core.Path.{_≡_};
-ghost use Rattle.loaded.specs.Record.{Sized};
+ghost use Rattle.role_record.specs.Record.{Sized};
 ghost use Rattle.files.specs.Answer.{told, accepted};
 ghost use Rattle.files.specs.Calls.{Counts, countValues, mineAnswer, mineOutput};
 ghost use Rattle.files.specs.Demand3.{Demand3};
@@ -11,16 +11,16 @@ ghost use Rattle.files.specs.RoleFile.{readRoles};
 ghost use Rattle.policy.specs.Policy.{Policy, settingOf, rolesIn};
 ghost use Rattle.mining.specs.Mined.{minedNumbers};
 ghost use Rattle.mining.specs.Stages.{Stored, Tabled, Outcome, Result};
-use loaded::ByAttribute;
-use loaded::ByPlace;
-use loaded::ByPlaceMember;
-use loaded::ByRole;
-use loaded::ByRoleOperation;
-use loaded::BySide;
-use loaded::CountBySide;
-use loaded::Links;
-use loaded::Values;
-use loaded::RoleFile;
+use role_record::ByAttribute;
+use role_record::ByPlace;
+use role_record::ByPlaceMember;
+use role_record::ByRole;
+use role_record::ByRoleOperation;
+use role_record::BySide;
+use role_record::CountBySide;
+use role_record::Links;
+use role_record::RoleFile;
+use role_record::Values;
 
 // A refusal's number; or the bytes of the rule file, the parts of the role file, the rules and merges made, and the rules' cost.
 pub enum Mined {
@@ -60,10 +60,23 @@ fn mine_tables<'a>(
     scratch: &mut [u64],
     out: &mut [u8],
 ) -> Mined
-    requires { ⌜ (users ≤ 64) × (resources ≤ 64) × (operations ≤ 16) × (roles ≤ 32) × (getD (now attributes) 0 0 ≤ 6) × (getD (now attributes) 1 0 ≤ 6) × (length (now scratch) ≡ 2048) ⌝ }
-    ensures { λ r. ⌜ ((F : Policy) → Sized F → Tabled F (now (links .entry)) (now (matched .entry)) (now (known .entry)) (now (attributes .entry)) (now (holders .entry)) (now (permissions .entry)) (now (kinds .entry)) (now (distinct .entry)) (now (having .entry)) (now (inside .entry)) users resources operations roles → Result F (now (out .entry)) r (now (out .exit))) ⌝ }
+    requires { ⌜
+        (users ≤ 64)
+        × (resources ≤ 64)
+        × (operations ≤ 16)
+        × (roles ≤ 32)
+        × (getD (now attributes) 0 0 ≤ 6)
+        × (getD (now attributes) 1 0 ≤ 6)
+        × (length (now scratch) ≡ 2048) ⌝ }
+    ensures { λ r. ⌜
+        ((F : Policy)
+        → Sized F
+        → Tabled F (now (links .entry)) (now (matched .entry)) (now (known .entry)) (now (attributes .entry))
+        (now (holders .entry)) (now (permissions .entry)) (now (kinds .entry)) (now (distinct .entry))
+        (now (having .entry)) (now (inside .entry)) users resources operations roles
+        → Result F (now (out .entry)) r (now (out .exit))) ⌝ }
 {
-    let merges = merging::merge(
+    let merges = mine_merge::merge(
         scratch,
         links,
         matched,
@@ -77,7 +90,7 @@ fn mine_tables<'a>(
         roles,
     );
     let mut kept = [0u64; RoleFile::PARTS];
-    filewriter::kept_places(
+    write_file::kept_places(
         links,
         matched,
         known,
@@ -89,8 +102,8 @@ fn mine_tables<'a>(
         &mut kept,
     );
     let mut grouped = [0u64; RoleFile::PARTS];
-    rulelists::roles_of_groups(scratch, &mut grouped);
-    let m = filewriter::measure(
+    write_lists::roles_of_groups(scratch, &mut grouped);
+    let m = write_file::measure(
         &kept,
         distinct,
         having,
@@ -104,7 +117,7 @@ fn mine_tables<'a>(
     if lacks_room(out.len(), m.bytes) {
         return Mined::Refused(9);
     }
-    filewriter::write_rules(
+    write_file::write_rules(
         &kept,
         distinct,
         having,
@@ -140,13 +153,25 @@ fn mine_record<'a>(
     scratch: &mut [u64],
     out: &mut [u8],
 ) -> Mined
-    requires { ⌜ (users ≤ 64) × (resources ≤ 64) × (operations ≤ 16) × (roles ≤ 32) × (getD (now attributes) 0 0 ≤ 6) × (getD (now attributes) 1 0 ≤ 6) × (length (now scratch) ≡ 2048) ⌝ }
-    ensures { λ r. ⌜ ((F : Policy) → Sized F → Stored F (now (known .entry)) (now (values .entry)) (now (kinds .entry)) (now (attributes .entry)) (now (holders .entry)) (now (permissions .entry)) users resources operations roles → Result F (now (out .entry)) r (now (out .exit))) ⌝ }
+    requires { ⌜
+        (users ≤ 64)
+        × (resources ≤ 64)
+        × (operations ≤ 16)
+        × (roles ≤ 32)
+        × (getD (now attributes) 0 0 ≤ 6)
+        × (getD (now attributes) 1 0 ≤ 6)
+        × (length (now scratch) ≡ 2048) ⌝ }
+    ensures { λ r. ⌜
+        ((F : Policy)
+        → Sized F
+        → Stored F (now (known .entry)) (now (values .entry)) (now (kinds .entry)) (now (attributes .entry))
+        (now (holders .entry)) (now (permissions .entry)) users resources operations roles
+        → Result F (now (out .entry)) r (now (out .exit))) ⌝ }
 {
     let mut found = [0u64; RoleFile::PLACES * RoleFile::MEMBERS];
     let mut having = [0u64; RoleFile::PLACES * RoleFile::MEMBERS];
     let mut inside = [0u64; RoleFile::PLACES * RoleFile::MEMBERS];
-    distinct::distinct_values(
+    mine_distinct::distinct_values(
         values,
         holders,
         kinds,
@@ -156,11 +181,11 @@ fn mine_record<'a>(
         &mut inside,
     );
     let mut places = [0u64; RoleFile::PLACES];
-    matches::known_places(users, resources, known, &mut places);
+    mine_matches::known_places(users, resources, known, &mut places);
     let mut links = [0u64; RoleFile::ATOMS * RoleFile::USERS];
-    tables::links(known, kinds, resources, &found, &having, &mut links);
+    mine_tables::links(known, kinds, resources, &found, &having, &mut links);
     let mut matched = [0u64; RoleFile::PLACES * RoleFile::MEMBERS];
-    tables::matches(&places, kinds, &found, &having, &mut matched);
+    mine_tables::matches(&places, kinds, &found, &having, &mut matched);
     mine_tables(
         &links,
         &matched,
@@ -186,7 +211,7 @@ fn mine_in(file: &[u8], scratch: &mut [u64], out: &mut [u8]) -> Mined
     requires { ⌜ length (now scratch) ≡ 2048 ⌝ }
     ensures { λ r. ⌜ ((n : ℕ) → 4096 ≤ n → Outcome (now (file .entry)) n (now (out .entry)) r (now (out .exit))) ⌝ }
 {
-    let l = rolefile::read(file);
+    let l = role_file::read(file);
     if l.code != 0 {
         return Mined::Refused(l.code);
     }
@@ -209,7 +234,16 @@ fn mine_in(file: &[u8], scratch: &mut [u64], out: &mut [u8]) -> Mined
 
 // The answer, the output memory at the end, and the third demand about the bytes there. Scratch may hold anything before, and does after.
 pub fn mine(file: &[u8], scratch: &mut [u64], out: &mut [u8]) -> Mined
-    ensures { λ r. ⌜ (minedNumbers r ≡ told countValues (mineAnswer 2 (now (file .entry)) (length (now (scratch .entry))) (length (now (out .entry))))) × (now (out .exit) ≡ mineOutput 2 (now (file .entry)) (length (now (scratch .entry))) (now (out .entry))) × ((c : Counts) → mineAnswer 2 (now (file .entry)) (length (now (scratch .entry))) (length (now (out .entry))) ≡ accepted c → (F : Policy) × (readRoles 2 (now (file .entry)) ≡ accepted F) × Demand3 2 (settingOf F) (rolesIn F) (take (c .size) (now (out .exit))) c) ⌝ }
+    ensures { λ r. ⌜
+        (minedNumbers r
+        ≡ told countValues
+        (mineAnswer 2 (now (file .entry)) (length (now (scratch .entry))) (length (now (out .entry)))))
+        × (now (out .exit) ≡ mineOutput 2 (now (file .entry)) (length (now (scratch .entry))) (now (out .entry)))
+        × ((c : Counts)
+        → mineAnswer 2 (now (file .entry)) (length (now (scratch .entry))) (length (now (out .entry))) ≡ accepted c
+        → (F : Policy)
+        × (readRoles 2 (now (file .entry)) ≡ accepted F)
+        × Demand3 2 (settingOf F) (rolesIn F) (take (c .size) (now (out .exit))) c) ⌝ }
 {
     if scratch.len() < 4096 {
         return Mined::Refused(8);

@@ -5,7 +5,7 @@ use lib.ListN.{length, getD}
 use mathlib.Core.Bool.{Bool, true, false, cond}
 use mathlib.Core.List.{List, [], _∷_, List·Memᴰ·head, List·Memᴰ·tail, List·Memᴰ·not-nil}
 use mathlib.Core.Option.{Option, none, some, Option·map}
-use mathlib.Core.Path.{_≡_, refl, sym, ap, _∙_, subst, fun-ext}
+use mathlib.Core.Path.{_≡_, refl, sym, ap, _∙_, subst}
 use native.Mathlib.Omega.{arith}
 use Rattle.policy.specs.Merging.{absorb, step, mergeAll}
 use Rattle.sets.specs.Sorted.{Ascending, and-then}
@@ -199,7 +199,3 @@ module _ {A : Type 0} (ok : A → A → Bool) (join : A → A → A) where
   apart-at d (cons n a) i zero h l = absurd (omega arith)
   apart-at d (cons {t = t} n a) zero (suc j) h l = n (getD t j d) (getD-in t d j (omega arith))
   apart-at d (cons n a) (suc i) (suc j) h l = apart-at d a i j (omega arith) (omega arith)
-
--- a test that agrees everywhere, as one that remembers what failed, merges alike
-pub run-same : {A : Type 0} (ok ok′ : A → A → Bool) (join : A → A → A) → ((g h : A) → ok g h ≡ ok′ g h) → (n : ℕ) (gs : List A) → run ok join n gs ≡ run ok′ join n gs
-run-same {A} ok ok′ join e n gs = ap (λ (k : A → A → Bool). run k join n gs) (fun-ext λ g. fun-ext λ h. e g h)

@@ -5,15 +5,13 @@ use lib.Dec.{ltb}
 use mathlib.Core.Bool.{Bool, true, false, cond}
 use mathlib.Core.List.{List, [], _∷_, _++_, List·Memᴰ·not-nil, List·Memᴰ·append-cases, map}
 use mathlib.Core.Logic.{_⊎_, inl, inr}
-use mathlib.Core.Path.{_≡_, refl, sym, ap, _∙_, subst}
+use mathlib.Core.Path.{_≡_, refl, sym, ap, subst}
 use native.Mathlib.Omega.{arith}
 use Rattle.policy.specs.CoverLaws.{conjuncts-out, atomConds-out, cover-cases}
-use Rattle.policy.specs.Covering.{allKnow, valuesOf, standsIn, everywhere, conjuncts, atomConds, cover, fits, levelOf}
-use Rattle.policy.specs.RuleLaws.{Lawful, grants-cond}
-use Rattle.policy.specs.Rules.{own, Side, Which, by, Setting, Cond, Rule, Block, meets, attrsOf, ownAt, holds, grants, Some, user, resource, conjunct, atom}
+use Rattle.policy.specs.Covering.{allKnow, valuesOf, standsIn, everywhere, conjuncts, atomConds, cover, levelOf}
+use Rattle.policy.specs.Rules.{own, Side, Which, by, Setting, Cond, Block, meets, attrsOf, ownAt, user, resource, conjunct, atom}
 use Rattle.policy.specs.SideLaws.{admits-out, values-rising}
 use Rattle.policy.specs.StrikeLaws.{strike-within}
-use Rattle.policy.specs.ThinLaws.{written-exact}
 use Rattle.policy.specs.Thinning.{trim, strike, trimCond, grantsJust, thinned, written}
 use Rattle.sets.specs.Sorted.{Rising, Ascending, none-left, and-then}
 use Rattle.sets.specs.SortedLaws.{Before, keep-rising, append-rising, each-rising, only-rising, from-rising}
@@ -175,16 +173,3 @@ Says (atom a b) = Unit {0}
 pub met-says : (S : Side) (a : ℕ) (vs : List ℕ) (w : ℕ) → Is (meets S a vs w) → (v : ℕ) × (v isIn vs)
 unfolding meets
 met-says S a vs w h = let t = admits-out (S .below a) vs (S .value a w) h in (t .2, t .3)
-
-module _ (P : Setting) (L : Lawful P) where
-  holds-says : (c : Cond) (u r : ℕ) → Is (holds P c u r) → Says c
-  unfolding holds
-  holds-says (conjunct w a vs) u r h = met-says (P .side w) a vs (by w u r) h
-  holds-says (atom a b) u r h = tt
-
-  -- each conjunct of a rule that grants something lists a value
-  pub grants-says : (ρ : Rule) (u r o : ℕ) → Is (grants P ρ u r o) → (c : Cond) → c isIn ρ .conds → Says c
-  grants-says ρ u r o g c m = holds-says c u r (grants-cond P ρ u r o g m)
-
-  pub written-says : (B : Block) → Is (fits P B (levelOf P B)) → Some P B → (c : Cond) → c isIn written P B .conds → Says c
-  written-says B f s = grants-says (written P B) (s .u) (s .r) (s .o) (written-exact P L B f (s .u) (s .r) (s .o) (s .triple) ∙ s .inside)

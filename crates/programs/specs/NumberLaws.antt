@@ -1,17 +1,16 @@
 -- Reading digit by digit gives the number.
 -- Assumes nothing.
-use Prim.Native.Nat.{ℕ, suc, _+_, _-_, _*_, _≤_, _<_, min}
+use Prim.Native.Nat.{ℕ, _+_, _-_, _*_, _≤_, _<_, min}
 use borrow.Author.Tests.{leb-true}
 use lib.Dec.{leb}
 use lib.ListN.{length, getD, drop, drop-of-length-le}
 use lib.Seq.{drop-cons}
-use mathlib.Core.Bool.{Bool, true, false, cond, _&&_}
+use mathlib.Core.Bool.{Bool, true, false, _&&_}
 use mathlib.Core.List.{List, [], _∷_}
 use mathlib.Core.Path.{_≡_, refl}
 use native.Mathlib.Numerals.{add-one}
 use native.Mathlib.Omega.{arith}
 use Rattle.programs.specs.Numbers.{most, isWithin, readOn, numberIn}
-use Rattle.programs.specs.declared.number.Number.{Number}
 use Rattle.programs.specs.declared.number.Number.the-variants.{Given, Wrong}
 
 pub digit-least : (c : ℕ) → isWithin c 48 57 ≡ true → 48 ≤ c

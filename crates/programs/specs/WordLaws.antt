@@ -1,13 +1,15 @@
 -- Copying byte by byte gives the text, and the words at each number.
 -- Assumes nothing.
 use Prim.Native.Nat.{ℕ, zero, suc, _+_, _≤_, _<_}
-use lib.ListN.{length, getD, take, set, length-set, List·getD-eq-default}
+use lib.ListN.{length, getD, take, set, List·getD-eq-default}
 use lib.Seq.{take-suc, take-suc-set, take-all, length-take-le}
-use mathlib.Core.List.{List, [], _∷_, _++_}
+use mathlib.Core.List.{List}
 use mathlib.Core.Path.{_≡_, refl, sym, _∙_, subst}
 use native.Mathlib.Numerals.{add-one}
 use native.Mathlib.Omega.{arith}
-use Rattle.programs.specs.Words.{bytesOf, Holds, refusalTable, refusalWords, verdictTable, verdictWords}
+use Rattle.programs.specs.Words.{bytesOf, Holds, refusalTable, refusalWords, verdictTable, verdictWords, causeWords, findingWords}
+use Rattle.files.specs.Answer.{Refusal, numberOf, tooLong, cutOff, unknownCommand, outOfPlace, beyond, wrongKind, ownSenior, smallScratch, shortOutput, rulesCutOff, rulesUnknown, rulesOrder, rulesOperand}
+use Rattle.files.specs.Calls.{Verdict, verdictNumber, differ, strayRule, strayPart, sound}
 
 module _ (s memory : List ℕ) (at : ℕ) where
   pub byte-copied : at < length s → at < length memory → take at memory ≡ take at s → take (at + 1) (set memory at (getD s at 0)) ≡ take (at + 1) s
@@ -33,3 +35,28 @@ past-refusals (suc n) h = rw (List·getD-eq-default refusalTable "no refusal has
 pub past-verdicts : (n : ℕ) → 4 ≤ n → bytesOf "no verdict has this number" ≡ verdictWords n
 unfolding verdictWords verdictTable
 past-verdicts n h = rw (List·getD-eq-default verdictTable "no verdict has this number" h) refl
+
+-- these are the words of the cause that has the number
+pub refusal-words : (e : Refusal) → refusalWords (numberOf e) ≡ bytesOf (causeWords e)
+unfolding refusalWords refusalTable
+refusal-words tooLong = refl
+refusal-words cutOff = refl
+refusal-words unknownCommand = refl
+refusal-words outOfPlace = refl
+refusal-words beyond = refl
+refusal-words wrongKind = refl
+refusal-words ownSenior = refl
+refusal-words smallScratch = refl
+refusal-words shortOutput = refl
+refusal-words rulesCutOff = refl
+refusal-words rulesUnknown = refl
+refusal-words rulesOrder = refl
+refusal-words rulesOperand = refl
+
+-- these are the words of the verdict that has the number
+pub verdict-words : (v : Verdict) → verdictWords (verdictNumber v) ≡ bytesOf (findingWords v)
+unfolding verdictWords verdictTable findingWords
+verdict-words sound = refl
+verdict-words (differ u r o) = refl
+verdict-words (strayRule i) = refl
+verdict-words (strayPart p) = refl

@@ -1,14 +1,14 @@
 -- The meaning of each number in words.
 -- Assumes nothing.
-use Prim.Native.Char.{Char, code}
+use Prim.Native.Char.{code}
 use Prim.Native.Nat.{ℕ, _≤_}
 use Prim.Native.String.{String, [] as empty, _∷_ as _before_}
 use lib.ListN.{length, getD, take}
 use mathlib.Core.Bool.{Bool, true, false}
 use mathlib.Core.List.{List, [], _∷_}
-use mathlib.Core.Path.{_≡_, refl}
-use Rattle.files.specs.Answer.{Refusal, numberOf, tooLong, cutOff, unknownCommand, outOfPlace, beyond, wrongKind, ownSenior, smallScratch, shortOutput, rulesCutOff, rulesUnknown, rulesOrder, rulesOperand}
-use Rattle.files.specs.Calls.{Verdict, verdictNumber, differ, strayRule, strayPart, sound}
+use mathlib.Core.Path.{_≡_}
+use Rattle.files.specs.Answer.{Refusal, tooLong, cutOff, unknownCommand, outOfPlace, beyond, wrongKind, ownSenior, smallScratch, shortOutput, rulesCutOff, rulesUnknown, rulesOrder, rulesOperand}
+use Rattle.files.specs.Calls.{Verdict, differ, strayRule, strayPart, sound}
 
 -- a text as bytes
 abbrev pub bytesOf : String → List ℕ
@@ -47,23 +47,6 @@ refusalTable =
 unfoldable pub refusalWords : ℕ → List ℕ
 refusalWords n = bytesOf (getD refusalTable n "no refusal has this number")
 
--- these are the words of the cause that has the number
-pub refusal-words : (e : Refusal) → refusalWords (numberOf e) ≡ bytesOf (causeWords e)
-unfolding refusalWords refusalTable
-refusal-words tooLong = refl
-refusal-words cutOff = refl
-refusal-words unknownCommand = refl
-refusal-words outOfPlace = refl
-refusal-words beyond = refl
-refusal-words wrongKind = refl
-refusal-words ownSenior = refl
-refusal-words smallScratch = refl
-refusal-words shortOutput = refl
-refusal-words rulesCutOff = refl
-refusal-words rulesUnknown = refl
-refusal-words rulesOrder = refl
-refusal-words rulesOperand = refl
-
 -- 01's words for each verdict; what it is about, a triple, a rule or a part, stands in front
 unfoldable pub findingWords : Verdict → String
 findingWords sound = "roles and rules grant the same, every rule what its parts do, and every part stands under one rule"
@@ -77,14 +60,6 @@ verdictTable = findingWords sound ∷ findingWords (differ 0 0 0) ∷ findingWor
 -- the words of a verdict by its number
 unfoldable pub verdictWords : ℕ → List ℕ
 verdictWords n = bytesOf (getD verdictTable n "no verdict has this number")
-
--- these are the words of the verdict that has the number
-pub verdict-words : (v : Verdict) → verdictWords (verdictNumber v) ≡ bytesOf (findingWords v)
-unfolding verdictWords verdictTable findingWords
-verdict-words sound = refl
-verdict-words (differ u r o) = refl
-verdict-words (strayRule i) = refl
-verdict-words (strayPart p) = refl
 
 -- the answers to the role question and the rule question; the triple stands behind
 unfoldable pub replyText : Bool → Bool → String

@@ -1,4 +1,5 @@
 // What the programs share: reading a file by its name, reading a number, and printing answers with their numbers and their meaning.
+mod argument;
 mod input;
 mod number;
 mod print;
@@ -16,12 +17,15 @@ pub use number::number_in;
 pub use number::number_named;
 pub use number::within;
 pub use print::complain;
+pub use print::complain_refused;
 pub use print::end_line;
+pub use print::fail;
 pub use print::refuse;
 pub use print::say;
 pub use print::say_count;
 pub use print::say_number;
 pub use print::say_triple;
+pub use words::put;
 pub use words::refusal_words;
 pub use words::reply_words;
 pub use words::verdict_words;

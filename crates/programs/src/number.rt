@@ -2,6 +2,7 @@
 ghost use mathlib.Core.Path.{_≡_};
 ghost use Prim.Native.Nat.{_+_, _-_, _*_, _≤_, min};
 ghost use Rattle.programs.specs.Numbers.{isWithin, numberIn, most};
+use crate::argument::complain_of;
 
 pub enum Number {
     Given(usize),
@@ -57,9 +58,16 @@ pub fn number_in(text: &[u8]) -> Number
     Number::Given(n)
 }
 
-// The number that argument i gives. One that is too long to be read whole is none.
-pub fn number_named(i: usize) -> Number {
+// The number that argument i gives. One that is too long to be read whole is none. Where it gives none, a line on standard error says so.
+pub fn number_named(program: &[u8], i: usize, wrong: &[u8]) -> Number {
     let mut text = io::buffer();
     let n = os::arg(i, &mut text);
-    number_in(&text[..n])
+    let given = number_in(&text[..n]);
+    match given {
+        Number::Given(k) => Number::Given(k),
+        Number::Wrong => {
+            complain_of(program, i, wrong);
+            Number::Wrong
+        }
+    }
 }

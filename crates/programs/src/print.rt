@@ -1,4 +1,5 @@
-// Lines of words and numbers on standard output. Each function says whether all was printed so far, and prints nothing behind a failure.
+// Lines of words and numbers. An answer goes to standard output: each function that begins with `say` says whether all was printed so far,
+// and prints nothing behind a failure. Everything else goes to standard error, behind the name of the program.
 use crate::words::refusal_words;
 
 pub fn say(printed: bool, text: &[u8]) -> bool {
@@ -29,22 +30,43 @@ pub fn say_triple(printed: bool, user: usize, resource: usize, operation: usize)
 }
 
 // Ends the line. Where not all was printed, a line on standard error says so.
-pub fn end_line(printed: bool) {
+pub fn end_line(program: &[u8], printed: bool) {
     if !say(printed, b"\n") {
-        os::fail(b"cannot print the answer");
+        fail(program, b"cannot print the answer");
     }
 }
 
-// The line of a refusal.
-pub fn refuse(n: usize) {
+// The line of a refusal, its number and its meaning.
+pub fn refuse(program: &[u8], n: usize) {
     let mut words = [0u8; 160];
     let length = refusal_words(n, &mut words);
     let numbered = say_count(true, b"refused ", n);
     let marked = say(numbered, b": ");
-    end_line(say(marked, &words[..length]));
+    end_line(program, say(marked, &words[..length]));
 }
 
-// A line on standard error, which the text ends.
+// A text on standard error.
 pub fn complain(text: &[u8]) {
     io::write_all(libc::STDERR_FILENO, text);
+}
+
+// The start of a line on standard error: who complains.
+pub fn name_program(program: &[u8]) {
+    complain(program);
+    complain(b": ");
+}
+
+// The meaning of a refusal, for a program whose line of a refusal has the number alone.
+pub fn complain_refused(program: &[u8], n: usize) {
+    let mut words = [0u8; 160];
+    let length = refusal_words(n, &mut words);
+    name_program(program);
+    complain(&words[..length]);
+    complain(b"\n");
+}
+
+// What failed, and the system's words for it. A write that succeeds leaves these as they are.
+pub fn fail(program: &[u8], what: &[u8]) {
+    name_program(program);
+    os::fail(what);
 }

@@ -5,7 +5,7 @@ ghost use lib.ListN.{length};
 ghost use Rattle.programs.specs.Words.{Holds, refusalWords, verdictWords, replyWords};
 
 // Puts a text at the start of out, and answers its length.
-fn put(text: &[u8], out: &mut [u8]) -> usize
+pub fn put(text: &[u8], out: &mut [u8]) -> usize
     requires { ⌜ length (now text) ≤ length (now out) ⌝ }
     ensures { λ r. ⌜ Holds (now (out .exit)) r (now (text .entry)) ⌝ }
 {

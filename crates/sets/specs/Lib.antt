@@ -8,3 +8,4 @@ pub mod SetLaws
 pub mod LowestLaws
 pub mod MaskLaws
 pub mod LoopLaws
+pub mod MemberLaws

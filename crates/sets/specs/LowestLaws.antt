@@ -11,6 +11,7 @@ use native.Mathlib.Omega.{arith}
 use Rattle.sets.specs.Tests.{Is}
 use Rattle.sets.specs.TestLaws.{never, test}
 use Rattle.sets.specs.Lowest.{lowestFrom, lowest}
+
 pub lowestFrom-misses : (f : ℕ → Bool) (k n l : ℕ) → k ≤ l → l < lowestFrom f k n → f l ≡ false
 lowestFrom-misses f k zero l h p = absurd (omega arith)
 lowestFrom-misses f k (suc n) l h p = go (f k) refl (lowestFrom-misses f (suc k) n l) p

@@ -12,6 +12,7 @@ use native.Mathlib.Omega.{arith}
 use Rattle.sets.specs.Tests.{Is}
 use Rattle.sets.specs.TestLaws.{and-in, and-l, and-r, test, same}
 use Rattle.sets.specs.Sets.{bit, subset, maskOf}
+
 pub bit-zero : (a : ℕ) → bit a 0 ≡ eqb (a % 2) 1
 unfolding bit
 bit-zero a = ap (λ (x : ℕ). eqb (x % 2) 1) (div-one a)

@@ -4,7 +4,7 @@ use Prim.Native.Nat.{ℕ, zero, suc, _+_, _*_, _/_, _%_, _^_}
 use lib.Bits.{bitAnd}
 use lib.Dec.{eqb}
 use lib.ListN.{length}
-use mathlib.Core.Bool.{Bool, cond, _&&_, _||_}
+use mathlib.Core.Bool.{Bool, cond, _&&_, _||_, not}
 use Rattle.sets.specs.Tests.{imp, all, any, keep, upTo}
 
 -- n is in the set
@@ -19,6 +19,10 @@ subset a b = eqb (bitAnd a b) a
 unfoldable pub maskOf : ℕ → (ℕ → Bool) → ℕ
 maskOf zero f = 0
 maskOf (suc n) f = cond (f 0) 1 0 + 2 * maskOf n (λ i. f (suc i))
+
+-- a set less one of its members
+unfoldable pub lessOne : ℕ → ℕ → ℕ
+lessOne m y = maskOf 64 (λ k. bit m k && not (eqb k y))
 
 -- how many there are in a set of numbers below 64
 unfoldable pub size : ℕ → ℕ

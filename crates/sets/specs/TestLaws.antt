@@ -12,6 +12,7 @@ use mathlib.Core.Path.{_≡_, refl, sym, ap, ap₂, _∙_}
 use native.Mathlib.Nat.{add-zero, add-suc, suc-add}
 use native.Mathlib.Omega.{arith}
 use Rattle.sets.specs.Tests.{Is, imp, iff, _isIn_, all, any, keep, each, only, from, upTo, elem, isSome}
+
 pub and-in : {a b : Bool} → Is a → Is b → Is (a && b)
 and-in {a} {b} p q = rw p q
 

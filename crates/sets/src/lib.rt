@@ -3,8 +3,9 @@
 ghost use lib.Dec.{eqb, ltb};
 ghost use mathlib.Core.Bool.{_&&_, _||_, not};
 ghost use mathlib.Core.Path.{_≡_};
+ghost use Prim.Native.Nat.{_<_};
 ghost use Rattle.sets.specs.Lowest.{lowestFrom};
-ghost use Rattle.sets.specs.Sets.{bit, subset, maskOf, size};
+ghost use Rattle.sets.specs.Sets.{bit, subset, maskOf, lessOne, size};
 
 // Whether i is in m.
 pub fn has(m: u64, i: usize) -> bool
@@ -25,6 +26,16 @@ pub fn within(a: u64, b: u64) -> bool
     ensures { λ r. ⌜ r ≡ subset a b ⌝ }
 {
     a & b == a
+}
+
+// Whether b contains all that is in a, and more.
+pub fn strictly_within(a: u64, b: u64) -> bool
+    ensures { λ r. ⌜ r ≡ (subset a b && not (subset b a)) ⌝ }
+{
+    if within(b, a) {
+        return false;
+    }
+    within(a, b)
 }
 
 pub fn union(a: u64, b: u64) -> u64
@@ -58,6 +69,14 @@ pub fn least(m: u64) -> usize
     ensures { λ r. ⌜ r ≡ lowestFrom (bit m) 0 64 ⌝ }
 {
     u64::trailing_zeros(m) as usize
+}
+
+// A set that is not empty, less its least member.
+pub fn without_least(m: u64) -> u64
+    requires { ⌜ 0 < m ⌝ }
+    ensures { λ r. ⌜ r ≡ lessOne m (lowestFrom (bit m) 0 64) ⌝ }
+{
+    m & (m - 1)
 }
 
 // The set of the numbers below n.

@@ -3,7 +3,7 @@ use borrow.Author.Needs.{needs}
 use denote.Ref.{now}
 use Rattle.explain.proofs.explain.Statement.{statement}
 use Rattle.explain.proofs.explain.Tie as tie
-use Rattle.rulefile.specs.LegalLaws.{both-sizes}
+use Rattle.rule_file.specs.LegalLaws.{both-sizes}
 
 tell-rules-requires : tie.Need-tell-rules-requires
 tell-rules-requires c κs =
@@ -16,4 +16,10 @@ tell-rules-requires c κs =
 pub explain-spec : {M : Type 1} → statement M
 explain-spec =
     tie.close
-    (tie.spec (λ c κs. search needs) (λ c κs. search needs) (λ c. search needs) tell-rules-requires (λ c. search needs))
+    (tie.spec
+    (λ c κs. search needs)
+    (λ c. search needs)
+    (λ c κs. search needs)
+    (λ c. search needs)
+    tell-rules-requires
+    (λ c. search needs))

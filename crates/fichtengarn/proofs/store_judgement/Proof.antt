@@ -4,7 +4,7 @@ use denote.Ref.{now}
 use mathlib.Core.Path.{sym, ap}
 use native.Mathlib.Omega.{arith}
 use Rattle.fichtengarn.specs.NumberLaws.{handed}
-use Rattle.judging.specs.Judgement.{judgementNumbers}
+use Rattle.rule_judge.specs.Judgement.{judgementNumbers}
 use Rattle.fichtengarn.proofs.store_judgement.Statement.{statement}
 use Rattle.fichtengarn.proofs.store_judgement.Tie as tie
 

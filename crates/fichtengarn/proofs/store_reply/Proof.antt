@@ -4,7 +4,7 @@ use denote.Ref.{now}
 use mathlib.Core.Path.{sym, ap}
 use native.Mathlib.Omega.{arith}
 use Rattle.fichtengarn.specs.NumberLaws.{handed}
-use Rattle.rolequestion.specs.Reply.{replyNumbers}
+use Rattle.role_question.specs.Reply.{replyNumbers}
 use Rattle.fichtengarn.proofs.store_reply.Statement.{statement}
 use Rattle.fichtengarn.proofs.store_reply.Tie as tie
 

@@ -2,7 +2,7 @@
 use borrow.Author.Needs.{needs}
 use denote.Ref.{now}
 use mathlib.Core.Path.{_≡_}
-use Rattle.loaded.specs.Record.{Sized, recordOf}
+use Rattle.role_record.specs.Record.{Sized, recordOf}
 use Rattle.files.specs.Answer.{accepted}
 use Rattle.files.specs.RoleFile.{readRoles}
 use Rattle.mining.specs.AssemblyLaws.{loaded-policy, record-sizes, stored}

@@ -2,7 +2,7 @@
 use borrow.Author.Needs.{needs}
 use mathlib.Core.Path.{sym, _∙_}
 use Rattle.explain.specs.HeadingLaws.{front-line}
-use Rattle.rulecommands.specs.declared.Raw.the-variants.{Whole, Unknown, Short}
+use Rattle.rule_commands.specs.declared.Raw.the-variants.{Whole, Unknown, Short}
 use Rattle.explain.proofs.line.front.Statement.{statement}
 use Rattle.explain.proofs.line.front.Tie as tie
 

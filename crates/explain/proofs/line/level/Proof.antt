@@ -1,6 +1,6 @@
 -- Four cases. Assumes nothing.
 use mathlib.Core.Path.{sym, ap₂}
-use Rattle.explain.specs.Headings.{levelOf}
+use Rattle.levels.specs.Levels.{levelOf}
 use Rattle.sets.specs.Lowest.{lowest}
 use Rattle.explain.proofs.line.level.Statement.{statement}
 use Rattle.explain.proofs.line.level.Tie as tie

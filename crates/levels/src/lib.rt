@@ -1,0 +1,1 @@
+// The level of a rule, read off its lines: definitions and theorems only (specs/).

@@ -1,5 +1,0 @@
-pub mod Matches
-pub mod MemberLaws
-pub mod TableLaws
-pub mod MetLaws
-pub mod MatchLaws

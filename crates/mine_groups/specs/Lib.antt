@@ -1,0 +1,4 @@
+pub mod Seats
+pub mod SeatLaws
+pub mod Scratch
+pub mod MergedLaws

@@ -1,0 +1,1 @@
+// Groups in scratch: what its words stand for while groups are merged, and at the end.

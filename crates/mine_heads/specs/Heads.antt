@@ -1,0 +1,31 @@
+-- The marks of heads in scratch memory: a bit for each slot, in eight words.
+-- Assumes nothing.
+use Prim.Native.Nat.{ℕ, _/_, _%_, _<_}
+use lib.Dec.{eqb}
+use lib.ListN.{length, getD, set}
+use mathlib.Core.Bool.{Bool, false, _&&_, not}
+use mathlib.Core.List.{List}
+use mathlib.Core.Path.{_≡_}
+use Rattle.mine_pairs.specs.Pairing.{reaches}
+use Rattle.mine_seats.specs.Seats.{wordsAt, isHeadAt}
+use Rattle.sets.specs.Sets.{bit, maskOf}
+use Rattle.sets.specs.Tests.{Is}
+
+-- slot k is marked: bit k % 64 of word k / 64
+abbrev pub marked : List ℕ → ℕ → Bool
+marked marks k = bit (getD marks (k / 64) 0) (k % 64)
+
+-- slot j without its mark
+abbrev pub unmarked : List ℕ → ℕ → List ℕ
+unmarked marks j = set marks (j / 64) (maskOf 64 (λ k. bit (getD marks (j / 64) 0) k && not (eqb k (j % 64))))
+
+-- the heads are marked, and no other slots
+pub record Marked (marks t : List ℕ) : Type 0 where
+  pub long : length marks ≡ 8
+  pub right : (k : ℕ) → k < 512 → marked marks k ≡ isHeadAt t k
+
+-- heads are marked, and among them all that reach the group of slot c
+pub record Open (marks t : List ℕ) (c : ℕ) : Type 0 where
+  pub long : length marks ≡ 8
+  pub heads : (k : ℕ) → k < 512 → Is (marked marks k) → Is (isHeadAt t k)
+  pub far : (k : ℕ) → k < 512 → (k ≡ c → ⊥) → Is (isHeadAt t k) → marked marks k ≡ false → reaches (wordsAt t k) (wordsAt t c) ≡ false

@@ -1,0 +1,4 @@
+pub mod Matches
+pub mod TableLaws
+pub mod MetLaws
+pub mod MatchLaws

@@ -1,0 +1,9 @@
+pub mod Steps
+pub mod Traced
+pub mod Progress
+pub mod CountLaws
+pub mod PairLaws
+pub mod JoinLaws
+pub mod AloneLaws
+pub mod ResolveLaws
+pub mod ProgressLaws

@@ -1,0 +1,65 @@
+-- The invariant: no head of the words before this one is near. Assumes nothing.
+use Prim.Native.Nat.{_*_, _-_}
+use borrow.Author.Needs.{needs}
+use mathlib.Core.Logic.{inl}
+use mathlib.Core.Path.{refl}
+use native.Mathlib.Omega.{arith}
+use Rattle.mine_search.specs.SearchLaws.{near-found, near-on}
+use Rattle.mine_search.specs.Search.{NoneIn, nearHead}
+use Rattle.mine_pairs.specs.Pairing.{wordsIn}
+use Rattle.mine_search.proofs.next_near.Statement.{statement}
+use Rattle.mine_search.proofs.next_near.Tie as tie
+
+abbrev Inv-loop : tie.InvT-loop
+Inv-loop scratch heads g from word₀ word = NoneIn (nearHead heads scratch (wordsIn g)) from (64 * word)
+
+abbrev μ-loop : tie.MeasureT-loop
+μ-loop scratch heads g from word₀ word = 8 - word
+
+loop-holds : tie.Need-loop-holds Inv-loop μ-loop
+loop-holds c k a b = absurd (omega arith)
+
+returns : tie.Need-returns Inv-loop μ-loop
+returns c =
+    let found = c .before in
+    let asked = found .before in
+    let passed = asked .before .before in
+    let later = passed .before in
+    let turn = later .before in
+    let a = turn .before .before .before .args in
+    near-found (a .heads .now) (a .scratch .now) (wordsIn (a .g)) (a .from) (turn .before .loop .word) (turn .loop-test .taken) (later .higher .ensures) (passed .below .ensures) (asked .without .ensures) (turn .before .loop .inv) (found .near-within .ensures) (c .if1 .taken)
+
+loop-again : tie.Need-loop-again Inv-loop μ-loop
+loop-again c =
+    let found = c .before in
+    let asked = found .before in
+    let passed = asked .before .before in
+    let later = passed .before in
+    let turn = later .before in
+    let a = turn .before .before .before .args in
+    near-on (a .heads .now) (a .scratch .now) (wordsIn (a .g)) (a .from) (turn .before .loop .word) (turn .loop-test .taken) (later .higher .ensures) (passed .below .ensures) (asked .without .ensures) (turn .before .loop .inv) (found .near-within .ensures) (c .if1 .left)
+
+returns-2 : tie.Need-returns-2 Inv-loop μ-loop
+returns-2 c = inl (refl, λ k a b. c .before .loop .inv k a (omega (arith, c .loop-test .left)))
+
+pub next-near-spec : {M : Type 1} → statement M
+next-near-spec =
+    tie.close
+    (tie.spec
+    Inv-loop
+    μ-loop
+    loop-holds
+    (λ c. search needs)
+    (λ c κs. search needs)
+    (λ c. search needs)
+    (λ c. omega (arith, c .higher .ensures))
+    (λ c κs. search needs)
+    (λ c. search needs)
+    (λ c. search needs)
+    (λ c κs. search needs)
+    (λ c κs. search needs)
+    returns
+    (λ c. search needs)
+    (λ c. search needs)
+    loop-again
+    returns-2)

@@ -1,0 +1,174 @@
+// Whether a command of a role file may stand where it does and say what it says.
+ghost use mathlib.Core.Path.{_≡_};
+ghost use mathlib.Core.Bool.{cond, not};
+ghost use Prim.Native.Nat.{_+_, _*_, _≤_, _<_};
+ghost use lib.Dec.{eqb};
+ghost use lib.ListN.{getD};
+ghost use Rattle.sets.specs.Tests.{iff};
+ghost use Rattle.role_admit.specs.Admit.{belowOf, firstOf, declaringOf, laterOf, kindCode, valueCode, admitOf};
+use role_commands::Command;
+use role_record::ByAttribute;
+use role_record::BySide;
+use role_record::CountBySide;
+use role_record::RoleFile;
+
+// The verdict v where x is below the limit, else 5.
+fn below(x: usize, limit: usize, v: usize) -> usize
+    ensures { λ r. ⌜ r ≡ belowOf x limit v ⌝ }
+{
+    if x < limit { v } else { 5 }
+}
+
+// The verdict v where nothing was read before, else 4.
+fn first(phase: usize, v: usize) -> usize
+    ensures { λ r. ⌜ r ≡ firstOf phase v ⌝ }
+{
+    if phase == 0 { v } else { 4 }
+}
+
+// The verdict v where only 01 and 02 were read before, else 4.
+fn declaring(phase: usize, v: usize) -> usize
+    ensures { λ r. ⌜ r ≡ declaringOf phase v ⌝ }
+{
+    if phase == 1 { v } else { 4 }
+}
+
+// The verdict v where 01 was read before, else 4.
+fn later(phase: usize, v: usize) -> usize
+    ensures { λ r. ⌜ r ≡ laterOf phase v ⌝ }
+{
+    if phase == 0 { 4 } else { v }
+}
+
+// 5 where an attribute cannot be declared, else 0.
+fn admit_kind(side: usize, kind: usize, attributes: &CountBySide) -> usize
+    ensures { λ r. ⌜ r ≡ kindCode side kind (now (attributes .entry)) ⌝ }
+{
+    if 2 <= side {
+        return 5;
+    }
+    if 2 <= kind {
+        return 5;
+    }
+    if RoleFile::ATTRIBUTES <= attributes[side] {
+        return 5;
+    }
+    0
+}
+
+// The size of a side.
+fn size_of(side: usize, users: usize, resources: usize) -> usize
+    ensures { λ r. ⌜ r ≡ cond (eqb side 0) users resources ⌝ }
+{
+    if side == 0 { users } else { resources }
+}
+
+fn differ(a: bool, b: bool) -> bool
+    ensures { λ r. ⌜ r ≡ not (iff a b) ⌝ }
+{
+    a != b
+}
+
+// 5 or 6 where a value cannot be given, else 0.
+fn admit_value<'a>(
+    set: bool,
+    side: usize,
+    attribute: usize,
+    who: usize,
+    users: usize,
+    resources: usize,
+    attributes: &'a CountBySide,
+    kinds: &'a BySide,
+    known: &'a ByAttribute,
+) -> usize
+    requires { ⌜ (getD (now attributes) 0 0 ≤ 6) × (getD (now attributes) 1 0 ≤ 6) ⌝ }
+    ensures { λ r. ⌜
+        r
+        ≡ valueCode set side attribute who users resources (now (attributes .entry)) (now (kinds .entry))
+        (now (known .entry)) ⌝ }
+{
+    if 2 <= side {
+        return 5;
+    }
+    if attributes[side] <= attribute {
+        return 5;
+    }
+    if size_of(side, users, resources) <= who {
+        return 5;
+    }
+    if differ(sets::has(kinds[side], attribute), set) {
+        return 6;
+    }
+    let column = RoleFile::ATTRIBUTES * side + attribute;
+    if sets::has(known[column], who) {
+        return 6;
+    }
+    0
+}
+
+// 0 where the command may stand here and says what it may; else the refusal.
+pub fn admit<'a>(
+    c: Command,
+    phase: usize,
+    users: usize,
+    resources: usize,
+    operations: usize,
+    roles: usize,
+    attributes: &'a CountBySide,
+    kinds: &'a BySide,
+    known: &'a ByAttribute,
+) -> usize
+    requires { ⌜ (getD (now attributes) 0 0 ≤ 6) × (getD (now attributes) 1 0 ≤ 6) ⌝ }
+    ensures { λ r. ⌜
+        r
+        ≡ admitOf c phase users resources operations roles (now (attributes .entry)) (now (kinds .entry))
+        (now (known .entry)) ⌝ }
+{
+    match c {
+        Command::Sizes {
+            users: u,
+            resources: r,
+            operations: o,
+            roles: k,
+        } => {
+            let v1 = below(k, RoleFile::ROLES + 1, 0);
+            let v2 = below(o, RoleFile::OPERATIONS + 1, v1);
+            let v3 = below(r, RoleFile::RESOURCES + 1, v2);
+            first(phase, below(u, RoleFile::USERS + 1, v3))
+        }
+        Command::Declare { side, kind } => declaring(phase, admit_kind(side, kind, attributes)),
+        Command::Give {
+            set,
+            side,
+            attribute,
+            who,
+            value: _,
+        } => {
+            let v = admit_value(
+                set,
+                side,
+                attribute,
+                who,
+                users,
+                resources,
+                attributes,
+                kinds,
+                known,
+            );
+            later(phase, v)
+        }
+        Command::Assign { role, user } => later(phase, below(role, roles, below(user, users, 0))),
+        Command::Permit {
+            role,
+            resource,
+            operation,
+        } => {
+            let v1 = below(operation, operations, 0);
+            later(phase, below(role, roles, below(resource, resources, v1)))
+        }
+        Command::Line { junior, senior } => {
+            later(phase, below(junior, roles, below(senior, roles, 0)))
+        }
+        Command::End => later(phase, 0),
+    }
+}

@@ -1,0 +1,142 @@
+// The commands of a rule file, taken from the front of its bytes.
+ghost use mathlib.Core.Path.{_≡_};
+ghost use mathlib.Core.List.{[], _∷_};
+ghost use Rattle.role_commands.specs.Decode.{numberAt};
+ghost use Rattle.rule_commands.specs.Raw.{takenBy, rawOf, rawBefore};
+
+// An atom by the kinds of its two attributes: the user attribute, the resource attribute.
+pub enum Atom {
+    SetContainsSet(usize, usize),
+    SetContainsSingle(usize, usize),
+    SingleEqualsSingle(usize, usize),
+}
+
+pub enum RuleCommand {
+    Opens,
+    UserSingle { attribute: usize, value: u64 },
+    UserSet { attribute: usize, set: u64 },
+    ResourceSingle { attribute: usize, value: u64 },
+    ResourceSet { attribute: usize, set: u64 },
+    Operations(u64),
+    Link(Atom),
+    Part { role: usize, operations: u64 },
+    Ends,
+}
+
+// What stands at the front of the bytes: a command byte, its first and its second operand (0 where there is none) and how
+// many bytes they take; an unknown command; or less than a command. The command itself is not made here: which atom a 27
+// is depends on the kinds of its attributes, and the order of commands is that of these numbers.
+pub enum Raw {
+    Whole(usize, u64, u64, usize),
+    Unknown,
+    Short,
+}
+
+// The operands are read by the total `byte_at`. Each caller tests the length first, so that no test is left at a single byte.
+
+// Two bytes from place 1 on, low byte first.
+fn pair_at_1(s: &[u8]) -> u64
+    ensures { λ r. ⌜ r ≡ numberAt 2 (now (s .entry)) 1 ⌝ }
+{
+    (role_commands::byte_at(s, 1) + 256 * role_commands::byte_at(s, 2)) as u64
+}
+
+// Two bytes from place 2 on, low byte first.
+fn pair_at_2(s: &[u8]) -> u64
+    ensures { λ r. ⌜ r ≡ numberAt 2 (now (s .entry)) 2 ⌝ }
+{
+    (role_commands::byte_at(s, 2) + 256 * role_commands::byte_at(s, 3)) as u64
+}
+
+// Eight bytes from place 2 on, low byte first.
+fn word_at_2(s: &[u8]) -> u64
+    ensures { λ r. ⌜ r ≡ numberAt 8 (now (s .entry)) 2 ⌝ }
+{
+    let b0 = role_commands::byte_at(s, 2) as u64;
+    let b1 = role_commands::byte_at(s, 3) as u64;
+    let b2 = role_commands::byte_at(s, 4) as u64;
+    let b3 = role_commands::byte_at(s, 5) as u64;
+    let b4 = role_commands::byte_at(s, 6) as u64;
+    let b5 = role_commands::byte_at(s, 7) as u64;
+    let b6 = role_commands::byte_at(s, 8) as u64;
+    let b7 = role_commands::byte_at(s, 9) as u64;
+    b0 + 256 * (b1 + 256 * (b2 + 256 * (b3 + 256 * (b4 + 256 * (b5 + 256 * (b6 + 256 * b7))))))
+}
+
+// A command of two operands of one byte each.
+fn two_bytes(s: &[u8], b: usize) -> Raw
+    ensures { λ r. ⌜ r ≡ takenBy (1 ∷ 1 ∷ []) b (now (s .entry)) ⌝ }
+{
+    if s.len() < 3 {
+        return Raw::Short;
+    }
+    let x = role_commands::byte_at(s, 1) as u64;
+    let y = role_commands::byte_at(s, 2) as u64;
+    Raw::Whole(b, x, y, 3)
+}
+
+// A command of one operand of two bytes.
+fn one_pair(s: &[u8], b: usize) -> Raw
+    ensures { λ r. ⌜ r ≡ takenBy (2 ∷ []) b (now (s .entry)) ⌝ }
+{
+    if s.len() < 3 {
+        return Raw::Short;
+    }
+    let x = pair_at_1(s);
+    Raw::Whole(b, x, 0, 3)
+}
+
+// A command of an operand of one byte and one of two bytes.
+fn byte_and_pair(s: &[u8], b: usize) -> Raw
+    ensures { λ r. ⌜ r ≡ takenBy (1 ∷ 2 ∷ []) b (now (s .entry)) ⌝ }
+{
+    if s.len() < 4 {
+        return Raw::Short;
+    }
+    let x = role_commands::byte_at(s, 1) as u64;
+    let y = pair_at_2(s);
+    Raw::Whole(b, x, y, 4)
+}
+
+// A command of an operand of one byte and one of eight bytes.
+fn byte_and_word(s: &[u8], b: usize) -> Raw
+    ensures { λ r. ⌜ r ≡ takenBy (1 ∷ 8 ∷ []) b (now (s .entry)) ⌝ }
+{
+    if s.len() < 10 {
+        return Raw::Short;
+    }
+    let x = role_commands::byte_at(s, 1) as u64;
+    let y = word_at_2(s);
+    Raw::Whole(b, x, y, 10)
+}
+
+// The next command.
+pub fn next(s: &[u8]) -> Raw
+    ensures { λ r. ⌜ r ≡ rawOf (now (s .entry)) ⌝ }
+{
+    if s.len() == 0 {
+        return Raw::Short;
+    }
+    let b = role_commands::byte_at(s, 0);
+    match b {
+        0x21 | 0x2F => Raw::Whole(b, 0, 0, 1),
+        0x22 | 0x24 | 0x28 => byte_and_pair(s, b),
+        0x23 | 0x25 => byte_and_word(s, b),
+        0x26 => one_pair(s, b),
+        0x27 => two_bytes(s, b),
+        _ => Raw::Unknown,
+    }
+}
+
+// Whether the command b with operands x, y stands before the command c with operands z, w: the first number that differs decides.
+pub fn before(b: usize, x: u64, y: u64, c: usize, z: u64, w: u64) -> bool
+    ensures { λ r. ⌜ r ≡ rawBefore b x y c z w ⌝ }
+{
+    if b != c {
+        return b < c;
+    }
+    if x != z {
+        return x < z;
+    }
+    y < w
+}

@@ -1,0 +1,29 @@
+-- Who meets a listed value, by the record's tables: the form in which code works it out.
+-- Assumes nothing.
+use Prim.Native.Nat.{ℕ, _+_, _*_}
+use lib.Dec.{eqb, ltb}
+use lib.ListN.{getD}
+use mathlib.Core.Bool.{Bool, true, false, cond, _&&_, _||_}
+use mathlib.Core.List.{List}
+use Rattle.policy.specs.Covering.{known}
+use Rattle.sets.specs.Sets.{bit, subset, maskOf}
+use Rattle.sets.specs.Tests.{imp, all, upTo}
+
+-- a listed value is met: by containment, or by equality
+abbrev pub order : Bool → ℕ → ℕ → Bool
+order true x y = subset x y
+order false x y = eqb x y
+
+-- somebody knows the attribute of a column, and meets the listed value
+unfoldable pub metAt : ℕ → List ℕ → ℕ → ℕ → Bool → ℕ → Bool
+metAt known values column v within x = bit known x && order within v (getD values (64 * column + x) 0)
+
+-- a user holds all roles of a set
+unfoldable pub holdsAll : List ℕ → ℕ → ℕ → ℕ → Bool
+holdsAll holders roles v u = all (λ k. imp (bit v k) (bit (getD holders k 0) u)) (upTo roles)
+
+unfoldable pub meetingOf : ℕ → Bool → ℕ → ℕ → ℕ → ℕ → List ℕ → List ℕ → List ℕ → ℕ
+meetingOf side set a v count roles known values holders =
+    cond (ltb a 6)
+    (maskOf count (metAt (getD known (6 * side + a) 0) values (6 * side + a) v (cond (eqb side 0) set false)))
+    (cond (eqb side 0) (maskOf count (holdsAll holders roles v)) (maskOf 64 (λ k. bit 0 k || eqb k v)))

@@ -1,0 +1,268 @@
+// Whether the operands of a rule file's command are legal beside a loaded role file, and the command that they make.
+ghost use mathlib.Core.Path.{_≡_};
+ghost use mathlib.Core.Bool.{_&&_};
+ghost use Prim.Native.Nat.{_+_, _*_, _^_, _≤_, _<_};
+ghost use lib.Dec.{ltb};
+ghost use Rattle.sets.specs.Tests.{iff};
+ghost use Rattle.rule_operands.specs.Operands.{ownLegal, valueLegal, linkLegal, partLegal};
+ghost use Rattle.rule_operands.specs.Checked.{valueCommand, atomOf, checkedValue, checkedOperations, checkedLink, checkedPart, checkedOf};
+use role_record::ByRole;
+use role_record::ByRoleOperation;
+use role_record::BySide;
+use role_record::CountBySide;
+use role_record::RoleFile;
+use rule_commands::Atom;
+use rule_commands::RuleCommand;
+
+// A command whose operands are legal, or word that they are not.
+pub enum Checked {
+    Legal(RuleCommand),
+    Illegal,
+}
+
+// Whether all elements of a set are below n.
+fn all_below(m: u64, n: usize) -> bool
+    requires { ⌜ n < 64 ⌝ }
+    ensures { λ r. ⌜ r ≡ ltb m (2 ^ n) ⌝ }
+{
+    m >> n == 0
+}
+
+// A value of a 255: roles of the user's, a resource of the resource's.
+fn own_legal(side: usize, set: bool, v: u64, roles: usize, resources: usize) -> bool
+    requires { ⌜ roles ≤ 32 ⌝ }
+    ensures { λ r. ⌜ r ≡ ownLegal side set v roles resources ⌝ }
+{
+    if side == 0 {
+        if set {
+            return all_below(v, roles);
+        }
+        return false; // the user's 255 is a set, of roles
+    }
+    if set {
+        return false;
+    }
+    v < resources as u64
+}
+
+fn same(a: bool, b: bool) -> bool
+    ensures { λ r. ⌜ r ≡ iff a b ⌝ }
+{
+    a == b
+}
+
+// Commands 22 to 25: a declared attribute of the right kind, or a 255 where it may stand.
+pub fn value_legal<'a>(
+    side: usize,
+    set: bool,
+    attribute: u64,
+    v: u64,
+    roles: usize,
+    resources: usize,
+    attributes: &'a CountBySide,
+    kinds: &'a BySide,
+) -> bool
+    requires { ⌜ (side < 2) × (roles ≤ 32) ⌝ }
+    ensures { λ r. ⌜
+        r ≡ valueLegal side set attribute v roles resources (now (attributes .entry)) (now (kinds .entry)) ⌝ }
+{
+    if attribute == 255 {
+        return own_legal(side, set, v, roles, resources);
+    }
+    let a = attribute as usize;
+    if a < attributes[side] {
+        return same(sets::has(kinds[side], a), set);
+    }
+    false
+}
+
+// Command 26: operations that are declared, and not none.
+pub fn operations_legal(m: u64, operations: usize) -> bool
+    requires { ⌜ operations ≤ 16 ⌝ }
+    ensures { λ r. ⌜ r ≡ (ltb 0 m && ltb m (2 ^ operations)) ⌝ }
+{
+    if 0 < m {
+        return all_below(m, operations);
+    }
+    false
+}
+
+// Command 27: declared attributes that one of the three forms joins.
+pub fn link_legal<'a>(a: u64, b: u64, attributes: &'a CountBySide, kinds: &'a BySide) -> bool
+    ensures { λ r. ⌜ r ≡ linkLegal a b (now (attributes .entry)) (now (kinds .entry)) ⌝ }
+{
+    if attributes[0] as u64 <= a {
+        return false;
+    }
+    if attributes[1] as u64 <= b {
+        return false;
+    }
+    if sets::has(kinds[0], a as usize) {
+        return true;
+    }
+    !sets::has(kinds[1], b as usize)
+}
+
+// Command 28: a role and exactly the class of one of its parts.
+pub fn part_legal<'a>(
+    role: u64,
+    m: u64,
+    roles: usize,
+    operations: usize,
+    holders: &'a ByRole,
+    permissions: &'a ByRoleOperation,
+) -> bool
+    requires { ⌜ (roles ≤ 32) × (operations ≤ 16) ⌝ }
+    ensures { λ r. ⌜ r ≡ partLegal role m roles operations (now (holders .entry)) (now (permissions .entry)) ⌝ }
+{
+    if roles as u64 <= role {
+        return false;
+    }
+    let k = role as usize;
+    if holders[k] == 0 {
+        return false;
+    }
+    let o = sets::least(m);
+    if operations <= o {
+        return false;
+    }
+    if permissions[RoleFile::OPERATIONS * k + o] == 0 {
+        return false;
+    }
+    grant_parts::class_of(permissions, k, operations, o) == m
+}
+
+// The command of a value of an attribute: which of the four follows from the side and the kind.
+fn value_command(side: usize, set: bool, a: usize, v: u64) -> RuleCommand
+    ensures { λ r. ⌜ r ≡ valueCommand side set a v ⌝ }
+{
+    if side == 0 {
+        if set {
+            return RuleCommand::UserSet {
+                attribute: a,
+                set: v,
+            };
+        }
+        return RuleCommand::UserSingle {
+            attribute: a,
+            value: v,
+        };
+    }
+    if set {
+        return RuleCommand::ResourceSet {
+            attribute: a,
+            set: v,
+        };
+    }
+    RuleCommand::ResourceSingle {
+        attribute: a,
+        value: v,
+    }
+}
+
+// Commands 22 to 25.
+fn check_value<'a>(
+    side: usize,
+    set: bool,
+    x: u64,
+    y: u64,
+    roles: usize,
+    resources: usize,
+    attributes: &'a CountBySide,
+    kinds: &'a BySide,
+) -> Checked
+    requires { ⌜ (side < 2) × (roles ≤ 32) ⌝ }
+    ensures { λ r. ⌜ r ≡ checkedValue side set x y roles resources (now (attributes .entry)) (now (kinds .entry)) ⌝ }
+{
+    if value_legal(side, set, x, y, roles, resources, attributes, kinds) {
+        return Checked::Legal(value_command(side, set, x as usize, y));
+    }
+    Checked::Illegal
+}
+
+// Command 26.
+fn check_operations(x: u64, operations: usize) -> Checked
+    requires { ⌜ operations ≤ 16 ⌝ }
+    ensures { λ r. ⌜ r ≡ checkedOperations x operations ⌝ }
+{
+    if operations_legal(x, operations) {
+        return Checked::Legal(RuleCommand::Operations(x));
+    }
+    Checked::Illegal
+}
+
+// The atom of two attributes of a legal line: its form follows from their kinds.
+fn atom_of(a: usize, b: usize, kinds: &BySide) -> Atom
+    ensures { λ r. ⌜ r ≡ atomOf a b (now (kinds .entry)) ⌝ }
+{
+    if sets::has(kinds[0], a) {
+        if sets::has(kinds[1], b) {
+            return Atom::SetContainsSet(a, b);
+        }
+        return Atom::SetContainsSingle(a, b);
+    }
+    Atom::SingleEqualsSingle(a, b)
+}
+
+// Command 27.
+fn check_link<'a>(x: u64, y: u64, attributes: &'a CountBySide, kinds: &'a BySide) -> Checked
+    ensures { λ r. ⌜ r ≡ checkedLink x y (now (attributes .entry)) (now (kinds .entry)) ⌝ }
+{
+    if link_legal(x, y, attributes, kinds) {
+        return Checked::Legal(RuleCommand::Link(atom_of(x as usize, y as usize, kinds)));
+    }
+    Checked::Illegal
+}
+
+// Command 28.
+fn check_part<'a>(
+    x: u64,
+    y: u64,
+    roles: usize,
+    operations: usize,
+    holders: &'a ByRole,
+    permissions: &'a ByRoleOperation,
+) -> Checked
+    requires { ⌜ (roles ≤ 32) × (operations ≤ 16) ⌝ }
+    ensures { λ r. ⌜ r ≡ checkedPart x y roles operations (now (holders .entry)) (now (permissions .entry)) ⌝ }
+{
+    if part_legal(x, y, roles, operations, holders, permissions) {
+        return Checked::Legal(RuleCommand::Part {
+            role: x as usize,
+            operations: y,
+        });
+    }
+    Checked::Illegal
+}
+
+// The command of byte b with operands x and y, as `rule_commands::Raw` has them. 21 and 2F have none that could be illegal.
+pub fn check<'a>(
+    b: usize,
+    x: u64,
+    y: u64,
+    resources: usize,
+    operations: usize,
+    roles: usize,
+    attributes: &'a CountBySide,
+    kinds: &'a BySide,
+    holders: &'a ByRole,
+    permissions: &'a ByRoleOperation,
+) -> Checked
+    requires { ⌜ (roles ≤ 32) × (operations ≤ 16) ⌝ }
+    ensures { λ r. ⌜
+        r
+        ≡ checkedOf b x y resources operations roles (now (attributes .entry)) (now (kinds .entry))
+        (now (holders .entry)) (now (permissions .entry)) ⌝ }
+{
+    match b {
+        0x21 => Checked::Legal(RuleCommand::Opens),
+        0x22 => check_value(0, false, x, y, roles, resources, attributes, kinds),
+        0x23 => check_value(0, true, x, y, roles, resources, attributes, kinds),
+        0x24 => check_value(1, false, x, y, roles, resources, attributes, kinds),
+        0x25 => check_value(1, true, x, y, roles, resources, attributes, kinds),
+        0x26 => check_operations(x, operations),
+        0x27 => check_link(x, y, attributes, kinds),
+        0x28 => check_part(x, y, roles, operations, holders, permissions),
+        _ => Checked::Legal(RuleCommand::Ends),
+    }
+}

@@ -1,0 +1,2 @@
+pub mod Satisfaction
+pub mod SatisfactionLaws

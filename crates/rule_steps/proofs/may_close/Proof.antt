@@ -1,0 +1,17 @@
+-- Assumes nothing.
+use borrow.Author.Needs.{needs}
+use Rattle.rule_steps.specs.KeptLaws.{close-outside, close-bare, close-inside}
+use Rattle.rule_steps.proofs.may_close.Statement.{statement}
+use Rattle.rule_steps.proofs.may_close.Tie as tie
+
+returns : tie.Need-returns
+returns c = let d = c .before .before in close-bare (d .before .args .k) (d .if1 .taken) (c .if2 .taken)
+
+returns-2 : tie.Need-returns-2
+returns-2 c = let d = c .before .before in close-inside (d .before .args .k) (d .if1 .taken) (c .if2 .left)
+
+returns-3 : tie.Need-returns-3
+returns-3 c = close-outside (c .before .args .k) (c .if1 .left)
+
+pub may-close-spec : {M : Type 1} → statement M
+may-close-spec = tie.close (tie.spec returns returns-2 returns-3)

@@ -1,1 +1,0 @@
-// The lines of a mined rule in the order of the file: definitions and theorems only (specs/).

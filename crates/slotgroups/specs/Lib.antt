@@ -1,4 +1,0 @@
-pub mod Slots
-pub mod SlotLaws
-pub mod Scratch
-pub mod MergedLaws

@@ -1,0 +1,624 @@
+#!/usr/bin/env python3
+"""Use the programs mine, judge, ask and explain, rightly and wrongly, and compare all that they print and write.
+
+    tests/programs.py [FOLDER]      FOLDER has the programs; target/bin if left out
+
+Each use runs in a folder of its own. Standard output, standard error and every file in the folder afterwards are compared
+byte for byte. Prints one line if all is as it should be; else a message for each use that is not, and the exit status is 1.
+
+The rule files that mine has to write are those of the samples and, for larger ones, checksums; all of them, the lengths at
+refusal 9 and the verdicts are those of the second miner, an implementation by another author.
+"""
+import hashlib
+import os
+import resource
+import shutil
+import signal
+import stat
+import subprocess
+import sys
+import tempfile
+
+# no files beside this one are left
+sys.dont_write_bytecode = True
+from rolefiles import END, EXAMPLE_A, NOBODY, assign, declare, joined, line, members, permit, single, sizes
+
+HERE = os.path.dirname(os.path.abspath(__file__))
+SAMPLES = os.path.join(os.path.dirname(HERE), "samples")
+PROGRAMS = ["mine", "judge", "ask", "explain"]
+
+# Where the tests run as root, who may write everything, the programs run as somebody who may not.
+NOBODY_ID = 65534
+
+
+def sample(name):
+    with open(os.path.join(SAMPLES, name), "rb") as file:
+        return file.read()
+
+
+# ---- role files and rule files
+
+A_RULES = sample("example-a.rules")
+
+# The words of every refusal.
+MEANING = {
+    1: "the role file is too long, above 65,535 bytes",
+    2: "the role file ends inside operands or before 0F",
+    3: "the role file has an unknown command",
+    4: "the role file has a byte after its end or a command out of place",
+    5: "an operand of the role file, or a number of the question, is beyond its limit or declared size, or there is a seventh attribute",
+    6: "the role file has a value of the wrong kind or a value given twice",
+    7: "a role is its own senior",
+    9: "output is shorter than the rule file",
+    10: "the rule file is cut off",
+    11: "the rule file has an unknown command",
+    12: "the rule file has a byte after its end or a command out of order, missing or repeated",
+    13: "the rule file has an operand beyond its size or of the wrong kind, a zero operation set, or a part that the role file does not have",
+}
+
+# Role files that reading refuses, by the number.
+REFUSED_ROLES = {
+    1: EXAMPLE_A + bytes(65536 - len(EXAMPLE_A)),
+    2: EXAMPLE_A[:-1],
+    3: EXAMPLE_A[:5] + b"\x08" + EXAMPLE_A[5:],
+    4: EXAMPLE_A + END,
+    5: joined(sizes(65, 0, 0, 0), END),
+    6: EXAMPLE_A[:-1] + single(0, 0, 0, 5) + END,
+    7: EXAMPLE_A[:-1] + line(0, 1) + line(1, 0) + END,
+}
+
+# Rule files that are refused beside example A.
+REFUSED_RULES = {
+    10: A_RULES[:-1],
+    11: b"\x2e" + A_RULES,
+    12: A_RULES + b"\x2f",
+    13: A_RULES.replace(bytes.fromhex("27 00 00"), bytes.fromhex("27 00 01")),
+}
+
+# The longest rule file that judge, ask and explain can hold, and one that is longer; both are refused by 12.
+HELD_RULES = b"\x2f" * 262143
+LONG_RULES = b"\x2f" * 262144
+
+
+def long_rules(parts, resources, with_atom):
+    """A role file that is mined to a long rule file: so many parts of one user each, with so many resources in all.
+
+    Each resource has a value of its own, and so many lines has each rule. With two roles more, which become one rule
+    with an atom, the length of the rule file is even.
+    """
+    roles = -(-parts // 16)
+    spare = (0, 1) if with_atom else ()
+    return joined(
+        sizes(roles + len(spare), 64, 16, roles + len(spare)),
+        *[declare(0, 0) for _ in spare[:1]],
+        declare(1, 1),
+        *[declare(1, 0) for _ in spare[:1]],
+        *[members(1, 0, number, 1 << number) for number in range(64 - len(spare))],
+        *[single(0, 0, roles + n, 5 + n) + single(1, 1, 62 + n, 5 + n) for n in spare],
+        *[assign(roles + n, roles + n) + permit(roles + n, 62 + n, 0) for n in spare],
+        *[assign(role, role) for role in range(roles)],
+        *[
+            permit(part // 16, (7 * part + part // 16 + n) % 62, part % 16)
+            for part in range(parts)
+            for n in range(resources * (part + 1) // parts - resources * part // parts)
+        ],
+        END,
+    )
+
+
+def longest_rules():
+    """A role file of 512 parts, of which none merge, and of long user conditions: six attributes, all of them needed.
+
+    A user has the set of her own number in every attribute. Six more, who hold no role, lack one attribute each.
+    """
+    return joined(
+        sizes(64, 64, 16, 32),
+        declare(0, 1) * 6,
+        declare(1, 1),
+        *[members(0, attribute, user, 1 << user) for attribute in range(6) for user in range(58)],
+        *[members(0, attribute, 58 + n, 0 if n == attribute else 1 << 40) for attribute in range(6) for n in range(6)],
+        *[members(1, 0, number, 1 << number) for number in range(64)],
+        *[assign(role, user) for role in range(32) for user in range(58) if user != role],
+        *[permit(role, number, n) for role in range(32) for n in range(16) for number in (role, 32 + n)],
+        END,
+    )
+
+
+# A single and a set attribute on each side, and two parts.
+KINDS = joined(
+    sizes(2, 2, 3, 2),
+    *[declare(side, kind) for side in (0, 1) for kind in (0, 1)],
+    *[single(side, 0, who, [5, 7][who]) for side in (0, 1) for who in (0, 1)],
+    *[members(0, 1, 0, 6), members(0, 1, 1, 0), members(1, 1, 0, 2), members(1, 1, 1, 6)],
+    *[assign(0, 0), permit(0, 0, 0), permit(0, 0, 1), assign(1, 1), permit(1, 1, 2)],
+    END,
+)
+
+# A rule with every kind of condition, one with none, and one of level 2.
+KINDS_RULES = bytes.fromhex(
+    "21 22 00 05 00 22 00 07 00 23 01 00 00 00 00 00 00 00 00 23 01 06 00 00 00 00 00 00 00"
+    "23 FF 01 00 00 00 00 00 00 00 23 FF 03 00 00 00 00 00 00 00 24 00 05 00 24 FF 00 00 24 FF 01 00"
+    "25 01 02 00 00 00 00 00 00 00 25 01 06 00 00 00 00 00 00 00 26 03 00 27 00 00 27 01 00 27 01 01 28 00 03 00"
+    "21 26 04 00 28 01 04 00 21 24 FF 01 00 26 04 00 28 01 04 00 2F"
+)
+
+# The first of its two parts alone.
+ONE_OF_KINDS = bytes.fromhex("21 23 FF 01 00 00 00 00 00 00 00 24 FF 00 00 26 03 00 28 00 03 00 2F")
+
+KINDS_TOLD = """\
+rule 0, level 3: any user may do operations 0, 1 on any resource
+  if the user's attribute 0 is 5 or 7
+  and the user's attribute 1 contains all of {} (any value that is known) or all of {1, 2}
+  and the user holds all of the roles {0} or all of the roles {0, 1}
+  and the resource's attribute 0 is 5
+  and the resource is number 0 or number 1
+  and the resource's attribute 1 is exactly {1} or exactly {1, 2}
+  and the user's attribute 0 equals the resource's attribute 0
+  and the user's attribute 1 contains the resource's attribute 0
+  and the user's attribute 1 contains all of the resource's attribute 1
+  in place of role 0 for operations 0, 1
+
+rule 1, level 0: any user may do operation 2 on any resource
+  in place of role 1 for operation 2
+
+rule 2, level 2: any user may do operation 2 on any resource
+  if the resource is number 1
+  in place of role 1 for operation 2
+"""
+
+BRANCHES_TOLD = """\
+rule 0, level 0: any user may do operation 0 on any resource
+  if the user's attribute 0 equals the resource's attribute 0
+  in place of role 0 for operation 0
+  in place of role 1 for operation 0
+  in place of role 2 for operation 0
+  in place of role 3 for operation 0
+
+rule 1, level 1: any user may do operation 0 on any resource
+  if the user holds all of the roles {4}
+  in place of role 4 for operation 0
+
+rule 2, level 1: any user may do operation 1 on any resource
+  if the user holds all of the roles {5}
+  in place of role 5 for operation 1
+
+rule 3, level 1: any user may do operations 0, 1 on any resource
+  if the user holds all of the roles {6}
+  and the resource's attribute 0 is 303
+  in place of role 6 for operations 0, 1
+"""
+
+# Example A's two parts under rules of their own, of which the second grants both; the same with each rule right, and the
+# second part under both rules; and two equal parts of which one stands under no rule.
+A_FIRST = "21 22 00 05 00 24 00 05 00 26 01 00 28 00 01 00"
+A_SECOND = "21 22 00 07 00 24 00 07 00 26 01 00 28 01 01 00"
+STRAY_RULE = bytes.fromhex(A_FIRST + "21 26 01 00 27 00 00 28 01 01 00 2F")
+TWICE_LISTED = A_RULES[:-1] + bytes.fromhex(A_SECOND + "2F")
+EQUAL_PARTS = joined(sizes(1, 1, 1, 2), *[assign(role, 0) + permit(role, 0, 0) for role in (0, 1)], END)
+NOT_LISTED = bytes.fromhex("21 26 01 00 28 00 01 00 2F")
+
+
+# ---- a use of a program
+
+# What stands under a name in the folder: the bytes of a file, or one of these.
+FOLDER = "a folder"
+
+
+class Link(str):
+    """A symbolic link to this name."""
+
+
+class Checksum:
+    """The bytes of this length and checksum."""
+
+    def __init__(self, length, checksum):
+        self.told = f"{length} bytes with checksum {checksum}"
+
+    def __eq__(self, held):
+        return isinstance(held, bytes) and self.told == f"{len(held)} bytes with checksum {hashlib.sha256(held).hexdigest()}"
+
+    def __repr__(self):
+        return self.told
+
+
+class Use:
+    """A program, its arguments and its surroundings, and what is expected of it."""
+
+    def __init__(self, program, *arguments, **other):
+        self.program = program
+        self.arguments = arguments
+        self.out = ""
+        self.err = ""
+        # what is in the folder before, and what is otherwise afterwards
+        self.files = {}
+        self.after = {}
+        # standard input: bytes, the descriptor of something that is open, or none; standard output, if it is not to be read
+        self.input = b""
+        self.output = subprocess.PIPE
+        # files and folders (. is the folder of the use) with another mode than usual, before and afterwards
+        self.modes = {}
+        self.modes_after = {}
+        self.umask = 0o022
+        # limits of the system: the number of the limit, and its value
+        self.limits = {}
+        assert set(other) <= set(vars(self)), "no such thing is said of a use"
+        vars(self).update(other)
+
+    def name(self):
+        shown = [self.program, *[repr(argument[:60]) for argument in self.arguments]]
+        given = f" with {len(self.input)} bytes on standard input" if self.input and isinstance(self.input, bytes) else ""
+        return f"{' '.join(shown)}{given}, beside {', '.join(sorted(self.files)) or 'nothing'}"
+
+
+def mine(file, **other):
+    return Use("mine", input=file, **other)
+
+
+def both(program, roles, rules, **other):
+    """A program that takes two files."""
+    return Use(program, "roles", "rules", files={"roles": roles, "rules": rules}, **other)
+
+
+def refused(n):
+    return f"refused {n}: {MEANING[n]}\n"
+
+
+# ---- mine
+
+
+def mined():
+    """What mine writes and prints."""
+    counts = {
+        "branches": "parts 7 rules 4 merges 3 cost 10",
+        "example-a": "parts 2 rules 1 merges 1 cost 2",
+        "hierarchy": "parts 3 rules 3 merges 0 cost 13",
+        "provider": "parts 8 rules 4 merges 4 cost 11",
+    }
+    for name, printed in counts.items():
+        rules = sample(name + ".rules")
+        for former in [{}, {"rules.out": b"former"}]:
+            yield mine(sample(name + ".roles"), files=former, out=printed + "\n", after={"rules.out": rules})
+    yield mine(NOBODY, out="parts 0 rules 0 merges 0 cost 0\n", after={"rules.out": b"\x2f"})
+    # as much output as the program lends, and no byte more
+    filled = Checksum(65536, "47413132b74e43b1ede711ca6db7f312fc1226378f67cecaf032759bd693da17")
+    yield mine(long_rules(240, 6120, True), out="parts 242 rules 241 merges 1 cost 6602\n", after={"rules.out": filled})
+
+
+def lengthy(length):
+    return (
+        f"mine: {MEANING[9]}\nmine: the rule file has {length}, and this program lends 65,536 for it; "
+        "the library's call takes output of any length\n"
+    )
+
+
+def mine_refusals():
+    """Each refusal prints its line, writes no file and leaves a former one as it was."""
+    files = [(n, file, f"mine: {MEANING[n]}\n") for n, file in REFUSED_ROLES.items()]
+    files += [
+        (2, b"", f"mine: {MEANING[2]}\n"),
+        (4, END, f"mine: {MEANING[4]}\n"),
+        (9, long_rules(242, 6118, False), lengthy("65537 bytes")),
+        (9, long_rules(512, 12500, False), lengthy("134217 bytes")),
+        (9, longest_rules(), lengthy("more than 524,288 bytes (none has more than 4,450,305)")),
+    ]
+    for n, file, err in files:
+        for former in [{}, {"rules.out": b"former"}]:
+            yield mine(file, files=former, out=f"refused {n}\n", err=err)
+
+
+def mine_wrongly():
+    usage = "usage: mine < ROLES, which writes the rules to rules.out in the working directory\n"
+    # with an argument nothing is read, and so nothing waited for from a pipe whose other end stays open
+    reading, _ = os.pipe()
+    for arguments in [["--help"], ["-h"], [""], ["example-a.roles"], ["example-a.roles", "rules.out"]]:
+        yield Use("mine", *arguments, input=reading, err=usage)
+    yield mine(os.open(SAMPLES, os.O_RDONLY), err="mine: cannot read standard input: Is a directory\n")
+    yield mine(None, err="mine: cannot read standard input: Bad file descriptor\n")
+
+
+def mine_saving():
+    """Where rules.out comes to stand, or does not."""
+    counts, rules = "parts 2 rules 1 merges 1 cost 2\n", {"rules.out": A_RULES}
+    for umask in [0, 0o022, 0o027, 0o077]:
+        yield mine(EXAMPLE_A, umask=umask, out=counts, after=rules, modes_after={"rules.out": 0o666 & ~umask})
+    linked = "mine: rules.out is a link and stays as it is; no rules are written\n"
+    yield mine(EXAMPLE_A, files={"rules.out": Link("other"), "other": b"former"}, err=linked)
+    yield mine(EXAMPLE_A, files={"rules.out": Link("nowhere")}, err=linked)
+    kept = {"rules.out": b"former"}
+    denied = "Permission denied\n"
+    yield mine(EXAMPLE_A, files=kept, modes={"rules.out": 0o444}, err="mine: cannot write rules.out: " + denied)
+    yield mine(EXAMPLE_A, files=kept, modes={".": 0o555}, err="mine: cannot make a file beside rules.out: " + denied)
+    yield mine(EXAMPLE_A, modes={".": 0o555}, err="mine: cannot make a file beside rules.out: " + denied)
+    yield mine(EXAMPLE_A, files={"rules.out": FOLDER}, err="mine: cannot replace rules.out: Is a directory\n")
+    short = {resource.RLIMIT_FSIZE: 10}
+    yield mine(EXAMPLE_A, files=kept, limits=short, err="mine: cannot write the rules: File too large\n")
+    full = "mine: cannot print the answer: No space left on device\n"
+    yield mine(EXAMPLE_A, output=os.open("/dev/full", os.O_WRONLY), err=full, after=rules)
+    yield mine(END, output=os.open("/dev/full", os.O_WRONLY), err=full + f"mine: {MEANING[4]}\n")
+
+
+def mine_small():
+    """Mining needs no more than an eighth of the stack that a program usually gets, also where it mines with more output."""
+    limits = {resource.RLIMIT_STACK: 1 << 20}
+    rules = {"rules.out": sample("provider.rules")}
+    yield mine(sample("provider.roles"), limits=limits, out="parts 8 rules 4 merges 4 cost 11\n", after=rules)
+    yield mine(longest_rules(), limits=limits, out="refused 9\n", err=lengthy("more than 524,288 bytes (none has more than 4,450,305)"))
+
+
+# ---- what judge, ask and explain have in common
+
+
+def file_refusals(program, *arguments):
+    """Refusals of both files, for a program that takes them and then these arguments."""
+
+    def use(roles, rules, **other):
+        return Use(program, "roles", "rules", *arguments, files={"roles": roles, "rules": rules}, **other)
+
+    for n, roles in REFUSED_ROLES.items():
+        yield use(roles, A_RULES, out=refused(n))
+        # a role file that is refused is so whatever the rules are, even where they are refused or cannot be held
+        yield use(roles, REFUSED_RULES[10], out=refused(n))
+        yield use(roles, LONG_RULES, out=refused(n))
+    for n, rules in REFUSED_RULES.items():
+        yield use(EXAMPLE_A, rules, out=refused(n))
+    yield use(EXAMPLE_A, b"", out=refused(10))
+    yield use(EXAMPLE_A, HELD_RULES, out=refused(12))
+    too_long = f"{program}: rules: the rule file is longer than this program can hold, 262,143 bytes\n"
+    yield use(EXAMPLE_A, LONG_RULES, err=too_long)
+    yield use(EXAMPLE_A, LONG_RULES * 2, err=too_long)
+
+
+def file_errors(program, *arguments, names=("roles", "rules")):
+    """Files that cannot be read, each in the place of each of these."""
+    usual = {"roles": EXAMPLE_A, "rules": A_RULES}
+    files = {name: usual[name] for name in names}
+    for place in range(len(names)):
+
+        def use(wrong, err, held=None, modes=None):
+            given = [*names[:place], wrong, *names[place + 1 :], *arguments]
+            more = {} if held is None else {wrong: held}
+            return Use(program, *given, files={**files, **more}, modes=modes or {}, err=f"{program}: {err}\n")
+
+        yield use("none", "none: No such file or directory")
+        yield use("folder", "folder: Is a directory", FOLDER)
+        yield use("secret", "secret: Permission denied", files[names[place]], {"secret": 0})
+        yield use("", ": No such file or directory")
+        yield use("roles/under", "roles/under: Not a directory")
+        yield use("n" * 300, "n" * 300 + ": File name too long")
+        yield use("n" * 5000, "n" * 40 + ": File name too long")
+
+
+def not_printed(program, *arguments):
+    err = f"{program}: cannot print the answer: No space left on device\n"
+    for file in [EXAMPLE_A, END]:
+        files = {"roles": file, "rules": A_RULES}
+        yield Use(program, "roles", "rules", *arguments, files=files, output=os.open("/dev/full", os.O_WRONLY), err=err)
+
+
+def two_files_wrongly(program):
+    for arguments in [[], ["--help"], ["roles"], ["roles", "rules", "0"]]:
+        files = {"roles": EXAMPLE_A, "rules": A_RULES}
+        yield Use(program, *arguments, files=files, err=f"usage: {program} ROLES RULES\n")
+
+
+# ---- judge
+
+
+def judged():
+    sound = "verdict 0: roles and rules grant the same, every rule what its parts do, and every part stands under one rule\n"
+    for name in ["branches", "example-a", "hierarchy", "provider"]:
+        yield both("judge", sample(name + ".roles"), sample(name + ".rules"), out=sound)
+    differ = "verdict 1: user {}, resource {}, operation {} is granted by roles or rules only: {}\n"
+    rule_alone, roles_alone = "a rule grants it, the roles do not", "the roles grant it, no rule does"
+    yield both("judge", sample("provider.roles"), sample("provider-wide.rules"), out=differ.format(7, 0, 0, rule_alone))
+    yield both("judge", sample("provider.roles"), b"\x2f", out=differ.format(0, 0, 0, roles_alone))
+    yield both("judge", KINDS, ONE_OF_KINDS, out=differ.format(1, 1, 2, roles_alone))
+    yield both("judge", EXAMPLE_A, STRAY_RULE, out="verdict 2: rule 1 grants other than its parts\n")
+    yield both("judge", EXAMPLE_A, TWICE_LISTED, out="verdict 3: part 1 stands under no rule or several\n")
+    yield both("judge", EQUAL_PARTS, NOT_LISTED, out="verdict 3: part 1 stands under no rule or several\n")
+
+
+# ---- ask
+
+
+def asked():
+    granted = {
+        ("hierarchy", False, "3", "2", "2"): "answer 1: yes, the roles grant user 3, resource 2, operation 2\n",
+        ("hierarchy", False, "0", "2", "2"): "answer 0: no, the roles do not grant user 0, resource 2, operation 2\n",
+        ("hierarchy", True, "3", "2", "2"): "answer 1: yes, some rule grants user 3, resource 2, operation 2\n",
+        ("hierarchy", True, "0", "2", "2"): "answer 0: no, no rule grants user 0, resource 2, operation 2\n",
+        ("provider", True, "005", "3", "02"): "answer 1: yes, some rule grants user 5, resource 3, operation 2\n",
+        ("provider", False, "7", "0", "0"): "answer 0: no, the roles do not grant user 7, resource 0, operation 0\n",
+    }
+    # the provider has 8 users, 6 resources and 3 operations
+    beyond = [("8", "0", "0"), ("0", "6", "0"), ("0", "0", "3")]
+    beyond += [("1000000", "0", "0"), ("0", "18446744073709551616", "0"), ("0", "0", "9" * 4096)]
+    for by_rules in [False, True]:
+        granted.update({("provider", by_rules, *question): refused(5) for question in beyond})
+    for (name, by_rules, *question), out in granted.items():
+        files = {"roles": sample(name + ".roles"), "rules": sample(name + ".rules")}
+        yield Use("ask", *["roles", "rules"][: 1 + by_rules], *question, files=files, out=out)
+    # the rules that somebody widened grant what the roles do not
+    files = {"roles": sample("provider.roles"), "rules": sample("provider-wide.rules")}
+    yield Use("ask", "roles", "rules", "7", "0", "0", files=files, out="answer 1: yes, some rule grants user 7, resource 0, operation 0\n")
+
+
+def ask_refusals():
+    yield from file_refusals("ask", "0", "0", "0")
+    for n, roles in REFUSED_ROLES.items():
+        yield Use("ask", "roles", "0", "0", "0", files={"roles": roles}, out=refused(n))
+        # the file comes first, the numbers last
+        yield Use("ask", "roles", "99", "0", "0", files={"roles": roles}, out=refused(n))
+    for n, rules in REFUSED_RULES.items():
+        yield Use("ask", "roles", "rules", "99", "0", "0", files={"roles": EXAMPLE_A, "rules": rules}, out=refused(n))
+
+
+def ask_wrongly():
+    usage = "usage: ask ROLES [RULES] USER RESOURCE OPERATION, the last three numbers from 0\n"
+    files = {"roles": EXAMPLE_A, "rules": A_RULES}
+    for arguments in [[], ["--help"], ["roles"], ["roles", "0"], ["roles", "0", "0"], ["roles", "rules", "0", "0", "0", "0"]]:
+        yield Use("ask", *arguments, files=files, err=usage)
+    wrong = ["x", "", "-1", "1x", "0x1", " 1", "1 ", "+1", "1.5", "9" * 4097]
+    for place, name in enumerate(["USER", "RESOURCE", "OPERATION"]):
+        for text in wrong:
+            numbers = ["0", "0", "0"]
+            numbers[place] = text
+            shown = text if len(text) < 4097 else text[:40]
+            err = f"ask: {shown}: {name} is no number of up to 4,096 digits\n" + usage
+            yield Use("ask", "roles", *numbers, files=files, err=err)
+            yield Use("ask", "roles", "rules", *numbers, files=files, err=err)
+    # with a number too few the rule file is taken for one; the first that is wrong is named
+    err = "ask: rules: USER is no number of up to 4,096 digits\n" + usage
+    yield Use("ask", "roles", "rules", "0", "x", files=files, err=err)
+
+
+# ---- explain
+
+
+def explained():
+    yield both("explain", KINDS, KINDS_RULES, out=KINDS_TOLD)
+    yield both("explain", sample("branches.roles"), sample("branches.rules"), out=BRANCHES_TOLD)
+    yield both("explain", NOBODY, b"\x2f", out="there is no rule: nobody may do anything\n")
+
+
+def uses():
+    yield from mined()
+    yield from mine_refusals()
+    yield from mine_wrongly()
+    yield from mine_saving()
+    yield from mine_small()
+    yield from judged()
+    yield from asked()
+    yield from explained()
+    for program in ["judge", "explain"]:
+        yield from file_refusals(program)
+        yield from file_errors(program)
+        yield from two_files_wrongly(program)
+        yield from not_printed(program)
+    yield from ask_refusals()
+    yield from file_errors("ask", "0", "0", "0")
+    yield from file_errors("ask", "0", "0", "0", names=("roles",))
+    yield from not_printed("ask", "0", "0", "0")
+    yield from ask_wrongly()
+
+
+# ---- running
+
+
+def fill(folder, use):
+    for name, held in use.files.items():
+        path = os.path.join(folder, name)
+        if isinstance(held, Link):
+            os.symlink(held, path)
+        elif held is FOLDER:
+            os.mkdir(path)
+        else:
+            with open(path, "wb") as file:
+                file.write(held)
+    if os.geteuid() == 0:
+        for name in [".", *use.files]:
+            os.chown(os.path.join(folder, name), NOBODY_ID, NOBODY_ID, follow_symlinks=False)
+    for name, mode in use.modes.items():
+        os.chmod(os.path.join(folder, name), mode)
+
+
+def found(folder):
+    """What is in the folder."""
+
+    def held(entry):
+        if entry.is_symlink():
+            return Link(os.readlink(entry.path))
+        if entry.is_dir():
+            return FOLDER
+        with open(entry.path, "rb") as file:
+            return file.read()
+
+    with os.scandir(folder) as entries:
+        return {entry.name: held(entry) for entry in entries}
+
+
+def modes_of(folder, names):
+    """The modes of those of these files that there are."""
+    paths = {name: os.path.join(folder, name) for name in names}
+    return {name: stat.S_IMODE(os.lstat(path).st_mode) for name, path in paths.items() if os.path.lexists(path)}
+
+
+def begin(use):
+    """What is done in the new process before the program starts."""
+    os.umask(use.umask)
+    for limit, value in use.limits.items():
+        resource.setrlimit(limit, (value, value))
+    # a file at its limit is an error like others, not the end of the program
+    signal.signal(signal.SIGXFSZ, signal.SIG_IGN)
+    if use.input is None:
+        os.close(0)
+    if os.geteuid() == 0:
+        os.setgroups([])
+        os.setgid(NOBODY_ID)
+        os.setuid(NOBODY_ID)
+
+
+def run(programs, folder, use):
+    """Standard output, standard error and the status of the program."""
+    given = {"input": use.input} if isinstance(use.input, bytes) else {"stdin": use.input}
+    command = [os.path.join(programs, use.program), *use.arguments]
+    done = subprocess.run(
+        command, cwd=folder, stdout=use.output, stderr=subprocess.PIPE, timeout=60, preexec_fn=lambda: begin(use), **given
+    )
+    return (done.stdout or b"").decode(), done.stderr.decode(), done.returncode
+
+
+def short(held):
+    shown = repr(held)
+    return shown if len(shown) < 600 else shown[:600] + "..."
+
+
+def differences(programs, folder, use):
+    """What is other than it should be."""
+    fill(folder, use)
+    try:
+        out, err, status = run(programs, folder, use)
+    except subprocess.TimeoutExpired:
+        yield "it does not end"
+        return
+    modes = modes_of(folder, use.modes_after)
+    for name in [".", *use.modes]:
+        os.chmod(os.path.join(folder, name), 0o755)
+    pairs = [
+        ("standard output", out, use.out),
+        ("standard error", err, use.err),
+        ("the status", status, 0),
+        ("what is in the folder", found(folder), {**use.files, **use.after}),
+        ("the modes of files", modes, use.modes_after),
+    ]
+    for what, given, wanted in pairs:
+        if given != wanted:
+            yield f"{what} is\n    {short(given)}\n  and should be\n    {short(wanted)}"
+
+
+def main(arguments):
+    if len(arguments) > 1:
+        raise SystemExit(__doc__)
+    source = arguments[0] if arguments else os.path.join(os.path.dirname(HERE), "target", "bin")
+    count, wrong = 0, 0
+    with tempfile.TemporaryDirectory() as top:
+        os.chmod(top, 0o755)
+        # the programs stand where everybody may run them
+        for program in PROGRAMS:
+            shutil.copy(os.path.join(source, program), top)
+            os.chmod(os.path.join(top, program), 0o755)
+        for use in uses():
+            folder = os.path.join(top, str(count))
+            os.mkdir(folder)
+            for text in differences(top, folder, use):
+                print(f"{use.name()}: {text}")
+                wrong += 1
+            shutil.rmtree(folder)
+            count += 1
+    if wrong:
+        raise SystemExit(f"programs: {wrong} of what {count} uses print and write is not as it should be")
+    print(f"programs: {count} uses print and write what they should")
+
+
+if __name__ == "__main__":
+    main(sys.argv[1:])
