@@ -28,6 +28,7 @@ CALLS = [
     ("rule_question", "ask"),
     ("rule_judge", "judge"),
     ("mining", "mine"),
+    ("mining", "rule_bytes"),
     ("fichtengarn", None),
 ]
 

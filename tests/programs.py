@@ -299,7 +299,7 @@ def mine_refusals():
         (4, END, f"mine: {MEANING[4]}\n"),
         (9, long_rules(242, 6118, False), lengthy("65537 bytes")),
         (9, long_rules(512, 12500, False), lengthy("134217 bytes")),
-        (9, longest_rules(), lengthy("more than 524,288 bytes (none has more than 4,450,305)")),
+        (9, longest_rules(), lengthy("1765377 bytes")),
     ]
     for n, file, err in files:
         for former in [{}, {"rules.out": b"former"}]:
@@ -338,11 +338,11 @@ def mine_saving():
 
 
 def mine_small():
-    """Mining needs no more than an eighth of the stack that a program usually gets, also where it mines with more output."""
-    limits = {resource.RLIMIT_STACK: 1 << 20}
+    """Mining needs no more than a 16th of the stack that a program usually gets, also where it tells how long the rules are."""
+    limits = {resource.RLIMIT_STACK: 1 << 19}
     rules = {"rules.out": sample("provider.rules")}
     yield mine(sample("provider.roles"), limits=limits, out="parts 8 rules 4 merges 4 cost 11\n", after=rules)
-    yield mine(longest_rules(), limits=limits, out="refused 9\n", err=lengthy("more than 524,288 bytes (none has more than 4,450,305)"))
+    yield mine(longest_rules(), limits=limits, out="refused 9\n", err=lengthy("1765377 bytes"))
 
 
 # ---- what judge, ask and explain have in common

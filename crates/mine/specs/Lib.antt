@@ -1,4 +1,2 @@
 pub mod Room
 pub mod RoomLaws
-pub mod Needed
-pub mod NeededLaws

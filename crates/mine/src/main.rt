@@ -2,13 +2,11 @@
 // refusal prints its number, and rules.out stays as it is; standard error has the number's meaning. Where the system does not read or
 // write, a line on standard error says so and rules.out stays as it is too.
 mod save;
-mod wider;
 
 ghost use lib.ListN.{length};
 ghost use Rattle.mine.specs.Room.{Fits};
 use mining::Mined;
 use save::save;
-use wider::tell_length;
 
 // Prints the counts and the cost.
 fn print_counts(parts: usize, rules: usize, merges: usize, cost: usize) -> bool {
@@ -16,6 +14,19 @@ fn print_counts(parts: usize, rules: usize, merges: usize, cost: usize) -> bool 
     let two = programs::say_count(one, b" rules ", rules);
     let three = programs::say_count(two, b" merges ", merges);
     programs::say_count(three, b" cost ", cost)
+}
+
+// Says how long the output would have to be, for whoever has more of it to lend.
+fn tell_length(file: &[u8]) {
+    let mut scratch = [0u64; 4096];
+    programs::complain(b"mine: the rule file has ");
+    io::print_decimal(
+        libc::STDERR_FILENO,
+        mining::rule_bytes(file, &mut scratch) as u64,
+    );
+    programs::complain(
+        b" bytes, and this program lends 65,536 for it; the library's call takes output of any length\n",
+    );
 }
 
 // Prints the line of a refusal as 01 has it, the number alone; its meaning goes to standard error.

@@ -14,7 +14,7 @@ use Rattle.files.specs.Calls.{Counts, countValues, minedBytes, minedCounts, may
 use Rattle.files.specs.Demand3.{Demand3}
 use Rattle.files.specs.RoleFile.{readRoles}
 use Rattle.mining.specs.Mined.{minedNumbers}
-use Rattle.mining.specs.Stages.{Outcome}
+use Rattle.mining.specs.Stages.{bytesFor, neededBytes, Outcome}
 use Rattle.policy.specs.Policy.{Policy, settingOf, rolesIn}
 use Rattle.role_file.specs.Reading.{refusal, loadedOf}
 use Rattle.mining.specs.declared.Mined.{Mined}
@@ -83,3 +83,21 @@ module _ (file : List ℕ) (scratch : ℕ) (former : List ℕ) where
       → (minedNumbers r ≡ told countValues (mineAnswer 2 file scratch (length former))) × (out ≡ mineOutput 2 file scratch former)
       × ((c : Counts) → mineAnswer 2 file scratch (length former) ≡ accepted c → (F : Policy) × (readRoles 2 file ≡ accepted F) × Demand3 2 (settingOf F) (rolesIn F) (take (c .size) out) c)
   promised b r out o = (o .0, o .1, demanded b out (o .1))
+
+-- a role file that is refused has no rule file
+pub unread-bytes : (file : List ℕ) (l : Loaded) → l ≡ loadedOf (readRoles 2 file) → (l .code ≡ 0 → ⊥) → 0 ≡ bytesFor (readRoles 2 file)
+unfolding loadedOf refusal
+unread-bytes file l e n = go (readRoles 2 file) e
+  where
+    go : (a : Answer Policy) → l ≡ loadedOf a → 0 ≡ bytesFor a
+    go (refused d) p = refl
+    go (accepted F) p = absurd (n (ap (λ (m : Loaded). m .code) p))
+
+-- the length that is needed, by the words of scratch
+pub needed-none : (file : List ℕ) (scratch : ℕ) → scratch < 4096 → 0 ≡ neededBytes file scratch
+unfolding neededBytes
+needed-none file scratch h = rw (lt-leb 4096 scratch h)
+
+pub needed-some : (file : List ℕ) (scratch n : ℕ) → 4096 ≤ scratch → n ≡ bytesFor (readRoles 2 file) → n ≡ neededBytes file scratch
+unfolding neededBytes
+needed-some file scratch n h e = rw (le-leb 4096 scratch h) e

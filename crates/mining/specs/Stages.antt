@@ -1,18 +1,29 @@
 -- The stages of mining: what each is handed of a policy, and what it leaves.
 -- Assumes nothing.
 use Prim.Native.Nat.{ℕ, _≤_}
+use lib.Dec.{leb}
 use lib.ListN.{length}
+use mathlib.Core.Bool.{cond}
 use mathlib.Core.List.{List}
 use mathlib.Core.Path.{_≡_}
 use Rattle.mine_distinct.specs.Distinct.{distinctTable, havingTable, insideTable}
-use Rattle.files.specs.Answer.{told, accepted}
-use Rattle.files.specs.Calls.{countValues, mineAnswer, mineOutput}
+use Rattle.files.specs.Answer.{Answer, told, refused, accepted}
+use Rattle.files.specs.Calls.{countValues, minedBytes, mineAnswer, mineOutput}
 use Rattle.files.specs.RoleFile.{readRoles}
 use Rattle.role_record.specs.Record.{recordOf}
 use Rattle.mine_merge.specs.Steps.{Tables}
 use Rattle.mining.specs.Mined.{minedNumbers}
 use Rattle.policy.specs.Policy.{Policy}
 use Rattle.mining.specs.declared.Mined.{Mined}
+
+-- how long the rule file is: 0 where the role file is refused
+abbrev pub bytesFor : Answer Policy → ℕ
+bytesFor (refused e) = 0
+bytesFor (accepted F) = length (minedBytes 2 F)
+
+-- and where scratch is too small
+unfoldable pub neededBytes : List ℕ → ℕ → ℕ
+neededBytes file scratch = cond (leb 4096 scratch) (bytesFor (readRoles 2 file)) 0
 
 -- the tables and numbers are those of the policy's record
 pub record Stored (F : Policy) (known values kinds attributes holders permissions : List ℕ) (users resources operations roles : ℕ) : Type 0 where

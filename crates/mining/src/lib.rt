@@ -5,12 +5,12 @@ ghost use lib.ListN.{length, getD, take};
 ghost use mathlib.Core.Path.{_≡_};
 ghost use Rattle.role_record.specs.Record.{Sized};
 ghost use Rattle.files.specs.Answer.{told, accepted};
-ghost use Rattle.files.specs.Calls.{Counts, countValues, mineAnswer, mineOutput};
+ghost use Rattle.files.specs.Calls.{Counts, countValues, minedBytes, mineAnswer, mineOutput};
 ghost use Rattle.files.specs.Demand3.{Demand3};
 ghost use Rattle.files.specs.RoleFile.{readRoles};
 ghost use Rattle.policy.specs.Policy.{Policy, settingOf, rolesIn};
 ghost use Rattle.mining.specs.Mined.{minedNumbers};
-ghost use Rattle.mining.specs.Stages.{Stored, Tabled, Outcome, Result};
+ghost use Rattle.mining.specs.Stages.{bytesFor, neededBytes, Stored, Tabled, Outcome, Result};
 use role_record::ByAttribute;
 use role_record::ByPlace;
 use role_record::ByPlaceMember;
@@ -32,6 +32,12 @@ pub enum Mined {
         merges: usize,
         cost: usize,
     },
+}
+
+// What came of mining, and how long the rule file is.
+struct Attempt {
+    mined: Mined,
+    bytes: usize,
 }
 
 // Whether so much memory has no room for so many bytes.
@@ -59,7 +65,7 @@ fn mine_tables<'a>(
     roles: usize,
     scratch: &mut [u64],
     out: &mut [u8],
-) -> Mined
+) -> Attempt
     requires { ⌜
         (users ≤ 64)
         × (resources ≤ 64)
@@ -74,7 +80,7 @@ fn mine_tables<'a>(
         → Tabled F (now (links .entry)) (now (matched .entry)) (now (known .entry)) (now (attributes .entry))
         (now (holders .entry)) (now (permissions .entry)) (now (kinds .entry)) (now (distinct .entry))
         (now (having .entry)) (now (inside .entry)) users resources operations roles
-        → Result F (now (out .entry)) r (now (out .exit))) ⌝ }
+        → Result F (now (out .entry)) (r .mined) (now (out .exit)) × (r .bytes ≡ length (minedBytes 2 F))) ⌝ }
 {
     let merges = mine_merge::merge(
         scratch,
@@ -115,7 +121,10 @@ fn mine_tables<'a>(
         scratch,
     );
     if lacks_room(out.len(), m.bytes) {
-        return Mined::Refused(9);
+        return Attempt {
+            mined: Mined::Refused(9),
+            bytes: m.bytes,
+        };
     }
     write_file::write_rules(
         &kept,
@@ -129,12 +138,16 @@ fn mine_tables<'a>(
         scratch,
         out,
     );
-    Mined::Written {
+    let mined = Mined::Written {
         length: m.bytes,
         parts: m.parts,
         rules: m.rules,
         merges: merges,
         cost: m.cost,
+    };
+    Attempt {
+        mined: mined,
+        bytes: m.bytes,
     }
 }
 
@@ -152,7 +165,7 @@ fn mine_record<'a>(
     roles: usize,
     scratch: &mut [u64],
     out: &mut [u8],
-) -> Mined
+) -> Attempt
     requires { ⌜
         (users ≤ 64)
         × (resources ≤ 64)
@@ -166,7 +179,7 @@ fn mine_record<'a>(
         → Sized F
         → Stored F (now (known .entry)) (now (values .entry)) (now (kinds .entry)) (now (attributes .entry))
         (now (holders .entry)) (now (permissions .entry)) users resources operations roles
-        → Result F (now (out .entry)) r (now (out .exit))) ⌝ }
+        → Result F (now (out .entry)) (r .mined) (now (out .exit)) × (r .bytes ≡ length (minedBytes 2 F))) ⌝ }
 {
     let mut found = [0u64; RoleFile::PLACES * RoleFile::MEMBERS];
     let mut having = [0u64; RoleFile::PLACES * RoleFile::MEMBERS];
@@ -207,13 +220,18 @@ fn mine_record<'a>(
 }
 
 // Mining with the words of scratch that it needs, whatever they hold.
-fn mine_in(file: &[u8], scratch: &mut [u64], out: &mut [u8]) -> Mined
+fn mine_in(file: &[u8], scratch: &mut [u64], out: &mut [u8]) -> Attempt
     requires { ⌜ length (now scratch) ≡ 2048 ⌝ }
-    ensures { λ r. ⌜ ((n : ℕ) → 4096 ≤ n → Outcome (now (file .entry)) n (now (out .entry)) r (now (out .exit))) ⌝ }
+    ensures { λ r. ⌜
+        ((n : ℕ) → 4096 ≤ n → Outcome (now (file .entry)) n (now (out .entry)) (r .mined) (now (out .exit)))
+        × (r .bytes ≡ bytesFor (readRoles 2 (now (file .entry)))) ⌝ }
 {
     let l = role_file::read(file);
     if l.code != 0 {
-        return Mined::Refused(l.code);
+        return Attempt {
+            mined: Mined::Refused(l.code),
+            bytes: 0,
+        };
     }
     let f = l.file;
     mine_record(
@@ -248,5 +266,19 @@ pub fn mine(file: &[u8], scratch: &mut [u64], out: &mut [u8]) -> Mined
     if scratch.len() < 4096 {
         return Mined::Refused(8);
     }
-    mine_in(file, &mut scratch[0..2048], out)
+    let a = mine_in(file, &mut scratch[0..2048], out);
+    a.mined
+}
+
+// How long the rule file of a role file is, so that output can be found for it; 0 where the role file is refused or scratch is below what
+// mining asks for. No output is written.
+pub fn rule_bytes(file: &[u8], scratch: &mut [u64]) -> usize
+    ensures { λ r. ⌜ r ≡ neededBytes (now (file .entry)) (length (now (scratch .entry))) ⌝ }
+{
+    if scratch.len() < 4096 {
+        return 0;
+    }
+    let mut out = [0u8; 1];
+    let a = mine_in(file, &mut scratch[0..2048], &mut out);
+    a.bytes
 }

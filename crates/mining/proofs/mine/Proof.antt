@@ -22,7 +22,7 @@ returns c =
 returns-2 : tie.Need-returns-2
 returns-2 c =
     let a = c .before .before .before .before .before .before .before .before .before .before .before .args in
-    promised (now (a .file)) (length (now (a .scratch))) (now (a .out)) (bytes (c .before .before .before .before .before .before .before .before .before .before)) (c .before .before .before .before .mine-in .result) _ (c .before .before .before .before .mine-in .ensures (length (now (a .scratch))) (c .before .before .before .before .before .before .before .if1 .left))
+    promised (now (a .file)) (length (now (a .scratch))) (now (a .out)) (bytes (c .before .before .before .before .before .before .before .before .before .before)) (c .before .before .before .before .mine-in .result .mined) _ (c .before .before .before .before .mine-in .ensures .0 (length (now (a .scratch))) (c .before .before .before .before .before .before .before .if1 .left))
 
 pub mine-spec : {M : Type 1} → statement M
 mine-spec = tie.close (tie.spec returns (λ c. search needs) (λ c. search needs) (λ c. search needs) (λ c κs. search needs) (λ c. search needs) (λ c. search needs) returns-2)

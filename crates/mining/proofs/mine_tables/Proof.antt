@@ -34,7 +34,7 @@ same-length c =
     g .merge .ensures .0 ∙ sym (g .before .before .before .before .pre .6)
 
 returns : tie.Need-returns
-returns c F Z T file n h q =
+returns c F Z T =
     let m = c .before .before in
     let k = m .before .before .before .before .before .before .before in
     let g = k .before .before .before .before .before in
@@ -42,7 +42,7 @@ returns c F Z T file n h q =
     let w = g .merge .ensures .1 F Z (T .merging-by) in
     let e = measured-so F Z (a .links .now) (a .matched .now) (a .known .now) (a .attributes .now) (a .holders .now) (a .permissions .now) (a .kinds .now) (a .distinct .now) (a .having .now) (a .inside .now) (a .users) (a .resources) (a .operations) (a .roles) T _ (w .1) _ (k .kept-places .ensures) (m .measure .result) (m .measure .ensures) .0 in
     let l = ltb-true (length (now (a .out))) (m .measure .result .bytes) (sym (c .before .lacks-room .ensures) ∙ c .if1 .taken) in
-    short file n (now (a .out)) h F q (omega (arith, l, e))
+    (λ file n h q. short file n (now (a .out)) h F q (omega (arith, l, e)), e)
 
 write-rules-requires : tie.Need-write-rules-requires
 write-rules-requires c κs =
@@ -68,7 +68,7 @@ same-length-3 c =
     wrote-long _ _ _ _ _ _ _ _ (m .measure .result) (m .measure .ensures) _ _ (c .before .before .write-rules .ensures) (omega (arith, l))
 
 returns-2 : tie.Need-returns-2
-returns-2 c F Z T file n h q =
+returns-2 c F Z T =
     let d = c .before .before .before .before .before .before .before in
     let m = d .before .before in
     let k = m .before .before .before .before .before .before .before in
@@ -78,7 +78,7 @@ returns-2 c F Z T file n h q =
     let e = measured-so F Z (a .links .now) (a .matched .now) (a .known .now) (a .attributes .now) (a .holders .now) (a .permissions .now) (a .kinds .now) (a .distinct .now) (a .having .now) (a .inside .now) (a .users) (a .resources) (a .operations) (a .roles) T _ (w .1) _ (k .kept-places .ensures) (m .measure .result) (m .measure .ensures) in
     let l = ltb-false (length (now (a .out))) (m .measure .result .bytes) (sym (d .before .lacks-room .ensures) ∙ d .if1 .left) in
     let r = e .0 in
-    answered file n (now (a .out)) h F q (m .measure .result) (g .merge .result) (e .1) (w .0) (omega (arith, l, r)) _ _ (file-so F Z (a .links .now) (a .matched .now) (a .known .now) (a .attributes .now) (a .holders .now) (a .permissions .now) (a .kinds .now) (a .distinct .now) (a .having .now) (a .inside .now) (a .users) (a .resources) (a .operations) (a .roles) T _ (w .1) _ (k .kept-places .ensures)) (c .before .before .write-rules .ensures)
+    (λ file n h q. answered file n (now (a .out)) h F q (m .measure .result) (g .merge .result) (e .1) (w .0) (omega (arith, l, r)) _ _ (file-so F Z (a .links .now) (a .matched .now) (a .known .now) (a .attributes .now) (a .holders .now) (a .permissions .now) (a .kinds .now) (a .distinct .now) (a .having .now) (a .inside .now) (a .users) (a .resources) (a .operations) (a .roles) T _ (w .1) _ (k .kept-places .ensures)) (c .before .before .write-rules .ensures), e .0)
 
 pub mine-tables-spec : {M : Type 1} → statement M
 mine-tables-spec =
