@@ -10,7 +10,7 @@ use mathlib.Core.Path.{_≡_}
 use Rattle.files.specs.Answer.{andThen, accepted}
 use Rattle.files.specs.Bytes.{readOn}
 use Rattle.files.specs.RoleFile.{readRoles}
-use Rattle.files.specs.RuleFile.{Lines, ruleFormat}
+use Rattle.files.specs.RuleFile.{Lines, ruleFormat, readRules}
 use Rattle.levels.specs.Levels.{levelOf}
 use Rattle.policy.specs.Policy.{Policy, settingOf, rolesIn}
 use Rattle.programs.specs.Numbers.{isWithin}
@@ -66,6 +66,14 @@ pub record RuleAt (F : Policy) (rules : List Lines) (n : ℕ) (s : List ℕ) : T
   pub number : length earlier ≡ n
   pub fuel : ℕ
   pub accepts : andThen (readOn (ruleFormat 2 (settingOf F) (rolesIn F)) fuel false (record { complete = earlier; current = some [] }) s) (λ t. accepted (t .complete)) ≡ accepted rules
+
+-- a rule file that was accepted beside a role file
+pub record Legal (s : List ℕ) : Type 0 where
+  pub policy : Policy
+  pub file : List ℕ
+  pub stated : readRoles 2 file ≡ accepted policy
+  pub rules : List Lines
+  pub accepts : readRules 2 (settingOf policy) (rolesIn policy) s ≡ accepted rules
 
 -- ---- which lines are told as what
 

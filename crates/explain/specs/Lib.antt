@@ -1,3 +1,4 @@
 pub mod Headings
 pub mod HeadingLaws
 pub mod RuleLevelLaws
+pub mod TellingLaws

@@ -110,10 +110,10 @@ module _ (F : Policy) where
   -- ---- what the reader reads
 
   -- reading on, and the rules that come of it
-  abbrev comesTo : ℕ → Reading → List ℕ → Answer (List Lines)
+  abbrev pub comesTo : ℕ → Reading → List ℕ → Answer (List Lines)
   comesTo n t s = andThen (readOn (ruleFormat 2 (settingOf F) (rolesIn F)) n false t s) (λ u. accepted (u .complete))
 
-  abbrev onFrom : ℕ → RuleCommand → List ℕ → Answer Reading → Answer (List Lines)
+  abbrev pub onFrom : ℕ → RuleCommand → List ℕ → Answer Reading → Answer (List Lines)
   onFrom n c rest a = andThen (andThen a (follow (ruleFormat 2 (settingOf F) (rolesIn F)) (endsFile c) n rest)) (λ u. accepted (u .complete))
 
   -- a rule that is complete stays as it is
@@ -175,7 +175,7 @@ module _ (F : Policy) where
 
   -- ---- the lines in front
 
-  refuted : {A B : Type 0} {e : Refusal} {a : A} → _≡_ {A = Answer A} (refused e) (accepted a) → B
+  pub refuted : {A B : Type 0} {e : Refusal} {a : A} → _≡_ {A = Answer A} (refused e) (accepted a) → B
   refuted q = let z : _≡_ {A = ℕ} 0 1 = cc in absurd (omega arith)
 
   module _ (rules : List Lines) where

@@ -1,8 +1,11 @@
 // Rules in words. Each function says whether all was printed so far, as those of `programs` do.
 ghost use Prim.Native.Nat.{_≤_};
 ghost use mathlib.Core.Bool.{_||_};
+ghost use mathlib.Core.List.{List};
 ghost use mathlib.Core.Path.{_≡_};
-ghost use Rattle.explain.specs.Headings.{isCondition, goesOn};
+ghost use Rattle.explain.specs.Headings.{isCondition, goesOn, RuleAt, Legal};
+ghost use Rattle.files.specs.RuleFile.{Lines};
+ghost use Rattle.policy.specs.Policy.{Policy};
 use crate::line::front;
 use crate::line::heading_of;
 use programs::say;
@@ -227,8 +230,10 @@ fn say_gap(printed: bool, number: usize) -> bool {
     say(printed, b"\n\n")
 }
 
-// The heading of a rule, whose lines stand in front.
-fn tell_heading(printed: bool, number: usize, s: &[u8]) -> bool {
+// The heading of the rule of this number, whose lines stand in front.
+fn tell_heading(printed: bool, number: usize, s: &[u8]) -> bool
+    requires { ⌜ ((F : Policy) × (rules : List Lines) × RuleAt F rules number (now s)) ⌝ }
+{
     let h = heading_of(s);
     let named = say_count(say_gap(printed, number), b"rule ", number);
     let leveled = say_count(named, b", level ", h.level);
@@ -285,7 +290,7 @@ pub fn tell_rules<'a>(
     holders: &'a ByRole,
     permissions: &'a ByRoleOperation,
 )
-    requires { ⌜ (roles ≤ 32) × (operations ≤ 16) ⌝ }
+    requires { ⌜ (roles ≤ 32) × (operations ≤ 16) × Legal (now rules) ⌝ }
 {
     let mut printed = true;
     let mut number: usize = 0;

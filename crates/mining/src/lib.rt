@@ -275,7 +275,8 @@ pub fn mine(file: &[u8], scratch: &mut [u64], out: &mut [u8]) -> Mined
 pub fn rule_bytes(file: &[u8], scratch: &mut [u64]) -> usize
     ensures { λ r. ⌜ r ≡ neededBytes (now (file .entry)) (length (now (scratch .entry))) ⌝ }
 {
-    if scratch.len() < 4096 {
+    let words = scratch.len();
+    if words < 4096 {
         return 0;
     }
     let mut out = [0u8; 1];

@@ -1,8 +1,9 @@
--- An accepted role file keeps to its limits. Assumes nothing.
+-- An accepted role file keeps to its limits, and the rule file was accepted. Assumes nothing.
 use borrow.Author.Needs.{needs}
 use denote.Ref.{now}
 use Rattle.explain.proofs.explain.Statement.{statement}
 use Rattle.explain.proofs.explain.Tie as tie
+use Rattle.explain.specs.TellingLaws.{both-legal}
 use Rattle.rule_file.specs.LegalLaws.{both-sizes}
 
 tell-rules-requires : tie.Need-tell-rules-requires
@@ -11,7 +12,7 @@ tell-rules-requires c κs =
     let r = e .before .before in
     let a = r .before .before .before .args in
     let z = both-sizes (now (a .file)) (now (a .rules)) (r .read .result) (r .read .ensures) (e .if1 .left) in
-    (z .3, z .2)
+    (z .3, z .2, both-legal (now (a .file)) (now (a .rules)) (r .read .result) (r .read .ensures) (e .if1 .left))
 
 pub explain-spec : {M : Type 1} → statement M
 explain-spec =
