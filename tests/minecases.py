@@ -40,6 +40,7 @@ from rolefiles import (
     FULL,
     INHERITS,
     NOBODY,
+    NO_COMMAND,
     ONE_OF_TWO,
     ONE_PART,
     SETS,
@@ -168,7 +169,7 @@ def examples():
 REFUSED = [
     EXAMPLE_A[:-1],
     EXAMPLE_A[:-3],
-    joined(BOTH_KINDS, b"\x08", END),
+    joined(BOTH_KINDS, NO_COMMAND, END),
     joined(BOTH_KINDS, assign(0, 0), declare(0, 0), END),
     joined(EXAMPLE_A, END),
     joined(BOTH_KINDS, assign(2, 0), END),

@@ -31,6 +31,8 @@ from rolefiles import (
     FULL,
     INHERITS,
     NOBODY,
+    NO_COMMAND,
+    NO_COMMANDS,
     ONE_OF_TWO,
     ONE_PART,
     SETS,
@@ -93,7 +95,7 @@ def unknown():
     """Bytes that are no command: behind 01, as the first byte, and as the last."""
     for byte in UNKNOWN:
         yield from asked(joined(sizes(1, 1, 1, 1), bytes([byte]), bytes(12), END))
-    for byte in [0x00, 0x08, 0x0E, 0x10, 0xFF]:
+    for byte in NO_COMMANDS:
         yield from asked(bytes([byte]))
         yield from asked(bytes([byte]) + bytes(12))
         yield from asked(joined(sizes(1, 1, 1, 1), bytes([byte])))
@@ -135,7 +137,7 @@ def places():
     yield from asked(joined(sizes(1, 1, 1, 1), assign(0, 0), declare(2, 2), END))
     yield from asked(joined(BOTH_KINDS, assign(0, 0), permit(0, 0, 0), declare(0, 0), END))
     # unknown and many bytes behind the end
-    for byte in [0x00, 0x08, 0x0E, 0x10, 0xFF]:
+    for byte in NO_COMMANDS:
         yield from asked(joined(sizes(1, 1, 1, 1), END, bytes([byte])))
         yield from asked(joined(sizes(1, 1, 1, 1), END, bytes([byte]) * 20))
     # an end behind the end, and a whole second file
@@ -242,7 +244,7 @@ def order():
     """Of two refusals the one of the earlier command; within a command in 01's order; 7 last."""
     # an earlier refusal of each kind, before a later one of each kind
     refused = [
-        bytes([0x08]),  # 3
+        NO_COMMAND,  # 3
         sizes(1, 1, 1, 1),  # 4
         assign(2, 0),  # 5
         members(0, 0, 0, 1),  # 6
@@ -260,7 +262,7 @@ def order():
     yield from asked(sizes(65, 0, 0, 0)[:4])
     # a question beyond the sizes comes last
     yield from asked(joined(sizes(1, 1, 1, 1), line(0, 0), END), (1, 1, 1))
-    yield from asked(joined(sizes(1, 1, 1, 1), bytes([0x08]), END), (1, 1, 1))
+    yield from asked(joined(sizes(1, 1, 1, 1), NO_COMMAND, END), (1, 1, 1))
     yield from asked(joined(sizes(1, 1, 1, 1), assign(0, 0)[:2]), (255, 255, 255))
 
 

@@ -6,6 +6,9 @@ cases use, and what else the makers of cases have in common."""
 END = bytes([0x0F])
 COMMANDS = [0x01, 0x02, 0x03, 0x04, 0x05, 0x06, 0x07, 0x0F]
 UNKNOWN = [byte for byte in range(256) if byte not in COMMANDS]
+# A byte that is no command, and some: the first and the last, and those beside commands.
+NO_COMMAND = bytes([0x08])
+NO_COMMANDS = [0x00, 0x08, 0x0E, 0x10, 0xFF]
 
 
 def sizes(users, resources, operations, roles):

@@ -41,6 +41,7 @@ from rolefiles import (
     FULL,
     INHERITS,
     NOBODY,
+    NO_COMMAND as NO_ROLE_COMMAND,
     ONE_OF_TWO,
     ONE_PART,
     SETS,
@@ -66,6 +67,10 @@ OPEN = bytes([0x21])
 END = bytes([0x2F])
 COMMANDS = [0x21, 0x22, 0x23, 0x24, 0x25, 0x26, 0x27, 0x28, 0x2F]
 UNKNOWN = [byte for byte in range(256) if byte not in COMMANDS]
+# Bytes that are no command: two beside commands, and more with the first and the last.
+NO_COMMANDS = [0x20, 0x29]
+MORE_NO_COMMANDS = [0x00, 0x01, 0x0F, 0x20, 0x29, 0x2A, 0x2B, 0x2E, 0x30, 0xFF]
+NO_COMMAND = bytes(NO_COMMANDS[:1])
 
 # The attribute of the roles that a user holds, and of a resource's own number.
 OWN = 255
@@ -273,7 +278,7 @@ def unknown():
     """Refusal 11: bytes that are no command."""
     for byte in UNKNOWN:
         yield from asked(ONE_OF_TWO, joined(OPEN, bytes([byte]), bytes(2), END))
-    for byte in [0x00, 0x01, 0x0F, 0x20, 0x29, 0x2A, 0x2B, 0x2E, 0x30, 0xFF]:
+    for byte in MORE_NO_COMMANDS:
         other = bytes([byte])
         # as the first byte, as the last, behind a whole rule, in place of the end and behind it
         yield from asked(ONE_OF_TWO, other)
@@ -282,14 +287,14 @@ def unknown():
         yield from asked(ONE_OF_TWO, joined(OF_ONE, other, END))
         yield from asked(ONE_OF_TWO, joined(OF_ONE, other))
         yield from asked(ONE_OF_TWO, joined(filed(OF_ONE), other))
-    for byte in [0x20, 0x29]:
+    for byte in NO_COMMANDS:
         # behind each line of a rule, also where the next command would be refused
         for n in range(len(LINES)):
             yield from asked(BASE, joined(OPEN, *LINES[: n + 1], bytes([byte, 0, 0]), END))
     # before it the refusals of earlier commands
     for earlier in [operations(0), atom(9, 9), user_single(7, 7), part(9, 9)]:
-        yield from asked(BASE, joined(OPEN, earlier, bytes([0x20]), END))
-        yield from asked(BASE, joined(earlier, bytes([0x20]), END))
+        yield from asked(BASE, joined(OPEN, earlier, NO_COMMAND, END))
+        yield from asked(BASE, joined(earlier, NO_COMMAND, END))
 
 
 def places():
@@ -376,7 +381,7 @@ def missing():
         # an earlier refusal wins, a later one does not
         yield from asked(BASE, filed(rule(*lines, part(1, 0b10))))
         yield from asked(BASE, filed(rule(*lines), rule(operations(0))))
-        yield from asked(BASE, joined(rule(*lines), bytes([0x20])))
+        yield from asked(BASE, joined(rule(*lines), NO_COMMAND))
         yield from asked(BASE, joined(rule(*lines), part(1, 0b1)[:2]))
         yield from asked(BASE, joined(rule(*lines), rule(), part(1, 0b1)[:2]))
     # two parts and no more; many rules, the last one not whole
@@ -603,7 +608,7 @@ def order_of_refusals():
     refused_roles = [
         b"",  # 2
         BASE[:-1],  # 2
-        joined(sizes(1, 1, 1, 1), bytes([0x08]), END_OF_ROLES),  # 3
+        joined(sizes(1, 1, 1, 1), NO_ROLE_COMMAND, END_OF_ROLES),  # 3
         END_OF_ROLES,  # 4
         joined(ONE_OF_TWO, b"\0"),  # 4
         joined(sizes(65, 1, 1, 1), END_OF_ROLES),  # 5
@@ -615,7 +620,7 @@ def order_of_refusals():
     refused_rules = [
         b"",  # 10
         OPEN,  # 10
-        bytes([0x20]),  # 11
+        NO_COMMAND,  # 11
         joined(END, END),  # 12
         filed(OPEN),  # 12
         filed(rule(operations(0))),  # 13

@@ -2,6 +2,9 @@
 import os
 import subprocess
 
+# How many of the requests have landed: the second miner is asked as of then.
+REV = 0
+
 
 def told(command, lines):
     """What the second miner says to each line.
@@ -11,7 +14,7 @@ def told(command, lines):
     """
     done = subprocess.run(
         command.split() + ["batch"],
-        input="".join(f"{line}\n" for line in lines),
+        input="".join(f"{line} --rev {REV}\n" for line in lines),
         capture_output=True,
         text=True,
         check=True,

@@ -10,6 +10,7 @@ ghost use Rattle.files.specs.RuleFile.{Lines, ruleIn};
 ghost use Rattle.levels.specs.Levels.{levelOf};
 ghost use Rattle.policy.specs.Policy.{Policy, settingOf};
 ghost use Rattle.policy.specs.Rules.{ruleLevel};
+use files::rule_byte;
 use rule_commands::Raw;
 
 // A command as numbers, and how many bytes it takes: 0 where there is none.
@@ -63,7 +64,7 @@ pub fn front(s: &[u8]) -> Line
 fn in_rule(byte: usize) -> bool
     ensures { λ r. ⌜ r ≡ inRule byte ⌝ }
 {
-    programs::within(byte, 0x22, 0x28)
+    programs::within(byte, rule_byte::USER_SINGLE, rule_byte::PART)
 }
 
 // Whether a line is one of this command with a 255.
@@ -71,7 +72,7 @@ fn is_own(byte: usize, first: u64, command: usize) -> bool
     ensures { λ r. ⌜ r ≡ (eqb byte command && eqb first 255) ⌝ }
 {
     if byte == command {
-        return first == 255;
+        return first == rule_byte::OWN as u64;
     }
     false
 }
@@ -89,15 +90,15 @@ fn either(a: bool, b: bool) -> bool
 fn note(h: Notes, byte: usize, first: u64) -> Notes
     ensures { λ r. ⌜ r ≡ noted h byte first ⌝ }
 {
-    if byte == 0x26 {
+    if byte == rule_byte::OPERATIONS {
         return Notes {
             operations: first,
             roles: h.roles,
             numbers: h.numbers,
         };
     }
-    let roles = either(h.roles, is_own(byte, first, 0x23));
-    let numbers = either(h.numbers, is_own(byte, first, 0x24));
+    let roles = either(h.roles, is_own(byte, first, rule_byte::USER_SET));
+    let numbers = either(h.numbers, is_own(byte, first, rule_byte::RESOURCE_SINGLE));
     Notes {
         operations: h.operations,
         roles: roles,

@@ -8,6 +8,7 @@ ghost use Rattle.files.specs.RuleFile.{Lines};
 ghost use Rattle.policy.specs.Policy.{Policy};
 use crate::line::front;
 use crate::line::heading_of;
+use files::rule_byte;
 use programs::say;
 use programs::say_count;
 use programs::say_number;
@@ -101,7 +102,7 @@ fn say_empty(printed: bool, set: u64) -> bool {
 }
 
 fn tell_user_set(printed: bool, same: bool, some: bool, attribute: usize, set: u64) -> bool {
-    if attribute == 255 {
+    if attribute == rule_byte::OWN {
         let begun = say_own(printed, same, some, b"the user holds ");
         return say_set(begun, b"all of the roles ", set);
     }
@@ -123,7 +124,7 @@ fn tell_resource_single(
     attribute: usize,
     value: u64,
 ) -> bool {
-    if attribute == 255 {
+    if attribute == rule_byte::OWN {
         let begun = say_own(printed, same, some, b"the resource is ");
         return say_count(begun, b"number ", value as usize);
     }
@@ -257,10 +258,10 @@ fn tell_end(printed: bool, number: usize) {
 fn has_condition(some: bool, byte: usize) -> bool
     ensures { λ r. ⌜ r ≡ (isCondition byte || some) ⌝ }
 {
-    if programs::within(byte, 0x22, 0x25) {
+    if programs::within(byte, rule_byte::USER_SINGLE, rule_byte::RESOURCE_SET) {
         return true;
     }
-    if byte == 0x27 {
+    if byte == rule_byte::LINK {
         return true;
     }
     some
@@ -270,7 +271,7 @@ fn has_condition(some: bool, byte: usize) -> bool
 fn goes_on(byte: usize, first: u64, former: usize, earlier: u64) -> bool
     ensures { λ r. ⌜ r ≡ goesOn byte first former earlier ⌝ }
 {
-    if !programs::within(byte, 0x22, 0x25) {
+    if !programs::within(byte, rule_byte::USER_SINGLE, rule_byte::RESOURCE_SET) {
         return false;
     }
     if byte != former {
@@ -305,7 +306,7 @@ pub fn tell_rules<'a>(
             return;
         }
         at = at + l.width;
-        if l.byte == 0x21 {
+        if l.byte == rule_byte::OPENS {
             printed = tell_heading(printed, number, &rules[at..]);
             number = number + 1;
             some = false;

@@ -5,6 +5,7 @@ mod save;
 
 ghost use lib.ListN.{length};
 ghost use Rattle.mine.specs.Room.{Fits};
+use files::refusal;
 use mining::Mined;
 use save::save;
 
@@ -18,7 +19,7 @@ fn print_counts(parts: usize, rules: usize, merges: usize, cost: usize) -> bool 
 
 // Says how long the output would have to be, for whoever has more of it to lend.
 fn tell_length(file: &[u8]) {
-    let mut scratch = [0u64; 4096];
+    let mut scratch = [0u64; mining::SCRATCH];
     programs::complain(b"mine: the rule file has ");
     io::print_decimal(
         libc::STDERR_FILENO,
@@ -33,7 +34,7 @@ fn tell_length(file: &[u8]) {
 fn refuse(n: usize, file: &[u8]) {
     programs::end_line(b"mine", programs::say_count(true, b"refused ", n));
     programs::complain_refused(b"mine", n);
-    if n == 9 {
+    if n == refusal::SHORT_OUTPUT {
         tell_length(file);
     }
 }
@@ -62,7 +63,7 @@ fn finish(mined: Mined, file: &[u8], out: &[u8])
 
 // Mines the file, and saves and prints what comes of it.
 fn mine_file(file: &[u8]) {
-    let mut scratch = [0u64; 4096];
+    let mut scratch = [0u64; mining::SCRATCH];
     let mut out = io::large_buffer();
     let mined = mining::mine(file, &mut scratch, &mut out);
     finish(mined, file, &out);

@@ -9,6 +9,12 @@ ghost use Rattle.mine_pairs.specs.Pairing.{wordsIn, reaches};
 ghost use Rattle.mine_seats.specs.Seats.{wordsAt, isHeadAt};
 ghost use Rattle.sets.specs.Sets.{bit, maskOf};
 use mine_pairs::Group;
+use role_record::RoleFile;
+
+// A mark for each seat: 64 in a word.
+pub type Marks = [u64; WORDS];
+
+pub const WORDS: usize = RoleFile::PARTS / 64;
 
 // The heads among the 64 slots of a word of marks.
 fn heads_in(scratch: &[u64], word: usize) -> u64
@@ -29,13 +35,13 @@ pub fn mark(scratch: &[u64], heads: &mut [u64])
     requires { ⌜ (length (now heads) ≡ 8) × (length (now scratch) ≡ 2048) ⌝ }
     ensures { λ _. ⌜ Marked (now (heads .exit)) (now (scratch .entry)) ⌝ }
 {
-    for word in 0..8 {
+    for word in 0..WORDS {
         heads[word] = heads_in(scratch, word);
     }
 }
 
 // Whether slot k is marked.
-pub fn is_marked(heads: &[u64; 8], k: usize) -> bool
+pub fn is_marked(heads: &Marks, k: usize) -> bool
     requires { ⌜ k < 512 ⌝ }
     ensures { λ b. ⌜ b ≡ marked (now (heads .entry)) k ⌝ }
 {
@@ -43,7 +49,7 @@ pub fn is_marked(heads: &[u64; 8], k: usize) -> bool
 }
 
 // Slot j is no head any more.
-pub fn unmark(heads: &mut [u64; 8], j: usize)
+pub fn unmark(heads: &mut Marks, j: usize)
     requires { ⌜ j < 512 ⌝ }
     ensures { λ _. ⌜ now (heads .exit) ≡ unmarked (now (heads .entry)) j ⌝ }
 {
@@ -69,19 +75,19 @@ fn reaching(scratch: &[u64], slots: u64, word: usize, g: Group) -> u64
 }
 
 // Into a slice, since only a slice tells its length to a proof.
-fn fill_open(scratch: &[u64], heads: &[u64; 8], c: usize, ready: &mut [u64])
+fn fill_open(scratch: &[u64], heads: &Marks, c: usize, ready: &mut [u64])
     requires { ⌜
         (c < 512) × (length (now scratch) ≡ 2048) × (length (now ready) ≡ 8) × Marked (now heads) (now scratch) ⌝ }
     ensures { λ _. ⌜ Open (now (ready .exit)) (now (scratch .entry)) c ⌝ }
 {
     let g = mine_seats::group_at(scratch, c);
-    for word in 0..8 {
+    for word in 0..WORDS {
         ready[word] = reaching(scratch, heads[word], word, g);
     }
 }
 
 // Marks the heads that reach slot c's group, whatever the table held: no other can be joined with it.
-pub fn mark_open(scratch: &[u64], heads: &[u64; 8], c: usize, ready: &mut [u64; 8])
+pub fn mark_open(scratch: &[u64], heads: &Marks, c: usize, ready: &mut Marks)
     requires { ⌜ (c < 512) × (length (now scratch) ≡ 2048) × Marked (now heads) (now scratch) ⌝ }
     ensures { λ _. ⌜ Open (now (ready .exit)) (now (scratch .entry)) c ⌝ }
 {

@@ -11,11 +11,16 @@ ghost use Rattle.mine_join.specs.Joins.{TakenIn, Joined, Joinable, Prepa
 ghost use Rattle.mine_pairs.specs.Pairing.{wordsIn};
 ghost use Rattle.mine_seats.specs.Seats.{wordsAt, isHeadAt};
 ghost use Rattle.sets.specs.Tests.{Is};
+use mine_heads::Marks;
 use mine_pairs::Group;
 use mine_search::Found;
 use mine_seats::Seat;
 use role_record::ByPlaceMember;
+use role_record::OfSide;
 use role_record::RoleFile;
+
+// The last seat.
+const LAST: usize = RoleFile::PARTS - 1;
 
 // Seat i takes in the group of seat j: its words become those of both, with the level of both together.
 fn take_in(scratch: &mut [u64], i: usize, j: usize, level: usize)
@@ -45,7 +50,7 @@ fn join(scratch: &mut [u64], i: usize, j: usize, level: usize)
 
 // Marks the heads that reach the group of seat i after that of seat j was joined to it, where those of one of the two are marked. Its words were
 // g. With more users and resources, but no more operations, it is not reached by a group that did not reach it before: then only j goes.
-fn mark_again(scratch: &[u64], heads: &[u64; 8], g: Group, i: usize, j: usize, ready: &mut [u64; 8])
+fn mark_again(scratch: &[u64], heads: &Marks, g: Group, i: usize, j: usize, ready: &mut Marks)
     requires { ⌜ (i < j) × (j < 512) × (length (now scratch) ≡ 2048) × Marked (now heads) (now scratch) ⌝ }
     ensures { λ _. ⌜
         ((t : List ℕ) (c level : ℕ)
@@ -66,10 +71,10 @@ fn mark_again(scratch: &[u64], heads: &[u64; 8], g: Group, i: usize, j: usize, r
 // Makes the marks and tables those of seat c's group, whatever the marks were, and where the tables are those of nobody.
 pub fn prepare(
     scratch: &[u64],
-    heads: &[u64; 8],
-    ready: &mut [u64; 8],
-    people: &mut [u64; 6],
-    things: &mut [u64; 6],
+    heads: &Marks,
+    ready: &mut Marks,
+    people: &mut OfSide,
+    things: &mut OfSide,
     matches: &ByPlaceMember,
     c: usize,
 )
@@ -88,10 +93,10 @@ pub fn prepare(
 // Joins the group of seat c and that of the seat found, and makes the marks and tables those of the group that comes of it: its seat.
 pub fn join_found(
     scratch: &mut [u64],
-    heads: &mut [u64; 8],
-    ready: &mut [u64; 8],
-    people: &mut [u64; 6],
-    things: &mut [u64; 6],
+    heads: &mut Marks,
+    ready: &mut Marks,
+    people: &mut OfSide,
+    things: &mut OfSide,
     matches: &ByPlaceMember,
     c: usize,
     found: Found,
@@ -120,7 +125,7 @@ pub fn resolve(scratch: &mut [u64])
     ensures { λ _. ⌜ Resolved (now (scratch .entry)) (now (scratch .exit)) ⌝ }
 {
     for k in 0..RoleFile::PARTS {
-        let named = mine_search::lower(mine_seats::head_at(scratch, k), 511);
+        let named = mine_search::lower(mine_seats::head_at(scratch, k), LAST);
         mine_seats::take_head(scratch, k, named);
     }
 }

@@ -10,6 +10,7 @@ use role_record::ByAttribute;
 use role_record::ByPlace;
 use role_record::ByPlaceMember;
 use role_record::ByRole;
+use role_record::OfSide;
 use role_record::RoleFile;
 use role_record::Values;
 
@@ -17,7 +18,7 @@ use role_record::Values;
 fn count_at(users: usize, resources: usize, place: usize) -> usize
     ensures { λ r. ⌜ r ≡ countAt users resources place ⌝ }
 {
-    if place < 7 {
+    if place < RoleFile::CONJUNCTS {
         return users;
     }
     resources
@@ -88,7 +89,7 @@ pub fn value_at<'a>(
             * (RoleFile::ATTRIBUTES * (place / RoleFile::CONJUNCTS) + attribute)
             + who];
     }
-    if place < 7 {
+    if place < RoleFile::CONJUNCTS {
         return roles_of(holders, roles, who);
     }
     who as u64
@@ -141,7 +142,7 @@ fn add_members(matches: &ByPlaceMember, side: usize, members: u64, met: &mut [u6
 }
 
 // Makes the table of some members that of these members too.
-pub fn widen(matches: &ByPlaceMember, side: usize, members: u64, met: &mut [u64; 6])
+pub fn widen(matches: &ByPlaceMember, side: usize, members: u64, met: &mut OfSide)
     requires { ⌜ side < 2 ⌝ }
     ensures { λ _. ⌜
         ((m : ℕ)
@@ -153,7 +154,7 @@ pub fn widen(matches: &ByPlaceMember, side: usize, members: u64, met: &mut [u64;
 
 // Who passes all conjuncts but the 255 of the covering rule of some members, on a side, by the table of who meets each.
 pub fn passing<'a>(
-    met: &'a [u64; 6],
+    met: &'a OfSide,
     known: &'a ByPlace,
     attributes: usize,
     side: usize,

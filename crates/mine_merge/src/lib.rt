@@ -11,6 +11,7 @@ ghost use Rattle.mine_search.specs.Search.{Finds};
 ghost use Rattle.policy.specs.Policy.{Policy};
 ghost use Rattle.mine_groups.specs.Scratch.{Merged};
 ghost use Rattle.mine_groups.specs.Seats.{seatMerges};
+use mine_heads::Marks;
 use mine_search::Found;
 use role_record::ByPlace;
 use role_record::ByPlaceMember;
@@ -18,16 +19,17 @@ use role_record::ByRole;
 use role_record::ByRoleOperation;
 use role_record::CountBySide;
 use role_record::Links;
+use role_record::OfSide;
 use role_record::RoleFile;
 
 // Joins the group of seat `start` with the seat found behind it, and what comes of it with the first seat that it may be joined with, until
 // there is none: how many joins were made. After a join the seats on both sides are tried, since the group is a new one.
 fn join_on<'a>(
     scratch: &mut [u64],
-    heads: &mut [u64; 8],
-    ready: &mut [u64; 8],
-    people: &mut [u64; 6],
-    things: &mut [u64; 6],
+    heads: &mut Marks,
+    ready: &mut Marks,
+    people: &mut OfSide,
+    things: &mut OfSide,
     links: &'a Links,
     matches: &'a ByPlaceMember,
     known: &'a ByPlace,
@@ -83,7 +85,7 @@ fn join_on<'a>(
 // seats is left before, so that at first only the seats behind `start` are tried.
 fn settle_head<'a>(
     scratch: &mut [u64],
-    heads: &mut [u64; 8],
+    heads: &mut Marks,
     links: &'a Links,
     matches: &'a ByPlaceMember,
     known: &'a ByPlace,
@@ -116,7 +118,7 @@ fn settle_head<'a>(
 {
     let mut people = [0u64; RoleFile::ATTRIBUTES];
     let mut things = [0u64; RoleFile::ATTRIBUTES];
-    let mut ready = [0u64; 8];
+    let mut ready = [0u64; mine_heads::WORDS];
     mine_join::prepare(
         scratch,
         heads,
@@ -162,7 +164,7 @@ fn settle_head<'a>(
 // The same, where most seats are no heads any more.
 fn settle<'a>(
     scratch: &mut [u64],
-    heads: &mut [u64; 8],
+    heads: &mut Marks,
     links: &'a Links,
     matches: &'a ByPlaceMember,
     known: &'a ByPlace,
@@ -253,7 +255,7 @@ pub fn merge<'a>(
         operations,
         roles,
     );
-    let mut heads = [0u64; 8];
+    let mut heads = [0u64; mine_heads::WORDS];
     mine_heads::mark(scratch, &mut heads);
     let mut merges: usize = 0;
     for front in 0..RoleFile::PARTS {

@@ -15,7 +15,11 @@ use role_record::ByPlace;
 use role_record::ByPlaceMember;
 use role_record::CountBySide;
 use role_record::Links;
+use role_record::OfSide;
 use role_record::RoleFile;
+
+// In the place of a level where two groups fit none.
+pub const NO_LEVEL: usize = 4;
 
 // A set of triples summed up: who stands in it on either side, its operations, and the atoms true of all its pairs.
 pub struct Group {
@@ -343,8 +347,8 @@ fn with_own(matches: &ByPlaceMember, side: usize, own: bool, members: u64, passi
 fn level_within<'a>(
     links: &'a Links,
     matches: &'a ByPlaceMember,
-    met_users: &'a [u64; 6],
-    met_resources: &'a [u64; 6],
+    met_users: &'a OfSide,
+    met_resources: &'a OfSide,
     known: &'a ByPlace,
     attributes: &'a CountBySide,
     users: usize,
@@ -384,15 +388,15 @@ fn level_within<'a>(
             return l;
         }
     }
-    4
+    NO_LEVEL
 }
 
 // The level of two groups together, if they fit one up to a limit; else 4.
 pub fn level_of_pair<'a>(
     links: &'a Links,
     matches: &'a ByPlaceMember,
-    met_users: &'a [u64; 6],
-    met_resources: &'a [u64; 6],
+    met_users: &'a OfSide,
+    met_resources: &'a OfSide,
     known: &'a ByPlace,
     attributes: &'a CountBySide,
     users: usize,
@@ -434,15 +438,15 @@ pub fn level_of_pair<'a>(
             limit,
         );
     }
-    4
+    NO_LEVEL
 }
 
 // The level of a group.
 pub fn level_of_group<'a>(
     links: &'a Links,
     matches: &'a ByPlaceMember,
-    met_users: &'a [u64; 6],
-    met_resources: &'a [u64; 6],
+    met_users: &'a OfSide,
+    met_resources: &'a OfSide,
     known: &'a ByPlace,
     attributes: &'a CountBySide,
     users: usize,

@@ -9,11 +9,13 @@ ghost use Rattle.mine_search.specs.Search.{joinedLevel, partnerLevel, Fi
 ghost use Rattle.mine_pairs.specs.Pairing.{wordsIn};
 ghost use Rattle.mine_seats.specs.Seats.{usersAt, resourcesAt};
 ghost use Rattle.sets.specs.Sets.{bit};
+use mine_heads::Marks;
 use mine_pairs::Group;
 use role_record::ByPlace;
 use role_record::ByPlaceMember;
 use role_record::CountBySide;
 use role_record::Links;
+use role_record::OfSide;
 use role_record::RoleFile;
 
 // A seat to be joined with another, and the level of both together; the seat is 512 if there is none.
@@ -39,8 +41,8 @@ pub fn add_group(
     matches: &ByPlaceMember,
     users: u64,
     resources: u64,
-    people: &mut [u64; 6],
-    things: &mut [u64; 6],
+    people: &mut OfSide,
+    things: &mut OfSide,
 )
     ensures { λ _. ⌜
         ((m n : ℕ)
@@ -59,8 +61,8 @@ fn level_if_joined<'a>(
     scratch: &[u64],
     links: &'a Links,
     matches: &'a ByPlaceMember,
-    met_users: &'a [u64; 6],
-    met_resources: &'a [u64; 6],
+    met_users: &'a OfSide,
+    met_resources: &'a OfSide,
     known: &'a ByPlace,
     attributes: &'a CountBySide,
     users: usize,
@@ -114,8 +116,8 @@ fn level_beside<'a>(
     scratch: &[u64],
     links: &'a Links,
     matches: &'a ByPlaceMember,
-    met_users: &'a [u64; 6],
-    met_resources: &'a [u64; 6],
+    met_users: &'a OfSide,
+    met_resources: &'a OfSide,
     known: &'a ByPlace,
     attributes: &'a CountBySide,
     users: usize,
@@ -140,7 +142,7 @@ fn level_beside<'a>(
         users resources operations (now (scratch .entry)) c k ⌝ }
 {
     if k == c {
-        return 4;
+        return mine_pairs::NO_LEVEL;
     }
     let mut people = *met_users;
     let mut things = *met_resources;
@@ -184,32 +186,32 @@ fn near_within(scratch: &[u64], seats: u64, word: usize, g: Group) -> usize
         }
         rest = sets::without_least(rest);
     }
-    512
+    RoleFile::PARTS
 }
 
 // The first marked seat from a seat on whose group is near: 512 if there is none.
-fn next_near(scratch: &[u64], heads: &[u64; 8], g: Group, from: usize) -> usize
+fn next_near(scratch: &[u64], heads: &Marks, g: Group, from: usize) -> usize
     requires { ⌜ length (now scratch) ≡ 2048 ⌝ }
     ensures { λ r. ⌜ FirstIn (nearHead (now (heads .entry)) (now (scratch .entry)) (wordsIn g)) from 512 r ⌝ }
 {
-    for word in from / 64..8 {
+    for word in from / 64..mine_heads::WORDS {
         let passed = sets::below(higher(from, 64 * word) - 64 * word);
         let k = near_within(scratch, sets::without(heads[word], passed), word, g);
         if k < RoleFile::PARTS {
             return k;
         }
     }
-    512
+    RoleFile::PARTS
 }
 
 // The first seat from a seat on that may be joined with seat c. Only ready heads are looked at, and of these only the near ones.
 pub fn first_partner<'a>(
     scratch: &[u64],
-    ready: &[u64; 8],
+    ready: &Marks,
     links: &'a Links,
     matches: &'a ByPlaceMember,
-    met_users: &'a [u64; 6],
-    met_resources: &'a [u64; 6],
+    met_users: &'a OfSide,
+    met_resources: &'a OfSide,
     known: &'a ByPlace,
     attributes: &'a CountBySide,
     users: usize,
@@ -252,7 +254,7 @@ pub fn first_partner<'a>(
                 c,
                 k,
             );
-            if level < 4 {
+            if level < mine_pairs::NO_LEVEL {
                 return Found {
                     seat: k,
                     level: level,
@@ -263,6 +265,6 @@ pub fn first_partner<'a>(
     }
     Found {
         seat: RoleFile::PARTS,
-        level: 4,
+        level: mine_pairs::NO_LEVEL,
     }
 }

@@ -39,7 +39,7 @@ fn number(having: &ByPlaceMember, place: usize) -> usize
             return k;
         }
     }
-    64
+    RoleFile::MEMBERS
 }
 
 // Whether an atom joins two values. Left says that the first is a set, right that the second is.
@@ -127,7 +127,7 @@ fn linked_to<'a>(
     let found = joined(
         distinct,
         having,
-        7 + b,
+        RoleFile::CONJUNCTS + b,
         count,
         left,
         right,
@@ -158,7 +158,7 @@ fn link_atom<'a>(
 {
     let a = atom / RoleFile::ATTRIBUTES;
     let b = atom % RoleFile::ATTRIBUTES;
-    let others = number(having, 7 + b);
+    let others = number(having, RoleFile::CONJUNCTS + b);
     let count = number(having, a);
     for k in 0..count {
         let word = linked_to(known, kinds, resources, distinct, having, a, b, k, others);

@@ -72,7 +72,7 @@ pub fn first_other(
 fn members_at(g: Group, place: usize) -> u64
     ensures { λ r. ⌜ r ≡ membersOf (wordsIn g) (placeSide place) ⌝ }
 {
-    if place < 7 {
+    if place < RoleFile::CONJUNCTS {
         return g.users;
     }
     g.resources
@@ -110,7 +110,7 @@ fn met_places<'a>(matches: &'a ByPlaceMember, g: Group, places: u64, out: &mut B
 fn own_at(level: usize, place: usize) -> bool
     ensures { λ r. ⌜ r ≡ ownAt (placeSide place) level ⌝ }
 {
-    if place < 7 {
+    if place < RoleFile::CONJUNCTS {
         return (level == 1) | (level == 3);
     }
     (level == 2) | (level == 3)
@@ -155,7 +155,10 @@ fn present<'a>(known: &'a ByPlace, attributes: &'a CountBySide, g: Group, level:
             m = sets::with(m, i);
         }
     }
-    sets::union(m, sets::meet(g.atoms, sets::below(RoleFile::ATOMS)) << 14)
+    sets::union(
+        m,
+        sets::meet(g.atoms, sets::below(RoleFile::ATOMS)) << RoleFile::PLACES,
+    )
 }
 
 // All resources for every user.
@@ -163,7 +166,7 @@ fn widen_rows(out: &mut [u64])
     requires { ⌜ length (now out) ≡ 64 ⌝ }
     ensures { λ _. ⌜ now (out .exit) ≡ tableOf 64 (λ u. everything) ⌝ }
 {
-    let all = sets::below(64);
+    let all = sets::below(RoleFile::RESOURCES);
     for u in 0..RoleFile::MEMBERS {
         out[u] = all;
     }
@@ -351,7 +354,7 @@ fn grants_same<'a>(
 {
     let who = rule_conjuncts::met_by_all(met, places, 0, users);
     let what = rule_conjuncts::met_by_all(met, places, 1, resources);
-    let atoms = places >> 14;
+    let atoms = places >> RoleFile::PLACES;
     if asks_no_more(g, atoms, who, what, operations) {
         if sets::meet(g.atoms, sets::below(RoleFile::ATOMS)) == atoms {
             return corners_free(rows, g, who, what);

@@ -6,6 +6,9 @@ use role_record::CountBySide;
 use role_record::Links;
 use role_record::RoleFile;
 
+// The bits 0, 6, 12, 18, 24 and 30: the first atom of each user attribute.
+const EVERY_ROW: u64 = 0x4104_1041;
+
 // A declared number of attributes is at most six; a larger one counts as six.
 fn at_most_six(n: usize) -> usize
     ensures { λ r. ⌜ r ≡ atMostSix n ⌝ }
@@ -22,8 +25,8 @@ fn declared(attributes: &CountBySide) -> u64
     ensures { λ r. ⌜ r ≡ declaredAtoms (now (attributes .entry)) ⌝ }
 {
     let rows = sets::below(RoleFile::ATTRIBUTES * at_most_six(attributes[0]));
-    // The factor has the bits 0, 6, 12, 18, 24 and 30, so that the product has the columns in each of six rows.
-    let columns = sets::below(at_most_six(attributes[1])) * 0x4104_1041;
+    // The product has the columns in each of the six rows.
+    let columns = sets::below(at_most_six(attributes[1])) * EVERY_ROW;
     sets::meet(rows, columns)
 }
 

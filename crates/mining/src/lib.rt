@@ -11,6 +11,7 @@ ghost use Rattle.files.specs.RoleFile.{readRoles};
 ghost use Rattle.policy.specs.Policy.{Policy, settingOf, rolesIn};
 ghost use Rattle.mining.specs.Mined.{minedNumbers};
 ghost use Rattle.mining.specs.Stages.{bytesFor, neededBytes, Stored, Tabled, Outcome, Result};
+use files::refusal;
 use role_record::ByAttribute;
 use role_record::ByPlace;
 use role_record::ByPlaceMember;
@@ -21,6 +22,9 @@ use role_record::CountBySide;
 use role_record::Links;
 use role_record::RoleFile;
 use role_record::Values;
+
+// Words of scratch that a caller has to lend.
+pub const SCRATCH: usize = 4096;
 
 // A refusal's number; or the bytes of the rule file, the parts of the role file, the rules and merges made, and the rules' cost.
 pub enum Mined {
@@ -122,7 +126,7 @@ fn mine_tables<'a>(
     );
     if lacks_room(out.len(), m.bytes) {
         return Attempt {
-            mined: Mined::Refused(9),
+            mined: Mined::Refused(refusal::SHORT_OUTPUT),
             bytes: m.bytes,
         };
     }
@@ -263,8 +267,8 @@ pub fn mine(file: &[u8], scratch: &mut [u64], out: &mut [u8]) -> Mined
         × (readRoles 2 (now (file .entry)) ≡ accepted F)
         × Demand3 2 (settingOf F) (rolesIn F) (take (c .size) (now (out .exit))) c) ⌝ }
 {
-    if scratch.len() < 4096 {
-        return Mined::Refused(8);
+    if scratch.len() < SCRATCH {
+        return Mined::Refused(refusal::SMALL_SCRATCH);
     }
     let a = mine_in(file, &mut scratch[0..2048], out);
     a.mined
@@ -276,7 +280,7 @@ pub fn rule_bytes(file: &[u8], scratch: &mut [u64]) -> usize
     ensures { λ r. ⌜ r ≡ neededBytes (now (file .entry)) (length (now (scratch .entry))) ⌝ }
 {
     let words = scratch.len();
-    if words < 4096 {
+    if words < SCRATCH {
         return 0;
     }
     let mut out = [0u8; 1];

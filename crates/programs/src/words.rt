@@ -3,6 +3,7 @@ ghost use mathlib.Core.Path.{_≡_};
 ghost use Prim.Native.Nat.{_≤_};
 ghost use lib.ListN.{length};
 ghost use Rattle.programs.specs.Words.{Holds, refusalWords, verdictWords, replyWords};
+use files::refusal;
 
 // Puts a text at the start of out, and answers its length.
 pub fn put(text: &[u8], out: &mut [u8]) -> usize
@@ -23,31 +24,31 @@ pub fn refusal_words(n: usize, out: &mut [u8]) -> usize
     ensures { λ r. ⌜ Holds (now (out .exit)) r (refusalWords n) ⌝ }
 {
     match n {
-        1 => put(b"the role file is too long, above 65,535 bytes", out),
-        2 => put(b"the role file ends inside operands or before 0F", out),
-        3 => put(b"the role file has an unknown command", out),
-        4 => put(
+        refusal::TOO_LONG => put(b"the role file is too long, above 65,535 bytes", out),
+        refusal::CUT_OFF => put(b"the role file ends inside operands or before 0F", out),
+        refusal::UNKNOWN_COMMAND => put(b"the role file has an unknown command", out),
+        refusal::OUT_OF_PLACE => put(
             b"the role file has a byte after its end or a command out of place",
             out,
         ),
-        5 => put(
+        refusal::BEYOND => put(
             b"an operand of the role file, or a number of the question, is beyond its limit or declared size, or there is a seventh attribute",
             out,
         ),
-        6 => put(
+        refusal::WRONG_KIND => put(
             b"the role file has a value of the wrong kind or a value given twice",
             out,
         ),
-        7 => put(b"a role is its own senior", out),
-        8 => put(b"scratch is below 4,096 words of 64 bits", out),
-        9 => put(b"output is shorter than the rule file", out),
-        10 => put(b"the rule file is cut off", out),
-        11 => put(b"the rule file has an unknown command", out),
-        12 => put(
+        refusal::OWN_SENIOR => put(b"a role is its own senior", out),
+        refusal::SMALL_SCRATCH => put(b"scratch is below 4,096 words of 64 bits", out),
+        refusal::SHORT_OUTPUT => put(b"output is shorter than the rule file", out),
+        refusal::RULES_CUT_OFF => put(b"the rule file is cut off", out),
+        refusal::RULES_UNKNOWN => put(b"the rule file has an unknown command", out),
+        refusal::RULES_ORDER => put(
             b"the rule file has a byte after its end or a command out of order, missing or repeated",
             out,
         ),
-        13 => put(
+        refusal::RULES_OPERAND => put(
             b"the rule file has an operand beyond its size or of the wrong kind, a zero operation set, or a part that the role file does not have",
             out,
         ),

@@ -6,6 +6,7 @@ ghost use lib.Dec.{eqb};
 ghost use lib.ListN.{getD};
 ghost use Rattle.sets.specs.Tests.{iff};
 ghost use Rattle.role_admit.specs.Admit.{belowOf, firstOf, declaringOf, laterOf, kindCode, valueCode, admitOf};
+use files::refusal;
 use role_commands::Command;
 use role_record::ByAttribute;
 use role_record::BySide;
@@ -16,42 +17,42 @@ use role_record::RoleFile;
 fn below(x: usize, limit: usize, v: usize) -> usize
     ensures { λ r. ⌜ r ≡ belowOf x limit v ⌝ }
 {
-    if x < limit { v } else { 5 }
+    if x < limit { v } else { refusal::BEYOND }
 }
 
 // The verdict v where nothing was read before, else 4.
 fn first(phase: usize, v: usize) -> usize
     ensures { λ r. ⌜ r ≡ firstOf phase v ⌝ }
 {
-    if phase == 0 { v } else { 4 }
+    if phase == 0 { v } else { refusal::OUT_OF_PLACE }
 }
 
 // The verdict v where only 01 and 02 were read before, else 4.
 fn declaring(phase: usize, v: usize) -> usize
     ensures { λ r. ⌜ r ≡ declaringOf phase v ⌝ }
 {
-    if phase == 1 { v } else { 4 }
+    if phase == 1 { v } else { refusal::OUT_OF_PLACE }
 }
 
 // The verdict v where 01 was read before, else 4.
 fn later(phase: usize, v: usize) -> usize
     ensures { λ r. ⌜ r ≡ laterOf phase v ⌝ }
 {
-    if phase == 0 { 4 } else { v }
+    if phase == 0 { refusal::OUT_OF_PLACE } else { v }
 }
 
 // 5 where an attribute cannot be declared, else 0.
 fn admit_kind(side: usize, kind: usize, attributes: &CountBySide) -> usize
     ensures { λ r. ⌜ r ≡ kindCode side kind (now (attributes .entry)) ⌝ }
 {
-    if 2 <= side {
-        return 5;
+    if RoleFile::SIDES <= side {
+        return refusal::BEYOND;
     }
-    if 2 <= kind {
-        return 5;
+    if RoleFile::KINDS <= kind {
+        return refusal::BEYOND;
     }
     if RoleFile::ATTRIBUTES <= attributes[side] {
-        return 5;
+        return refusal::BEYOND;
     }
     0
 }
@@ -87,21 +88,21 @@ fn admit_value<'a>(
         ≡ valueCode set side attribute who users resources (now (attributes .entry)) (now (kinds .entry))
         (now (known .entry)) ⌝ }
 {
-    if 2 <= side {
-        return 5;
+    if RoleFile::SIDES <= side {
+        return refusal::BEYOND;
     }
     if attributes[side] <= attribute {
-        return 5;
+        return refusal::BEYOND;
     }
     if size_of(side, users, resources) <= who {
-        return 5;
+        return refusal::BEYOND;
     }
     if differ(sets::has(kinds[side], attribute), set) {
-        return 6;
+        return refusal::WRONG_KIND;
     }
     let column = RoleFile::ATTRIBUTES * side + attribute;
     if sets::has(known[column], who) {
-        return 6;
+        return refusal::WRONG_KIND;
     }
     0
 }

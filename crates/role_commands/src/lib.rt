@@ -2,6 +2,7 @@
 ghost use mathlib.Core.Path.{_≡_};
 ghost use Prim.Native.Nat.{_+_, _*_, _<_};
 ghost use Rattle.role_commands.specs.Decode.{numberAt, widthOf, commandBy, decodedOf};
+use files::role_byte;
 
 pub enum Command {
     Sizes {
@@ -56,14 +57,14 @@ pub fn width(b: usize) -> usize
     ensures { λ r. ⌜ r ≡ widthOf b ⌝ }
 {
     match b {
-        1 => 5,
-        2 => 3,
-        3 => 6,
-        4 => 12,
-        5 => 3,
-        6 => 4,
-        7 => 3,
-        15 => 1,
+        role_byte::SIZES => 5,
+        role_byte::DECLARE => 3,
+        role_byte::GIVE_SINGLE => 6,
+        role_byte::GIVE_SET => 12,
+        role_byte::ASSIGN => 3,
+        role_byte::PERMIT => 4,
+        role_byte::LINE => 3,
+        role_byte::END => 1,
         _ => 0,
     }
 }
@@ -97,40 +98,40 @@ pub fn operands(s: &[u8], b: usize) -> Command
     ensures { λ r. ⌜ r ≡ commandBy b (now (s .entry)) ⌝ }
 {
     match b {
-        1 => Command::Sizes {
+        role_byte::SIZES => Command::Sizes {
             users: byte_at(s, 1),
             resources: byte_at(s, 2),
             operations: byte_at(s, 3),
             roles: byte_at(s, 4),
         },
-        2 => Command::Declare {
+        role_byte::DECLARE => Command::Declare {
             side: byte_at(s, 1),
             kind: byte_at(s, 2),
         },
-        3 => Command::Give {
+        role_byte::GIVE_SINGLE => Command::Give {
             set: false,
             side: byte_at(s, 1),
             attribute: byte_at(s, 2),
             who: byte_at(s, 3),
             value: pair(s),
         },
-        4 => Command::Give {
+        role_byte::GIVE_SET => Command::Give {
             set: true,
             side: byte_at(s, 1),
             attribute: byte_at(s, 2),
             who: byte_at(s, 3),
             value: word(s),
         },
-        5 => Command::Assign {
+        role_byte::ASSIGN => Command::Assign {
             role: byte_at(s, 1),
             user: byte_at(s, 2),
         },
-        6 => Command::Permit {
+        role_byte::PERMIT => Command::Permit {
             role: byte_at(s, 1),
             resource: byte_at(s, 2),
             operation: byte_at(s, 3),
         },
-        7 => Command::Line {
+        role_byte::LINE => Command::Line {
             junior: byte_at(s, 1),
             senior: byte_at(s, 2),
         },

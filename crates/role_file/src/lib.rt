@@ -5,6 +5,7 @@ ghost use lib.Dec.{eqb};
 ghost use Rattle.files.specs.RoleFile.{readRoles};
 ghost use Rattle.role_record.specs.Record.{markedIf};
 ghost use Rattle.role_file.specs.Reading.{refusal, loadedOf};
+use files::refusal;
 use role_commands::Command;
 use role_commands::Decoded;
 use role_record::RoleFile;
@@ -33,8 +34,8 @@ fn mark(m: u64, x: usize, kind: usize) -> u64
 pub fn read(s: &[u8]) -> Loaded
     ensures { λ r. ⌜ r ≡ loadedOf (readRoles 2 (now (s .entry))) ⌝ }
 {
-    if 65535 < s.len() {
-        return refuse(1);
+    if RoleFile::BYTES < s.len() {
+        return refuse(refusal::TOO_LONG);
     }
     let mut f = RoleFile::empty();
     let mut phase: usize = 0;
@@ -42,10 +43,10 @@ pub fn read(s: &[u8]) -> Loaded
     loop {
         match role_commands::decode(&s[at..]) {
             Decoded::Unknown => {
-                return refuse(3);
+                return refuse(refusal::UNKNOWN_COMMAND);
             }
             Decoded::Short => {
-                return refuse(2);
+                return refuse(refusal::CUT_OFF);
             }
             Decoded::Whole(c, w) => {
                 let v = role_admit::admit(
@@ -113,13 +114,13 @@ pub fn read(s: &[u8]) -> Loaded
                     }
                     Command::End => {
                         if at != s.len() {
-                            return refuse(4);
+                            return refuse(refusal::OUT_OF_PLACE);
                         }
                         // In place: a function of its own would be handed the whole record and hand it back, a copy each time.
                         let mut above = f.lines;
                         role_seniority::close(&mut above, f.roles);
                         if role_seniority::circular(&above, f.roles) {
-                            return refuse(7);
+                            return refuse(refusal::OWN_SENIOR);
                         }
                         let mut held = [0u64; RoleFile::ROLES];
                         role_seniority::holders(&f.assigned, &above, f.roles, &mut held);

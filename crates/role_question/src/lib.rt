@@ -8,6 +8,7 @@ ghost use Rattle.files.specs.Calls.{yesNo, roleQuestion};
 ghost use Rattle.sets.specs.Sets.{bit};
 ghost use Rattle.sets.specs.Tests.{any, upTo};
 ghost use Rattle.role_question.specs.Reply.{replyNumbers};
+use files::refusal;
 use role_record::ByRole;
 use role_record::ByRoleOperation;
 use role_record::RoleFile;
@@ -69,13 +70,13 @@ pub fn ask(file: &[u8], user: usize, resource: usize, operation: usize) -> Reply
     }
     let f = l.file;
     if f.users <= user {
-        return Reply::Refused(5);
+        return Reply::Refused(refusal::BEYOND);
     }
     if f.resources <= resource {
-        return Reply::Refused(5);
+        return Reply::Refused(refusal::BEYOND);
     }
     if f.operations <= operation {
-        return Reply::Refused(5);
+        return Reply::Refused(refusal::BEYOND);
     }
     if granted(
         &f.holders,

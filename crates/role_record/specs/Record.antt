@@ -8,6 +8,7 @@ use mathlib.Core.List.{List, [], _∷_, map}
 use mathlib.Core.Option.{Option, none, some}
 use Rattle.files.specs.RuleFile.{operations}
 use Rattle.role_record.specs.declared.RoleFile.{RoleFile}
+use Rattle.role_record.specs.declared.Sizes.{Sizes}
 use Rattle.policy.specs.Covering.{known}
 use Rattle.policy.specs.Policy.{Policy, kindOf, senior, held}
 use Rattle.policy.specs.Rules.{Which, user, resource}
@@ -31,6 +32,10 @@ emptyRecord = record {
   seniors = replicate 32 0;
   holders = replicate 32 0;
 }
+
+-- "01 users, resources, operations, roles: at most 64, 64, 16, 32"
+abbrev pub WithinLimits : Sizes → Type 0
+WithinLimits n = (n .users ≤ 64) × (n .resources ≤ 64) × (n .operations ≤ 16) × (n .roles ≤ 32)
 
 -- a table of n numbers
 unfoldable pub tableOf : ℕ → (ℕ → ℕ) → List ℕ

@@ -24,6 +24,14 @@ pub struct RoleFile {
     pub holders: ByRole,
 }
 
+// How many there are of each: handed on by value.
+pub struct Sizes {
+    pub users: usize,
+    pub resources: usize,
+    pub operations: usize,
+    pub roles: usize,
+}
+
 // Tables, each named by what its words belong to. Sides are 0 for users and 1 for resources; of two or more things the last goes
 // fastest: role k and operation o have word OPERATIONS * k + o.
 pub type CountBySide = [usize; RoleFile::SIDES];
@@ -36,6 +44,9 @@ pub type ByRoleOperation = [u64; RoleFile::PARTS];
 
 // An attribute's number is ATTRIBUTES * side + attribute.
 pub type ByAttribute = [u64; RoleFile::SIDES * RoleFile::ATTRIBUTES];
+
+// By attribute of one side.
+pub type OfSide = [u64; RoleFile::ATTRIBUTES];
 
 // A user or a resource.
 pub type ByMember = [u64; RoleFile::MEMBERS];
@@ -66,6 +77,12 @@ impl RoleFile {
     pub const ATTRIBUTES: usize = 6;
 
     pub const SIDES: usize = 2;
+
+    // Single and set.
+    pub const KINDS: usize = 2;
+
+    // A role file has at most so many bytes.
+    pub const BYTES: usize = 65535;
 
     // As many as a side may have: users, or resources.
     pub const MEMBERS: usize = RoleFile::USERS;

@@ -8,6 +8,9 @@ ghost use Rattle.sets.specs.Sets.{bit, subset, maskOf};
 use role_record::RoleFile;
 use role_record::Values;
 
+// Members are asked from the last to the first.
+const LAST: usize = RoleFile::MEMBERS - 1;
+
 // Whose values contain a set.
 pub fn containing(values: &Values, column: usize, v: u64) -> u64
     requires { ⌜ column < 12 ⌝ }
@@ -16,7 +19,7 @@ pub fn containing(values: &Values, column: usize, v: u64) -> u64
     let mut m: u64 = 0;
     for x in 0..RoleFile::MEMBERS {
         m = m << 1;
-        if sets::within(v, values[RoleFile::MEMBERS * column + (63 - x)]) {
+        if sets::within(v, values[RoleFile::MEMBERS * column + (LAST - x)]) {
             m = m | 1;
         }
     }
@@ -31,7 +34,7 @@ pub fn contained(values: &Values, column: usize, v: u64) -> u64
     let mut m: u64 = 0;
     for x in 0..RoleFile::MEMBERS {
         m = m << 1;
-        if sets::within(values[RoleFile::MEMBERS * column + (63 - x)], v) {
+        if sets::within(values[RoleFile::MEMBERS * column + (LAST - x)], v) {
             m = m | 1;
         }
     }
@@ -46,7 +49,7 @@ pub fn elements(values: &Values, column: usize, v: u64) -> u64
     let mut m: u64 = 0;
     for x in 0..RoleFile::MEMBERS {
         m = m << 1;
-        if sets::has(v, values[RoleFile::MEMBERS * column + (63 - x)] as usize) {
+        if sets::has(v, values[RoleFile::MEMBERS * column + (LAST - x)] as usize) {
             m = m | 1;
         }
     }
@@ -61,7 +64,7 @@ pub fn equal(values: &Values, column: usize, v: u64) -> u64
     let mut m: u64 = 0;
     for x in 0..RoleFile::MEMBERS {
         m = m << 1;
-        if v == values[RoleFile::MEMBERS * column + (63 - x)] {
+        if v == values[RoleFile::MEMBERS * column + (LAST - x)] {
             m = m | 1;
         }
     }

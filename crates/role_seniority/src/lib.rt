@@ -8,6 +8,7 @@ ghost use Rattle.sets.specs.Sets.{bit, maskOf};
 ghost use Rattle.sets.specs.Tests.{any, upTo};
 ghost use Rattle.role_seniority.specs.Closure.{closed, passed, heldBy, heldTable};
 use role_record::ByRole;
+use role_record::RoleFile;
 
 // The seniors of a role, from those it has with the roles below n between them and those that role n has so: role n may stand between
 // too.
@@ -27,7 +28,7 @@ fn pass(t: &mut [u64], n: usize)
     ensures { λ _. ⌜ now (t .exit) ≡ passed (now (t .entry)) n ⌝ }
 {
     let others = t[n];
-    for i in 0..32 {
+    for i in 0..RoleFile::ROLES {
         t[i] = through(t[i], others, n);
     }
 }
@@ -82,7 +83,7 @@ fn hold<'a>(assigned: &'a ByRole, seniors: &'a ByRole, roles: usize, out: &mut [
     requires { ⌜ (roles ≤ 32) × (length (now out) ≡ 32) ⌝ }
     ensures { λ _. ⌜ now (out .exit) ≡ heldTable (now (assigned .entry)) (now (seniors .entry)) roles ⌝ }
 {
-    for k in 0..32 {
+    for k in 0..RoleFile::ROLES {
         out[k] = held(assigned, assigned[k], seniors[k], roles);
     }
 }

@@ -3,6 +3,7 @@ ghost use mathlib.Core.Path.{_≡_};
 ghost use mathlib.Core.List.{[], _∷_};
 ghost use Rattle.role_commands.specs.Decode.{numberAt};
 ghost use Rattle.rule_commands.specs.Raw.{takenBy, rawOf, rawBefore};
+use files::rule_byte;
 
 // An atom by the kinds of its two attributes: the user attribute, the resource attribute.
 pub enum Atom {
@@ -119,11 +120,14 @@ pub fn next(s: &[u8]) -> Raw
     }
     let b = role_commands::byte_at(s, 0);
     match b {
-        0x21 | 0x2F => Raw::Whole(b, 0, 0, 1),
-        0x22 | 0x24 | 0x28 => byte_and_pair(s, b),
-        0x23 | 0x25 => byte_and_word(s, b),
-        0x26 => one_pair(s, b),
-        0x27 => two_bytes(s, b),
+        rule_byte::OPENS | rule_byte::ENDS => Raw::Whole(b, 0, 0, 1),
+        rule_byte::USER_SINGLE | rule_byte::RESOURCE_SINGLE | rule_byte::PART => byte_and_pair(
+            s,
+            b,
+        ),
+        rule_byte::USER_SET | rule_byte::RESOURCE_SET => byte_and_word(s, b),
+        rule_byte::OPERATIONS => one_pair(s, b),
+        rule_byte::LINK => two_bytes(s, b),
         _ => Raw::Unknown,
     }
 }

@@ -12,7 +12,7 @@ pub fn met_by_all(met: &ByPlace, asked: u64, side: usize, count: usize) -> u64
     ensures { λ r. ⌜ r ≡ metByAll (now (met .entry)) asked side count ⌝ }
 {
     let mut m = sets::below(count);
-    for i in 0..7 {
+    for i in 0..RoleFile::CONJUNCTS {
         if sets::has(asked, RoleFile::CONJUNCTS * side + i) {
             m = sets::meet(m, met[RoleFile::CONJUNCTS * side + i]);
         }

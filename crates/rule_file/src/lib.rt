@@ -4,6 +4,8 @@ ghost use mathlib.Core.Bool.{_||_};
 ghost use mathlib.Core.Path.{_≡_};
 ghost use Rattle.files.specs.Calls.{readBoth};
 ghost use Rattle.rule_file.specs.BothFiles.{nothingRead, bothOf};
+use files::refusal;
+use files::rule_byte;
 use role_record::ByRole;
 use role_record::Grid;
 use role_record::RoleFile;
@@ -44,10 +46,10 @@ fn refuse(n: usize) -> BothFiles
 fn closes(b: usize) -> bool
     ensures { λ r. ⌜ r ≡ (eqb b 0x21 || eqb b 0x2F) ⌝ }
 {
-    if b == 0x21 {
+    if b == rule_byte::OPENS {
         return true;
     }
-    b == 0x2F
+    b == rule_byte::ENDS
 }
 
 // One pass over the rule file: each line is summed up where it stands, and what a rule grants is worked out when it is closed.
@@ -71,16 +73,16 @@ pub fn read(file: &[u8], rules: &[u8]) -> BothFiles
     loop {
         match rule_commands::next(&rules[at..]) {
             Raw::Unknown => {
-                return refuse(11);
+                return refuse(refusal::RULES_UNKNOWN);
             }
             Raw::Short => {
-                return refuse(10);
+                return refuse(refusal::RULES_CUT_OFF);
             }
             Raw::Whole(b, x, y, w) => {
                 at = at + w;
                 if closes(b) {
                     if !rule_steps::may_close(k) {
-                        return refuse(12);
+                        return refuse(refusal::RULES_ORDER);
                     }
                     k = rule_steps::finish(
                         k,
@@ -93,9 +95,9 @@ pub fn read(file: &[u8], rules: &[u8]) -> BothFiles
                         f.operations,
                         &mut grid,
                     );
-                    if b == 0x2F {
+                    if b == rule_byte::ENDS {
                         if at != rules.len() {
-                            return refuse(12);
+                            return refuse(refusal::RULES_ORDER);
                         }
                         return BothFiles {
                             code: 0,
@@ -113,7 +115,7 @@ pub fn read(file: &[u8], rules: &[u8]) -> BothFiles
                     grant_blocks::clear(&mut listed);
                 } else {
                     if !rule_steps::follows(k, b, x, y) {
-                        return refuse(12);
+                        return refuse(refusal::RULES_ORDER);
                     }
                     match rule_operands::check(
                         b,
@@ -128,7 +130,7 @@ pub fn read(file: &[u8], rules: &[u8]) -> BothFiles
                         &f.permissions,
                     ) {
                         Checked::Illegal => {
-                            return refuse(13);
+                            return refuse(refusal::RULES_OPERAND);
                         }
                         Checked::Legal(c) => {
                             k = rule_steps::note(k, c, b, x, y);

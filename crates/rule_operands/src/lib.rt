@@ -6,6 +6,7 @@ ghost use lib.Dec.{ltb};
 ghost use Rattle.sets.specs.Tests.{iff};
 ghost use Rattle.rule_operands.specs.Operands.{ownLegal, valueLegal, linkLegal, partLegal};
 ghost use Rattle.rule_operands.specs.Checked.{valueCommand, atomOf, checkedValue, checkedOperations, checkedLink, checkedPart, checkedOf};
+use files::rule_byte;
 use role_record::ByRole;
 use role_record::ByRoleOperation;
 use role_record::BySide;
@@ -66,7 +67,7 @@ pub fn value_legal<'a>(
     ensures { λ r. ⌜
         r ≡ valueLegal side set attribute v roles resources (now (attributes .entry)) (now (kinds .entry)) ⌝ }
 {
-    if attribute == 255 {
+    if attribute == rule_byte::OWN as u64 {
         return own_legal(side, set, v, roles, resources);
     }
     let a = attribute as usize;
@@ -255,14 +256,23 @@ pub fn check<'a>(
         (now (holders .entry)) (now (permissions .entry)) ⌝ }
 {
     match b {
-        0x21 => Checked::Legal(RuleCommand::Opens),
-        0x22 => check_value(0, false, x, y, roles, resources, attributes, kinds),
-        0x23 => check_value(0, true, x, y, roles, resources, attributes, kinds),
-        0x24 => check_value(1, false, x, y, roles, resources, attributes, kinds),
-        0x25 => check_value(1, true, x, y, roles, resources, attributes, kinds),
-        0x26 => check_operations(x, operations),
-        0x27 => check_link(x, y, attributes, kinds),
-        0x28 => check_part(x, y, roles, operations, holders, permissions),
+        rule_byte::OPENS => Checked::Legal(RuleCommand::Opens),
+        rule_byte::USER_SINGLE => check_value(0, false, x, y, roles, resources, attributes, kinds),
+        rule_byte::USER_SET => check_value(0, true, x, y, roles, resources, attributes, kinds),
+        rule_byte::RESOURCE_SINGLE => check_value(
+            1,
+            false,
+            x,
+            y,
+            roles,
+            resources,
+            attributes,
+            kinds,
+        ),
+        rule_byte::RESOURCE_SET => check_value(1, true, x, y, roles, resources, attributes, kinds),
+        rule_byte::OPERATIONS => check_operations(x, operations),
+        rule_byte::LINK => check_link(x, y, attributes, kinds),
+        rule_byte::PART => check_part(x, y, roles, operations, holders, permissions),
         _ => Checked::Legal(RuleCommand::Ends),
     }
 }

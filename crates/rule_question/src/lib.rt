@@ -5,6 +5,7 @@ ghost use Rattle.files.specs.Answer.{told};
 ghost use Rattle.files.specs.Calls.{yesNo, ruleQuestion};
 ghost use Rattle.grant_grids.specs.Grid.{inGrid};
 ghost use Rattle.role_question.specs.Reply.{replyNumbers};
+use files::refusal;
 use role_question::Reply;
 use role_record::Grid;
 use role_record::RoleFile;
@@ -28,13 +29,13 @@ pub fn ask(file: &[u8], rules: &[u8], user: usize, resource: usize, operation: u
         return Reply::Refused(b.code);
     }
     if b.file.users <= user {
-        return Reply::Refused(5);
+        return Reply::Refused(refusal::BEYOND);
     }
     if b.file.resources <= resource {
-        return Reply::Refused(5);
+        return Reply::Refused(refusal::BEYOND);
     }
     if b.file.operations <= operation {
-        return Reply::Refused(5);
+        return Reply::Refused(refusal::BEYOND);
     }
     if in_grid(&b.grid, user, resource, operation) {
         return Reply::Yes;

@@ -9,6 +9,7 @@ ghost use Rattle.rule_meeting.specs.Meeting.{meetingOf};
 ghost use Rattle.grant_blocks.specs.PartGrid.{joinedGrid};
 ghost use Rattle.rule_steps.specs.Kept.{begunWith, openedWith, countedWith, ruleGrid, closedWith, finishedWith, finishedGrid, mayClose, followsWith};
 ghost use Rattle.rule_steps.specs.Lines.{placeBy, pairNumber, atomNumber, notedWith, metMore, metAfter, PartWithin, listedAfter, seenBy, againBy};
+use files::rule_byte;
 use grant_grids::Difference;
 use role_record::ByAttribute;
 use role_record::ByPlace;
@@ -48,7 +49,7 @@ pub fn begun() -> Kept
         atoms: 0,
         operations: 0,
         listing: false,
-        last: 0x21,
+        last: rule_byte::OPENS,
         x: 0,
         y: 0,
         rules: 0,
@@ -67,7 +68,7 @@ pub fn opened(k: Kept) -> Kept
         atoms: 0,
         operations: 0,
         listing: false,
-        last: 0x21,
+        last: rule_byte::OPENS,
         x: 0,
         y: 0,
         rules: k.rules,
@@ -191,7 +192,7 @@ pub fn finish<'a>(
 fn is_second(k: Kept, b: usize) -> bool
     ensures { λ r. ⌜ r ≡ (eqb b 0x26 && not (eqb (k .operations) 0)) ⌝ }
 {
-    if b == 0x26 {
+    if b == rule_byte::OPERATIONS {
         return k.operations != 0;
     }
     false
@@ -225,8 +226,8 @@ fn place(side: usize, attribute: usize) -> usize
 fn pair_number(a: usize, b: usize) -> usize
     ensures { λ r. ⌜ r ≡ pairNumber a b ⌝ }
 {
-    if a < 6 {
-        if b < 6 {
+    if a < RoleFile::ATTRIBUTES {
+        if b < RoleFile::ATTRIBUTES {
             return RoleFile::ATTRIBUTES * a + b;
         }
     }

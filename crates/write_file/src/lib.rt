@@ -6,6 +6,7 @@ ghost use Prim.Native.Nat.{_≤_, _<_};
 ghost use Rattle.write_file.specs.FileTable.{keptHead, keptTable, ruleAt, costAt, fileBytes, measuredOf};
 ghost use Rattle.write_lines.specs.Writing.{wrote};
 ghost use Rattle.write_lists.specs.Roles.{rolesTable};
+use files::rule_byte;
 use role_record::ByPlace;
 use role_record::ByPlaceMember;
 use role_record::ByRoleOperation;
@@ -14,6 +15,9 @@ use role_record::CountBySide;
 use role_record::Links;
 use role_record::RoleFile;
 use write_lists::Size;
+
+// The last byte, as it is stored.
+const ENDS: u8 = rule_byte::ENDS as u8;
 
 // The bytes of a rule file, its rules, their cost, and the parts that they list.
 pub struct Measured {
@@ -320,5 +324,5 @@ pub fn write_rules<'a>(
             &mut out[at..],
         );
     }
-    out[at] = 0x2F;
+    out[at] = ENDS;
 }

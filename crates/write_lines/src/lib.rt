@@ -10,6 +10,7 @@ ghost use Rattle.write_lines.specs.Writing.{wrote};
 ghost use Rattle.mine_theory.specs.Lines.RuleLines.{valueBytes, partBytes};
 ghost use Rattle.sets.specs.Tests.{each, upTo};
 ghost use Rattle.mine_theory.specs.Words.Flags.{placeSide, placeAttribute};
+use files::rule_byte;
 use role_record::ByMember;
 use role_record::RoleFile;
 
@@ -59,16 +60,16 @@ fn put_ten(out: &mut [u8], command: usize, x: usize, v: u64)
 fn command_at(place: usize, set: bool) -> usize
     ensures { λ r. ⌜ r ≡ valueByte (placeSide place) set ⌝ }
 {
-    if place < 7 {
+    if place < RoleFile::CONJUNCTS {
         if set {
-            return 35;
+            return rule_byte::USER_SET;
         }
-        return 34;
+        return rule_byte::USER_SINGLE;
     }
     if set {
-        return 37;
+        return rule_byte::RESOURCE_SET;
     }
-    36
+    rule_byte::RESOURCE_SINGLE
 }
 
 // The attribute of a place.
@@ -76,7 +77,7 @@ fn attribute_at(place: usize) -> usize
     ensures { λ r. ⌜ r ≡ placeAttribute place ⌝ }
 {
     if place % RoleFile::CONJUNCTS == RoleFile::ATTRIBUTES {
-        return 255;
+        return rule_byte::OWN;
     }
     place % RoleFile::CONJUNCTS
 }
@@ -138,7 +139,7 @@ pub fn put_classes(list: &ByMember, count: usize, role: usize, out: &mut [u8]) -
 {
     let mut at: usize = 0;
     for k in 0..count {
-        put_four(&mut out[at..], 40, role, list[k]);
+        put_four(&mut out[at..], rule_byte::PART, role, list[k]);
         at += 4;
     }
     at

@@ -10,6 +10,7 @@ ghost use Rattle.write_lists.specs.RuleLists.{classesAt, ruleCostIn};
 ghost use Rattle.write_rule.specs.RuleTable.{keptAs, placeBytesIn, kindBytesIn, conjunctBytesIn, atomBytesAt, atomBytesIn, roleBytesIn, partBytesIn, ruleBytesIn, sectionBytesIn};
 ghost use Rattle.sets.specs.Tests.{upTo, sum};
 ghost use Rattle.mine_theory.specs.Words.Flags.{placeSide};
+use files::rule_byte;
 use role_record::ByMember;
 use role_record::ByPlaceMember;
 use role_record::ByRoleOperation;
@@ -106,7 +107,7 @@ fn put_kind<'a>(
         (now (out .entry))) ⌝ }
 {
     let mut at: usize = 0;
-    for j in 0..7 {
+    for j in 0..RoleFile::CONJUNCTS {
         at += put_place(
             distinct,
             having,
@@ -175,10 +176,10 @@ fn put_atom(kept: u64, atom: usize, out: &mut [u8]) -> usize
     ensures { λ r. ⌜
         (r ≡ length (atomBytesAt kept atom)) × (now (out .exit) ≡ wrote (atomBytesAt kept atom) (now (out .entry))) ⌝ }
 {
-    if sets::has(kept, 14 + atom) {
+    if sets::has(kept, RoleFile::PLACES + atom) {
         write_lines::put_three(
             out,
-            39,
+            rule_byte::LINK,
             atom / RoleFile::ATTRIBUTES,
             atom % RoleFile::ATTRIBUTES,
         );
@@ -303,7 +304,7 @@ fn put_section<'a>(
         (now (out .entry))) ⌝ }
 {
     if section == 0 {
-        write_lines::put_one(out, 33);
+        write_lines::put_one(out, rule_byte::OPENS);
         return 1;
     }
     if section == 1 {
@@ -311,7 +312,12 @@ fn put_section<'a>(
     }
     if section == 2 {
         let ops = mine_seats::operations_at(scratch, head);
-        write_lines::put_three(out, 38, (ops % 256) as usize, (ops / 256 % 256) as usize);
+        write_lines::put_three(
+            out,
+            rule_byte::OPERATIONS,
+            (ops % 256) as usize,
+            (ops / 256 % 256) as usize,
+        );
         return 3;
     }
     if section == 3 {

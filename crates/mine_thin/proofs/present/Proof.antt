@@ -59,5 +59,6 @@ present-spec =
     loop-again
     (λ c κs. search needs)
     (λ c κs. search needs)
+    (λ c. search needs)
     (λ c κs. search needs)
     returns)
