@@ -76,7 +76,7 @@ enum {
 };
 
 /*
- * May this role file be read? Returns 0 or 1 to 7. Stack: 27 KB.
+ * May this role file be read? Returns 0 or 1 to 7. Stack: 40 KB.
  */
 size_t fichtengarn_read_roles(const uint8_t *file, size_t file_length);
 
@@ -85,7 +85,7 @@ size_t fichtengarn_read_roles(const uint8_t *file, size_t file_length);
  * was made for, and may be of any length.
  *
  * Returns 0, and *count is how many rules it has; or 1 to 7; then 10 to 13. Writes *count and
- * nothing else. Stack: 120 KB.
+ * nothing else. Stack: 140 KB.
  */
 size_t fichtengarn_read_rules(const uint8_t *file, size_t file_length,
                               const uint8_t *rules, size_t rules_length,
@@ -95,7 +95,7 @@ size_t fichtengarn_read_rules(const uint8_t *file, size_t file_length,
  * The role question: do the roles grant the user the operation on the resource?
  *
  * Returns 0, and *answer is 1 for yes or 0 for no; or 1 to 7; then 5 if a number is beyond the
- * sizes of the role file. Writes *answer and nothing else. Stack: 36 KB.
+ * sizes of the role file. Writes *answer and nothing else. Stack: 52 KB.
  */
 size_t fichtengarn_ask_roles(const uint8_t *file, size_t file_length,
                              size_t user, size_t resource, size_t operation,
@@ -105,7 +105,7 @@ size_t fichtengarn_ask_roles(const uint8_t *file, size_t file_length,
  * The rule question: does some rule grant it?
  *
  * Returns 0, and *answer is 1 for yes or 0 for no; or 1 to 7; then 10 to 13; then 5 if a number is
- * beyond the sizes of the role file. Writes *answer and nothing else. Stack: 120 KB.
+ * beyond the sizes of the role file. Writes *answer and nothing else. Stack: 140 KB.
  */
 size_t fichtengarn_ask_rules(const uint8_t *file, size_t file_length,
                              const uint8_t *rules, size_t rules_length,
@@ -127,7 +127,7 @@ enum {
  *
  * Returns 0 and the verdict, the first of 1, 2, 3 that there is cause for, else 0; or 1 to 7; then
  * 10 to 13. Writes the numbers of the verdict; those that it has none for are as they were.
- * Stack: 140 KB, the most of all calls.
+ * Stack: 160 KB, the most of all calls.
  */
 size_t fichtengarn_judge(const uint8_t *file, size_t file_length,
                          const uint8_t *rules, size_t rules_length,
@@ -154,7 +154,7 @@ enum {
  * of a lower level could grant what a rule of the file does; no single rule, of a level no higher
  * than the higher of two, could grant what both do; and nothing could be struck from a rule.
  *
- * Scratch may hold anything before, and holds anything after. Stack: 105 KB.
+ * Scratch may hold anything before, and holds anything after. Stack: 110 KB.
  */
 size_t fichtengarn_mine(const uint8_t *file, size_t file_length,
                         uint64_t *scratch, size_t scratch_words,

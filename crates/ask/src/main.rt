@@ -2,7 +2,7 @@
 // ask ROLES [RULES] USER RESOURCE OPERATION prints the answer or the refusal, a line with its number and its meaning.
 // Where the system does not read a file, a line on standard error says so and there is no answer.
 ghost use Prim.Native.Nat.{_≤_};
-use programs::Number;
+use digits::Number;
 use role_question::Reply;
 
 enum Asked {
@@ -47,7 +47,7 @@ fn question(i: usize) -> Asked
 // Prints whether it is granted, by the rules or by the roles.
 fn say_granted(by_rules: bool, granted: bool, user: usize, resource: usize, operation: usize) {
     let mut words = [0u8; 160];
-    let length = programs::reply_words(by_rules, granted, &mut words);
+    let length = answer_words::reply_words(by_rules, granted, &mut words);
     let headed = programs::say_count(true, b"answer ", granted as usize);
     let marked = programs::say(headed, b": ");
     let told = programs::say(marked, &words[..length]);

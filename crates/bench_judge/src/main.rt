@@ -5,7 +5,7 @@ ghost use mathlib.Core.Path.{_≡_};
 ghost use Rattle.files.specs.Answer.{told};
 ghost use Rattle.files.specs.Calls.{judge, verdictTold};
 ghost use Rattle.rule_judge.specs.Judgement.{judgementNumbers};
-ghost use Rattle.bench_judge.specs.Checksum.{weightOf, sampleOf, total};
+ghost use Rattle.bench_judge.specs.JudgeChecksum.{weightOf, sampleOf, total};
 use rule_judge::Judgement;
 
 // The verdict's number and values, added up.

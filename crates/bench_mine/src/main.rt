@@ -5,8 +5,8 @@ ghost use lib.ListN.{length};
 ghost use mathlib.Core.Path.{_≡_};
 ghost use Rattle.files.specs.Answer.{told};
 ghost use Rattle.files.specs.Calls.{countValues, mineAnswer};
-ghost use Rattle.mining.specs.Mined.{minedNumbers};
-ghost use Rattle.bench_mine.specs.Checksum.{weightOf, sampleOf, total};
+ghost use Rattle.mining.specs.MinedNumbers.{minedNumbers};
+ghost use Rattle.bench_mine.specs.MineChecksum.{weightOf, sampleOf, total};
 use mining::Mined;
 
 // The length, the counts and the cost added up, or the number of the refusal.

@@ -4,7 +4,7 @@
 ghost use mathlib.Core.Path.{_≡_};
 ghost use Rattle.files.specs.RoleFile.{readRoles};
 ghost use Rattle.role_file.specs.Reading.{loadedOf};
-ghost use Rattle.bench_read.specs.Checksum.{sampleOf, total};
+ghost use Rattle.bench_read.specs.ReadChecksum.{sampleOf, total};
 
 // Reads once, and adds up some words of the record, other words each turn.
 fn sample(s: &[u8], turn: usize) -> u64

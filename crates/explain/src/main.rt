@@ -1,9 +1,6 @@
 // Tells each rule of a rule file in words: explain ROLES RULES prints a paragraph for each rule, or the line of a refusal. Where the
 // system does not read a file, a line on standard error says so and nothing is told.
-mod line;
-mod tell;
-
-use tell::tell_rules;
+use role_record::Sizes;
 
 // Reads both files, and tells the rules if both are legal.
 fn explain(file: &[u8], rules: &[u8]) {
@@ -13,16 +10,21 @@ fn explain(file: &[u8], rules: &[u8]) {
         return;
     }
     let f = b.file;
-    tell_rules(
+    let sizes = Sizes {
+        users: f.users,
+        resources: f.resources,
+        operations: f.operations,
+        roles: f.roles,
+    };
+    let told = rule_words::tell_rules(
         rules,
-        f.resources,
-        f.operations,
-        f.roles,
+        sizes,
         &f.attributes,
         &f.kinds,
         &f.holders,
         &f.permissions,
     );
+    programs::end_line(b"explain", told);
 }
 
 fn main() {

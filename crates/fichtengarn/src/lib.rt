@@ -8,112 +8,16 @@ ghost use Rattle.files.specs.Answer.{told, accepted};
 ghost use Rattle.files.specs.Calls.{Counts, countValues, yesNo, roleQuestion, readBoth, ruleQuestion, judge, mineAnswer, mineOutput, verdictTold};
 ghost use Rattle.files.specs.Demand3.{Demand3};
 ghost use Rattle.files.specs.RoleFile.{readRoles};
-ghost use Rattle.rule_judge.specs.Judgement.{judgementNumbers};
-ghost use Rattle.mining.specs.Mined.{minedNumbers};
 ghost use Rattle.policy.specs.Policy.{Policy, settingOf, rolesIn};
-ghost use Rattle.role_question.specs.Reply.{replyNumbers};
-ghost use Rattle.fichtengarn.specs.Numbers.{returned, stored, readNumbers, nothing, rulesTold};
-use mining::Mined;
-use role_question::Reply;
-use rule_judge::Judgement;
+ghost use Rattle.answers.specs.Numbers.{noValues};
+ghost use Rattle.answers.specs.Numbers.{returned, stored, rulesTold};
 
 // Whether a role file may be read: 0, or 1 to 7.
 #[no_mangle]
 pub extern "C" fn fichtengarn_read_roles(file: &[u8]) -> usize
-    ensures { λ r. ⌜ r ≡ returned (told nothing (readRoles 2 (now (file .entry)))) ⌝ }
+    ensures { λ r. ⌜ r ≡ returned (told noValues (readRoles 2 (now (file .entry)))) ⌝ }
 {
     role_file::read(file).code
-}
-
-// An answer in numbers: the first is returned, the others are stored. Into slices, since only a slice tells its length to a proof.
-
-// Of a rule file that was read: how many rules it has.
-fn store_rule_count(code: usize, rules: usize, count: &mut [usize]) -> usize
-    requires { ⌜ length (now count) ≡ 1 ⌝ }
-    ensures { λ r. ⌜
-        (r ≡ returned (readNumbers code rules))
-        × (now (count .exit) ≡ stored (readNumbers code rules) (now (count .entry))) ⌝ }
-{
-    if code == 0 {
-        count[0] = rules;
-    }
-    code
-}
-
-fn store_reply(reply: Reply, answer: &mut [usize]) -> usize
-    requires { ⌜ length (now answer) ≡ 1 ⌝ }
-    ensures { λ r. ⌜
-        (r ≡ returned (replyNumbers reply))
-        × (now (answer .exit) ≡ stored (replyNumbers reply) (now (answer .entry))) ⌝ }
-{
-    match reply {
-        Reply::Refused(n) => n,
-        Reply::No => {
-            answer[0] = 0;
-            0
-        }
-        Reply::Yes => {
-            answer[0] = 1;
-            0
-        }
-    }
-}
-
-fn store_judgement(judgement: Judgement, verdict: &mut [usize]) -> usize
-    requires { ⌜ length (now verdict) ≡ 4 ⌝ }
-    ensures { λ r. ⌜
-        (r ≡ returned (judgementNumbers judgement))
-        × (now (verdict .exit) ≡ stored (judgementNumbers judgement) (now (verdict .entry))) ⌝ }
-{
-    match judgement {
-        Judgement::Refused(n) => n,
-        Judgement::Sound => {
-            verdict[0] = 0;
-            0
-        }
-        Judgement::Differ(user, resource, operation) => {
-            verdict[0] = 1;
-            verdict[1] = user;
-            verdict[2] = resource;
-            verdict[3] = operation;
-            0
-        }
-        Judgement::StrayRule(rule) => {
-            verdict[0] = 2;
-            verdict[1] = rule;
-            0
-        }
-        Judgement::StrayPart(part) => {
-            verdict[0] = 3;
-            verdict[1] = part;
-            0
-        }
-    }
-}
-
-fn store_mined(mined: Mined, counts: &mut [usize]) -> usize
-    requires { ⌜ length (now counts) ≡ 5 ⌝ }
-    ensures { λ r. ⌜
-        (r ≡ returned (minedNumbers mined))
-        × (now (counts .exit) ≡ stored (minedNumbers mined) (now (counts .entry))) ⌝ }
-{
-    match mined {
-        Mined::Refused(n) => n,
-        Mined::Written {
-            length,
-            parts,
-            rules,
-            merges,
-            cost,
-        } => {
-            counts[0] = length;
-            counts[1] = parts;
-            counts[2] = rules;
-            counts[3] = merges;
-            counts[4] = cost;
-            0
-        }
-    }
 }
 
 // Whether a rule file may be read beside a role file, and how many rules it has.
@@ -125,7 +29,7 @@ pub extern "C" fn fichtengarn_read_rules(file: &[u8], rules: &[u8], count: &mut 
         ≡ stored (told rulesTold (readBoth 2 (now (file .entry)) (now (rules .entry)))) (now (count .entry))) ⌝ }
 {
     let b = rule_file::read(file, rules);
-    store_rule_count(b.code, b.rules, count)
+    answers::store_rule_count(b.code, b.rules, count)
 }
 
 // Whether the roles grant a triple: 1 for yes, 0 for no.
@@ -143,7 +47,7 @@ pub extern "C" fn fichtengarn_ask_roles(
         ≡ stored (told yesNo (roleQuestion 2 (now (file .entry)) user resource operation))
         (now (answer .entry))) ⌝ }
 {
-    store_reply(role_question::ask(file, user, resource, operation), answer)
+    answers::store_reply(role_question::ask(file, user, resource, operation), answer)
 }
 
 // Whether some rule grants a triple: 1 for yes, 0 for no.
@@ -162,7 +66,7 @@ pub extern "C" fn fichtengarn_ask_rules(
         ≡ stored (told yesNo (ruleQuestion 2 (now (file .entry)) (now (rules .entry)) user resource operation))
         (now (answer .entry))) ⌝ }
 {
-    store_reply(
+    answers::store_reply(
         rule_question::ask(file, rules, user, resource, operation),
         answer,
     )
@@ -177,7 +81,7 @@ pub extern "C" fn fichtengarn_judge(file: &[u8], rules: &[u8], verdict: &mut [us
         ≡ stored (told verdictTold (judge 2 (now (file .entry)) (now (rules .entry))))
         (now (verdict .entry))) ⌝ }
 {
-    store_judgement(rule_judge::judge(file, rules), verdict)
+    answers::store_judgement(rule_judge::judge(file, rules), verdict)
 }
 
 // Mining: the rule file in the memory for output, and length, parts, rules, merges and cost.
@@ -206,5 +110,5 @@ pub extern "C" fn fichtengarn_mine(
         × (readRoles 2 (now (file .entry)) ≡ accepted F)
         × Demand3 2 (settingOf F) (rolesIn F) (take (c .size) (now (out .exit))) c) ⌝ }
 {
-    store_mined(mining::mine(file, scratch, out), counts)
+    answers::store_mined(mining::mine(file, scratch, out), counts)
 }

@@ -1,10 +1,11 @@
 -- What holds of the calls: the output memory, the third demand at the mining call, and what the questions and the judge say of
 -- mined bytes.
 -- Assumes nothing.
-use Prim.Native.Nat.{ℕ, _+_, _≤_, _<_}
-use borrow.Author.Tests.{eqb-true, eq-eqb, ltb-true, le-leb, leb-true}
+use Prim.Native.Nat.{ℕ, _≤_, _<_}
+use borrow.Author.Tests.{eqb-true, eq-eqb, ltb-true, le-leb, leb-true, not-false}
 use lib.Dec.{eqb, ltb, leb}
-use lib.ListN.{length, getD, drop, length-drop, take}
+use lib.ListN.{length, getD, drop, length-drop, take, length-append}
+use lib.Seq.{take-append-seam, drop-append-seam}
 use mathlib.Core.Bool.{Bool, true, false, cond, false≢true, not}
 use mathlib.Core.List.{List, [], _∷_, _++_, List·Memᴰ·head, List·Memᴰ·tail, List·Memᴰ·not-nil, map, List·Memᴰ·cases-cons}
 use mathlib.Core.Logic.{_⊎_, inl, inr}
@@ -45,21 +46,13 @@ then-out (accepted a) f h = (a, refl, h)
 
 -- ---- lists
 
-take-front : (s t : List ℕ) → take (length s) (s ++ t) ≡ s
-take-front [] t = refl
-take-front (x ∷ xs) t = ap (λ (l : List ℕ). x ∷ l) (take-front xs t)
-
-drop-front : (s t : List ℕ) → drop (length s) (s ++ t) ≡ t
-drop-front [] t = refl
-drop-front (x ∷ xs) t = drop-front xs t
-
-length-append : (s t : List ℕ) → length (s ++ t) ≡ length s + length t
-length-append [] t = omega arith
-length-append (x ∷ xs) t = let e = length-append xs t in omega arith
-
-first-none : {A : Type 0} (f : A → Bool) (l : List A) → ((x : A) → x isIn l → f x ≡ false) → first f l ≡ none
+pub first-none : {A : Type 0} (f : A → Bool) (l : List A) → ((x : A) → x isIn l → f x ≡ false) → first f l ≡ none
 first-none f [] h = refl
 first-none f (x ∷ xs) h = rw (h x (List·Memᴰ·head refl)) (first-none f xs (λ y m. h y (List·Memᴰ·tail m)))
+
+pub first-ext : {T : Type 0} (f g : T → Bool) (l : List T) → ((x : T) → x isIn l → f x ≡ g x) → first f l ≡ first g l
+first-ext f g [] h = refl
+first-ext f g (x ∷ xs) h = rw (h x (List·Memᴰ·head refl), first-ext f g xs (λ y m. h y (List·Memᴰ·tail m))) refl
 
 -- ---- the mining call
 
@@ -121,7 +114,7 @@ module _ (W : ℕ) where
       rw (t .2, o) (record {
         as-long = let a = length-append bytes (drop (length bytes) former) in let b = length-drop (length bytes) former in omega arith;
         inside = room;
-        kept = drop-front bytes (drop (length bytes) former);
+        kept = drop-append-seam bytes (drop (length bytes) former);
       })
 
   -- the amount of scratch changes nothing, once it is enough
@@ -146,7 +139,7 @@ module _ (W : ℕ) where
       go : (F : Policy) (c : Counts) → mayMine W file scratch (length former) ≡ accepted F → c ≡ minedCounts W F → take (c .size) (mineOutput W file scratch former) ≡ take (c .size) (mineOutput W file scratch other)
       go F c m k =
           let front : (l : List ℕ) → mayMine W file scratch (length l) ≡ accepted F → take (length (minedBytes W F)) (mineOutput W file scratch l) ≡ minedBytes W F =
-          λ l n. ap (take (length (minedBytes W F))) (output-of file scratch l F n) ∙ take-front (minedBytes W F) (drop (length (minedBytes W F)) l) in
+          λ l n. ap (take (length (minedBytes W F))) (output-of file scratch l F n) ∙ take-append-seam (minedBytes W F) (drop (length (minedBytes W F)) l) in
           rw k (front former m ∙ sym (front other (rw e at m)))
 
   -- the demand, of the policy of any accepted role file
@@ -164,7 +157,7 @@ module _ (W : ℕ) where
       go : (F : Policy) (c : Counts) → mayMine W file scratch (length former) ≡ accepted F → c ≡ minedCounts W F → (F : Policy) × (readRoles W file ≡ accepted F) × Demand3 W (settingOf F) (rolesIn F) (take (c .size) (mineOutput W file scratch former)) c
       go F c m k =
           let r = mined-out file scratch (length former) F m .reading in
-          let e : take (length (minedBytes W F)) (mineOutput W file scratch former) ≡ minedBytes W F = ap (take (length (minedBytes W F))) (output-of file scratch former F m) ∙ take-front (minedBytes W F) (drop (length (minedBytes W F)) former) in
+          let e : take (length (minedBytes W F)) (mineOutput W file scratch former) ≡ minedBytes W F = ap (take (length (minedBytes W F))) (output-of file scratch former F m) ∙ take-append-seam (minedBytes W F) (drop (length (minedBytes W F)) former) in
           (F, r, rw (k, e) (policy-demand file b F r))
 
 -- ---- the questions and the judge, of mined bytes
@@ -189,15 +182,11 @@ first-none-out f (y ∷ ys) h x m = go (f y) refl h (List·Memᴰ·cases-cons m)
     go false e q (inl d) r = rw d e
     go false e q (inr n) r = r q x n
 
-triple-in : (P : Setting) (u r o : ℕ) → Triple P u r o → (u, r, o) isIn triples P
+pub triple-in : (P : Setting) (u r o : ℕ) → Triple P u r o → (u, r, o) isIn triples P
 unfolding triples
 triple-in P u r o t =
     each-in (λ u. each (λ r. map (λ o. (u, r, o)) (upTo (P .slots))) (upTo (P .side resource .count))) (upTo-in (t .user))
     (each-in (λ r. map (λ o. (u, r, o)) (upTo (P .slots))) (upTo-in (t .resource)) (map-in (λ o. (u, r, o)) (upTo-in (t .op))))
-
-not-false : (b : Bool) → not b ≡ false → Is b
-not-false true h = refl
-not-false false h = sym h
 
 -- what the judge's 0 says
 pub record Judged (P : Setting) (R : Roles) (rules : List Lines) : Type 0 where

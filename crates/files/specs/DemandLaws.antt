@@ -1,8 +1,7 @@
 -- The proof of the third demand: the theory of rules and groups, carried over to the bytes.
 -- Assumes nothing.
 use Prim.Native.Nat.{ℕ, zero, suc, _+_, _<_}
-use lib.ListN.{length, getD}
-use mathlib.Core.Bool.{Bool, _||_}
+use lib.ListN.{length, getD, length-map}
 use mathlib.Core.List.{List, [], _∷_, List·Memᴰ·head, List·Memᴰ·tail, map}
 use mathlib.Core.Path.{_≡_, refl, sym, ap, ap₂, _∙_, subst}
 use native.Mathlib.Omega.{arith}
@@ -12,35 +11,28 @@ use Rattle.files.specs.Demand3.{Demand3}
 use Rattle.files.specs.LineLaws.{Sayable, rule-back}
 use Rattle.files.specs.ReadBackLaws.{Writable, read-back}
 use Rattle.files.specs.RuleFile.{Lines, ruleIn, listings, linesOf, encodeAll, readRules}
-use Rattle.files.specs.WriteLaws.{parts-back, listings-times, Encodable, writable}
+use Rattle.files.specs.WriteLaws.{parts-back, listings-times, Encodable, writable, attr-numbered}
 use Rattle.policy.specs.Covering.{cover, levelOf}
 use Rattle.policy.specs.MergeLaws.{Every}
 use Rattle.policy.specs.Merging.{union}
 use Rattle.policy.specs.Mined.{partCount, partBlock, minedGroups, mergeCount, groupBlock, ruleOf}
 use Rattle.policy.specs.MinedLaws.{MinedRules}
-use Rattle.policy.specs.OrderLaws.{Numbered, written-asc, written-values}
+use Rattle.policy.specs.OrderLaws.{written-asc, written-values}
 use Rattle.policy.specs.Roles.{Roles, parts, rolesGrant}
 use Rattle.policy.specs.RuleLaws.{Lawful}
-use Rattle.policy.specs.Rules.{Which, Setting, Rule, grants, at, ruleLevel, wellFormed, ofSection, Triple, Same, struck}
+use Rattle.policy.specs.Rules.{Setting, Rule, grants, at, ruleLevel, wellFormed, ofSection, Triple, Same, struck}
 use Rattle.policy.specs.Thinning.{thinned, ruleCost}
 use Rattle.policy.specs.WrittenLaws.{written-had, written-ops-lt, written-ops-some, written-allowed, written-formed, written-of-section}
+use Rattle.sets.specs.ListLaws.{any-map}
 use Rattle.sets.specs.Lowest.{lowest}
 use Rattle.sets.specs.Sets.{size}
-use Rattle.sets.specs.Tests.{Is, _isIn_, all, any, sum}
+use Rattle.sets.specs.Tests.{Is, _isIn_, all, sum}
 use Rattle.sets.specs.TestLaws.{and-l, same, any-out, map-out, getD-in, any-ext}
-
-length-map : {A B : Type 0} (f : A → B) (l : List A) → length (map f l) ≡ length l
-length-map f [] = refl
-length-map f (x ∷ xs) = ap suc (length-map f xs)
 
 getD-map : {A B : Type 0} (f : A → B) (l : List A) (d : A) (e : B) (i : ℕ) → i < length l → getD (map f l) i e ≡ f (getD l i d)
 getD-map f [] d e i h = absurd (omega arith)
 getD-map f (x ∷ xs) d e zero h = refl
 getD-map f (x ∷ xs) d e (suc i) h = getD-map f xs d e i (omega arith)
-
-any-map : {A B : Type 0} (f : A → B) (g : B → Bool) (l : List A) → any g (map f l) ≡ any (λ x. g (f x)) l
-any-map f g [] = refl
-any-map f g (x ∷ xs) = ap (λ (b : Bool). g (f x) || b) (any-map f g xs)
 
 sum-map-same : {A B : Type 0} (f : A → B) (h : B → ℕ) (k : A → ℕ) (l : List A) → ((x : A) → x isIn l → h (f x) ≡ k x) → sum h (map f l) ≡ sum k l
 sum-map-same f h k [] e = refl
@@ -51,14 +43,11 @@ unfolding ofSection
 section-at P ρ h = and-l (at P 3 ρ) (all (wellFormed P) (ρ .conds)) h
 
 module _ (W : ℕ) (P : Setting) (R : Roles) (L : Lawful P) (M : MinedRules P R) (E : Encodable W P R) where
-  numbered-sides : (w : Which) → Numbered (P .side w)
-  numbered-sides w = let h = E .numbered w in omega arith
-
   -- what a writer asks holds of every group's rule
   sayable : (g : List ℕ) → g isIn minedGroups P R → Sayable P R (ruleOf P R g) g
   unfolding ruleOf groupBlock union
   sayable g m = record {
-    ascending = written-asc P numbered-sides (groupBlock P R g);
+    ascending = written-asc P (attr-numbered W P R E) (groupBlock P R g);
     ordinary = written-values P (groupBlock P R g);
     had = written-had P (groupBlock P R g);
     permitted = written-allowed P L (groupBlock P R g) (M .fitting g m);
@@ -77,7 +66,7 @@ module _ (W : ℕ) (P : Setting) (R : Roles) (L : Lawful P) (M : MinedRules P R)
 
   -- a group's lines say its rule, and its parts
   says-rule : (g : List ℕ) → g isIn minedGroups P R → ruleIn P (linesOf P R (ruleOf P R g) g) ≡ ruleOf P R g
-  says-rule g m = rule-back P R (ruleOf P R g) g (sayable g m) numbered-sides
+  says-rule g m = rule-back P R (ruleOf P R g) g (sayable g m) (attr-numbered W P R E)
 
   says-parts : (g : List ℕ) → g isIn minedGroups P R → partsGrant P R (linesOf P R (ruleOf P R g) g) ≡ groupBlock P R g
   says-parts g m = parts-back P R (ruleOf P R g) g (M .members g m)
@@ -89,7 +78,7 @@ module _ (W : ℕ) (P : Setting) (R : Roles) (L : Lawful P) (M : MinedRules P R)
 
   mined-count : length (minedLines P R) ≡ length (minedGroups P R)
   unfolding minedLines
-  mined-count = length-map (λ g. linesOf P R (ruleOf P R g) g) (minedGroups P R)
+  mined-count = length-map (minedGroups P R) (λ g. linesOf P R (ruleOf P R g) g)
 
   -- the rule of line list number i
   rule-at : (i : ℕ) → i < length (minedGroups P R) → ruleIn P (getD (minedLines P R) i []) ≡ ruleOf P R (getD (minedGroups P R) i [])

@@ -1,6 +1,6 @@
 -- A rule's lines say the rule and its parts again.
 -- Assumes nothing.
-use Prim.Native.Nat.{ℕ, _+_, _*_, _^_, _≤_, _<_}
+use Prim.Native.Nat.{ℕ, _+_, _*_, _^_, _<_}
 use borrow.Author.Tests.{eqb-true, eq-eqb, ltb-true}
 use lib.Dec.{eqb, ltb}
 use lib.ListN.{length, set}
@@ -14,9 +14,9 @@ use Rattle.files.specs.RoleFile.{sameSide}
 use Rattle.files.specs.RuleFile.{RuleCommand, valueByte, precedes, isOperations, isPartLine, Lines, listed, linkOf, ifOperations, operationsIn, namesPart, valuesIn, conjunctsIn, ruleIn, condLines, allLines, linesOf, opens, value, operations, link, part, ends}
 use Rattle.policy.specs.MergeLaws.{Every}
 use Rattle.policy.specs.Mined.{partCount, partAt}
-use Rattle.policy.specs.OrderLaws.{key, Numbered, attrs-rising, attrs-below, Ordinary}
+use Rattle.policy.specs.OrderLaws.{key, Numbered, attrs-rising, attrs-below, Ordinary, side-base}
 use Rattle.policy.specs.Roles.{Roles, classOf}
-use Rattle.policy.specs.Rules.{Which, by, Setting, Cond, Rule, attrsOf, ownAt, allowed, at, wellFormed, user, resource, conjunct, atom}
+use Rattle.policy.specs.Rules.{Which, Setting, Cond, Rule, attrsOf, ownAt, allowed, at, wellFormed, user, resource, conjunct, atom}
 use Rattle.policy.specs.WrittenLaws.{AllHad}
 use Rattle.sets.specs.Sorted.{Rising, Ascending, none-left, and-then}
 use Rattle.sets.specs.SortedLaws.{Before, sort-in, sort-out, sort-rising, rising-ext, append-rising, each-rising, only-rising, numbers, asc-unique}
@@ -95,7 +95,7 @@ is-operations ends h = absurd (false≢true h)
 abbrev pub operationsOr : RuleCommand → ℕ → ℕ
 operationsOr c n = ifOperations (λ m. m) n c
 
-other-line : (c : RuleCommand) (n : ℕ) → isOperations c ≡ false → operationsOr c n ≡ n
+pub other-line : (c : RuleCommand) (n : ℕ) → isOperations c ≡ false → operationsOr c n ≡ n
 other-line opens n h = refl
 other-line (value w set a v) n h = refl
 other-line (operations m) n h = absurd (false≢true (sym h))
@@ -358,10 +358,6 @@ module _ (P : Setting) (R : Roles) where
             omega arith)
             links-asc λ x y mx my. last x y (List·Memᴰ·append-cases (conjunctsIn P (linesOf P R ρ g) user) mx) my
           where
-            base : (w : Which) → by w 0 256 ≤ 256
-            base user = omega arith
-            base resource = omega arith
-
             before-links : (w : Which) (x y : Cond) → x isIn conjunctsIn P (linesOf P R ρ g) w → y isIn each linkOf (linesOf P R ρ g) → key x < key y
             before-links w x y m k =
                 let s = conjuncts-in-out w m in
@@ -369,7 +365,7 @@ module _ (P : Setting) (R : Roles) where
                 let n = attrs-below (P .side w) (N w) true (s .2) in
                 let p = ap key (s .3) in
                 let q = ap key (t .2) in
-                let b = base w in
+                let b = side-base w in
                 omega arith
 
             last : (x y : Cond) → (x isIn conjunctsIn P (linesOf P R ρ g) user) ⊎ (x isIn conjunctsIn P (linesOf P R ρ g) resource) → y isIn each linkOf (linesOf P R ρ g) → key x < key y

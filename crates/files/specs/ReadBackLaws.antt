@@ -64,8 +64,8 @@ module _ (W : ℕ) where
   widths-of ends = refl
 
   -- a command's operands have room in their widths
-  abbrev pub Roomy : RuleCommand → Type 0
-  Roomy c = Fit (widthsOr (ruleWidths W (byteOf c))) (operandsOf c)
+  abbrev pub FitsWidths : RuleCommand → Type 0
+  FitsWidths c = Fit (widthsOr (ruleWidths W (byteOf c))) (operandsOf c)
 
   module _ (P : Setting) (R : Roles) where
     inner-ends : (c : RuleCommand) → Is (inner c) → endsFile c ≡ false
@@ -89,7 +89,7 @@ module _ (W : ℕ) where
     pub record Good (c : RuleCommand) : Type 0 where
       pub within : Is (inner c)
       pub legally : Is (legal P R c)
-      pub room : Roomy c
+      pub room : FitsWidths c
 
     -- the lines of a rule that may be written
     pub record Writable (ls : Lines) : Type 0 where

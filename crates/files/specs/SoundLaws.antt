@@ -1,9 +1,9 @@
 -- What holds of every role file that is accepted: its sizes, its values and all it says lie within the limits.
 -- Assumes nothing.
-use Prim.Native.Nat.{ℕ, zero, suc, _*_, _^_, _≤_, _<_}
+use Prim.Native.Nat.{ℕ, suc, _*_, _^_, _≤_, _<_}
 use borrow.Author.Tests.{eqb-true, ltb-true, lt-ltb, leb-true}
 use lib.Dec.{eqb, ltb, leb}
-use lib.ListN.{length, getD, set}
+use lib.ListN.{length, getD, set, List·getD-append}
 use mathlib.Core.Bool.{Bool, true, false, cond, _&&_, false≢true, not}
 use mathlib.Core.List.{List, [], _∷_, _++_}
 use mathlib.Core.Logic.{_⊎_, inl, inr}
@@ -21,10 +21,11 @@ use Rattle.files.specs.WriteLaws.{Encodable}
 use Rattle.policy.specs.Policy.{Table, Policy, kindOf, circular, held, rolesOf, isSetAt, valueAt, sideOf, settingOf, rolesIn}
 use Rattle.policy.specs.PolicyLaws.{owned}
 use Rattle.policy.specs.Rules.{own, Which, by, user, resource}
+use Rattle.sets.specs.ListLaws.{length-last}
 use Rattle.sets.specs.MaskLaws.{mask-lt}
 use Rattle.sets.specs.Sets.{maskOf}
 use Rattle.sets.specs.Tests.{Is, iff, isSome}
-use Rattle.sets.specs.TestLaws.{and-l, and-r, or-out, test, iff-out}
+use Rattle.sets.specs.TestLaws.{and-l, and-r, or-out, test, iff-out, and-three}
 
 -- one side's table
 pub record SoundTable (t : Table) : Type 0 where
@@ -82,26 +83,17 @@ table-sound W F s t S T e = record {
     sizes-same : (w : Which) → cond (sameSide w s) t (F .table w) .count ≡ F .table w .count
     sizes-same w = test (sameSide w s) (λ h. rw h (e ∙ ap (λ (x : Which). F .table x .count) (sym (same-side w s h)))) (λ h. rw h refl)
 
-getD-append : (l : List Bool) (k : Bool) (a : ℕ) → a < length l → getD (l ++ (k ∷ [])) a false ≡ getD l a false
-getD-append [] k a h = absurd (omega arith)
-getD-append (x ∷ xs) k zero h = refl
-getD-append (x ∷ xs) k (suc a) h = getD-append xs k a (omega arith)
-
-length-snoc : (l : List Bool) (k : Bool) → length (l ++ (k ∷ [])) ≡ suc (length l)
-length-snoc [] k = refl
-length-snoc (x ∷ xs) k = ap suc (length-snoc xs k)
-
 kind-sound : (W : ℕ) (F : Policy) (s : Which) (k : Bool) → Sound W F → length (F .table s .kinds) < 6 → Sound W (withKind F s k)
 unfolding withKind
 kind-sound W F s k S h =
     table-sound W F s (record { count = F .table s .count; kinds = F .table s .kinds ++ (k ∷ []); value = F .table s .value }) S
     (record {
       many = S .tables s .many;
-      declared = let e = length-snoc (F .table s .kinds) k in omega arith;
+      declared = let e = length-last (F .table s .kinds) k in omega arith;
       values = λ a x v e.
           let p = S .tables s .values a x v e in
-          let q = length-snoc (F .table s .kinds) k in
-          (omega (arith, p .0), rw (getD-append (F .table s .kinds) k a (p .0)) (p .1));
+          let q = length-last (F .table s .kinds) k in
+          (omega (arith, p .0), rw (List·getD-append (F .table s .kinds) (k ∷ []) false a (p .0)) (p .1));
     })
     refl
 
@@ -177,9 +169,6 @@ line-sound W F j k S hj hk = record {
     go i s (inr h) = S .lines i s h
 
 -- ---- reading
-
-and-three : (a b c : Bool) → Is (a && b && c) → Is a × Is b × Is c
-and-three a b c h = let p = and-l (a && b) c h in (and-l a b p, and-r a b p, and-r (a && b) c h)
 
 -- a value that was read has room in its width
 abbrev Told : RoleCommand → Type 0

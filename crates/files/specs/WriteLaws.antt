@@ -14,7 +14,7 @@ use native.Mathlib.Nat.{pow-suc, mul-suc, pow-le-pow-right}
 use native.Mathlib.Omega.{arith}
 use Rattle.files.specs.Calls.{partsGrant}
 use Rattle.files.specs.LineLaws.{names-out, names-in, own-3, Sayable, partLine, LineOf, line-out, line-in, lines-rising, operations-line, part-line, of-value, of-link, of-operations, of-part}
-use Rattle.files.specs.ReadBackLaws.{lines-strict, Roomy, Good, Writable}
+use Rattle.files.specs.ReadBackLaws.{lines-strict, FitsWidths, Good, Writable}
 use Rattle.files.specs.RuleFile.{RuleCommand, isOperations, isPartLine, lists, partsIn, listings, linesOf, whole, ownValue, legal, value}
 use Rattle.policy.specs.ClassLaws.{part-in, class-number, class-lt}
 use Rattle.policy.specs.GroupLaws.{times, times-in, times-out, union-same, rule}
@@ -129,13 +129,13 @@ mask-room W n m h l = let p = pow-le-pow-right {n = 2} (omega arith) h in let e 
         eight n = pow-add 2 n 8
 
 module _ (W : ℕ) (P : Setting) (R : Roles) (E : Encodable W P R) where
-  value-room : (w : Which) (set : Bool) (a v : ℕ) → a < 256 → v < 256 ^ cond set 8 2 → Roomy W (value w set a v)
+  value-room : (w : Which) (set : Bool) (a v : ℕ) → a < 256 → v < 256 ^ cond set 8 2 → FitsWidths W (value w set a v)
   value-room user false a v h k = (h, (k, tt))
   value-room user true a v h k = (h, (k, tt))
   value-room resource false a v h k = (h, (k, tt))
   value-room resource true a v h k = (h, (k, tt))
 
-  attr-numbered : (w : Which) → Numbered (P .side w)
+  pub attr-numbered : (w : Which) → Numbered (P .side w)
   attr-numbered w = let h = E .numbered w in omega arith
 
   value-legal : (w : Which) (a x v : ℕ) → a isIn attrsOf (P .side w) true → x < P .side w .count → P .side w .value a x ≡ some v → Is (legal P R (value w (P .side w .isSet a) a v))

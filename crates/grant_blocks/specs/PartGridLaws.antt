@@ -1,14 +1,16 @@
 -- Joining blocks and grids: how loops do it, and that a grid kept so while lines are read is the grid of what the parts listed grant.
 -- Assumes nothing.
-use Prim.Native.Nat.{ℕ, _+_, _*_, _/_, _%_, _<_}
+use Prim.Native.Nat.{ℕ, _+_, _<_}
 use borrow.Author.Tests.{eqb-true, eqb-false, eq-eqb, ne-eqb, ltb-true, lt-ltb, le-ltb}
 use lib.Dec.{eqb, ltb}
 use lib.ListN.{length, getD, set}
-use mathlib.Core.Bool.{Bool, true, false, cond, _&&_, _||_, false≢true, and-false, and-assoc}
+use mathlib.Core.Bool.{Bool, true, false, cond, _&&_, _||_, false≢true, and-false, and-assoc, and-true, or-false}
 use mathlib.Core.List.{List, [], _∷_, _++_}
 use mathlib.Core.Path.{_≡_, refl, sym, ap, ap₂, _∙_}
 use native.Mathlib.Nat.{zero-add}
 use native.Mathlib.Omega.{arith}
+use Rattle.role_record.specs.Cells.{rowCells, cellAt, cellRow, cellOperation, roleCells, userCells}
+use Rattle.role_record.specs.CellsLaws.{cell-row, cell-operation, cell-parts}
 use Rattle.role_record.specs.Record.{Sized, tableOf, permissionTable, recordWith, recordOf}
 use Rattle.files.specs.Calls.{partsGrant}
 use Rattle.files.specs.RuleFile.{RuleCommand, Lines, isPartLine, lists, partsIn, legal, opens, value, operations, link, part, ends}
@@ -23,23 +25,16 @@ use Rattle.policy.specs.PartLaws.{alike-out, parts-out}
 use Rattle.policy.specs.Policy.{Policy, held, sideOf, settingOf, rolesIn}
 use Rattle.policy.specs.Roles.{Roles, Part, alike, parts, blockOf, classOf}
 use Rattle.policy.specs.Rules.{Setting, Block}
+use Rattle.sets.specs.ListLaws.{any-last}
 use Rattle.sets.specs.LoopLaws.{table-unique}
-use Rattle.sets.specs.MaskLaws.{and-true, or-false, mask-same}
+use Rattle.sets.specs.MaskLaws.{mask-same}
 use Rattle.sets.specs.Sets.{bit, maskOf}
 use Rattle.sets.specs.SetLaws.{bit-mask}
 use Rattle.sets.specs.Tests.{Is, any, keep, upTo}
-use Rattle.sets.specs.TestLaws.{and-in, and-l, and-r, test, same, any-in, any-out, any-places, any-ext}
+use Rattle.sets.specs.TestLaws.{and-in, and-l, and-r, test, same, any-in, any-out, any-places, any-ext, below-next}
 use Rattle.grant_blocks.specs.PartGrid.{joinedWord, addedWord, addedWhere, addedColumn, addedPart, joinedGrid}
 
 -- ---- what one more line adds
-
-any-append {ℓ} : {A : Type ℓ} (f : A → Bool) (l : List A) (x : A) → any f (l ++ (x ∷ [])) ≡ (any f l || f x)
-any-append f [] x = or-false (f x)
-any-append f (y ∷ l) x = ap (λ (b : Bool). f y || b) (any-append f l x) ∙ joined (f y) (any f l) (f x)
-  where
-    joined : (a b c : Bool) → (a || (b || c)) ≡ ((a || b) || c)
-    joined true b c = refl
-    joined false b c = refl
 
 any-keep {ℓ} : {A : Type ℓ} (f g : A → Bool) (l : List A) → any f (keep g l) ≡ any (λ x. g x && f x) l
 any-keep f g [] = refl
@@ -76,7 +71,7 @@ module _ (P : Setting) (R : Roles) where
   line-adds ls c u r o =
       any-keep (λ p. partBlock P R p u r o) (λ p. any (lists P R p) (ls ++ (c ∷ []))) (upTo (partCount P R))
       ∙ any-ext (λ p. any (lists P R p) (ls ++ (c ∷ [])) && partBlock P R p u r o) (λ p. (any (lists P R p) ls || lists P R p c) && partBlock P R p u r o) (upTo (partCount P R))
-      (λ p m. ap (λ (b : Bool). b && partBlock P R p u r o) (any-append (lists P R p) ls c))
+      (λ p m. ap (λ (b : Bool). b && partBlock P R p u r o) (any-last (lists P R p) ls c))
       ∙ any-either (λ p. any (lists P R p) ls) (λ p. lists P R p c) (λ p. partBlock P R p u r o) (upTo (partCount P R))
       ∙ ap (λ (b : Bool). b || lineGrants c u r o) (sym (any-keep (λ p. partBlock P R p u r o) (λ p. any (lists P R p) ls) (upTo (partCount P R))))
 
@@ -116,36 +111,33 @@ module _ (P : Setting) (R : Roles) where
 module _ (permissions : List ℕ) (role : ℕ) where
   -- what becomes of word i
   abbrev joinedAt : ℕ → ℕ → ℕ
-  joinedAt i old = joinedWord old (getD permissions (16 * role + i % 16) 0)
+  joinedAt i old = joinedWord old (getD permissions (cellAt role (cellOperation i)) 0)
 
   -- no word passes
-  where-none : (f : ℕ → Bool) (grid : List ℕ) → length grid ≡ 1024 → ((i : ℕ) → i < 1024 → f i ≡ false) → grid ≡ addedWhere f permissions role grid
+  where-none : (f : ℕ → Bool) (grid : List ℕ) → length grid ≡ userCells → ((i : ℕ) → i < userCells → f i ≡ false) → grid ≡ addedWhere f permissions role grid
   unfolding addedWhere addedWord updated
-  where-none f grid e h = updated-none 1024 joinedAt f grid e h
+  where-none f grid e h = updated-none userCells joinedAt f grid e h
 
-  where-same : (f g : ℕ → Bool) (grid : List ℕ) → ((i : ℕ) → i < 1024 → f i ≡ g i) → addedWhere f permissions role grid ≡ addedWhere g permissions role grid
+  where-same : (f g : ℕ → Bool) (grid : List ℕ) → ((i : ℕ) → i < userCells → f i ≡ g i) → addedWhere f permissions role grid ≡ addedWhere g permissions role grid
   unfolding addedWhere addedWord updated
-  where-same f g grid h = updated-same 1024 joinedAt f g grid h
+  where-same f g grid h = updated-same userCells joinedAt f g grid h
 
   -- one word more is joined
-  where-next : (f g : ℕ → Bool) (grid : List ℕ) (i v : ℕ) → i < 1024 → f i ≡ false → g i ≡ true → ((j : ℕ) → j < 1024 → (j ≡ i → ⊥) → f j ≡ g j)
-      → v ≡ joinedWord (getD (addedWhere f permissions role grid) i 0) (getD permissions (16 * role + i % 16) 0)
+  where-next : (f g : ℕ → Bool) (grid : List ℕ) (i v : ℕ) → i < userCells → f i ≡ false → g i ≡ true → ((j : ℕ) → j < userCells → (j ≡ i → ⊥) → f j ≡ g j)
+      → v ≡ joinedWord (getD (addedWhere f permissions role grid) i 0) (getD permissions (cellAt role (cellOperation i)) 0)
       → set (addedWhere f permissions role grid) i v ≡ addedWhere g permissions role grid
   unfolding addedWhere addedWord updated
-  where-next f g grid i v l p q h e = updated-next 1024 joinedAt f g grid i v l p q h e
+  where-next f g grid i v l p q h e = updated-next userCells joinedAt f g grid i v l p q h e
 
   -- other words than before are joined
-  where-twice : (f g h : ℕ → Bool) (grid : List ℕ) → ((i : ℕ) → i < 1024 → g i ≡ true → f i ≡ false) → ((i : ℕ) → i < 1024 → (g i || f i) ≡ h i)
+  where-twice : (f g h : ℕ → Bool) (grid : List ℕ) → ((i : ℕ) → i < userCells → g i ≡ true → f i ≡ false) → ((i : ℕ) → i < userCells → (g i || f i) ≡ h i)
       → addedWhere f permissions role (addedWhere g permissions role grid) ≡ addedWhere h permissions role grid
   unfolding addedWhere addedWord updated
-  where-twice f g h grid apart either = updated-twice 1024 joinedAt f g h grid apart either
+  where-twice f g h grid apart either = updated-twice userCells joinedAt f g h grid apart either
 
 -- a test of the numbers below a bound: none, one more, all
 below-zero : (b : Bool) (x : ℕ) → (b && ltb x 0) ≡ false
 below-zero b x = ap (λ (c : Bool). b && c) (le-ltb x 0 (omega arith)) ∙ and-false b
-
-below-next : (x n : ℕ) → (x ≡ n → ⊥) → ltb x n ≡ ltb x (n + 1)
-below-next x n d = same (ltb x n) (ltb x (n + 1)) (λ h. let k = ltb-true x n h in lt-ltb x (n + 1) (omega arith)) (λ h. let k = ltb-true x (n + 1) h in lt-ltb x n (omega arith))
 
 below-all : (b : Bool) (x n : ℕ) → x < n → (b && ltb x n) ≡ b
 below-all b x n l = ap (λ (c : Bool). b && c) (lt-ltb x n l) ∙ and-true b
@@ -153,77 +145,71 @@ below-all b x n l = ap (λ (c : Bool). b && c) (lt-ltb x n l) ∙ and-true b
 module _ (permissions : List ℕ) (role holding : ℕ) (grid : List ℕ) where
   -- one operation's column so far: for the users below n
   unfoldable pub columnSoFar : ℕ → ℕ → List ℕ
-  columnSoFar o n = addedWhere (λ i. (bit holding (i / 16) && eqb (i % 16) o) && ltb (i / 16) n) permissions role grid
+  columnSoFar o n = addedWhere (λ i. (bit holding (cellRow i) && eqb (cellOperation i) o) && ltb (cellRow i) n) permissions role grid
 
-  pub column-none : (o : ℕ) → length grid ≡ 1024 → grid ≡ columnSoFar o 0
+  pub column-none : (o : ℕ) → length grid ≡ userCells → grid ≡ columnSoFar o 0
   unfolding columnSoFar
-  column-none o e = where-none permissions role (λ i. (bit holding (i / 16) && eqb (i % 16) o) && ltb (i / 16) 0) grid e (λ i l. below-zero (bit holding (i / 16) && eqb (i % 16) o) (i / 16))
+  column-none o e = where-none permissions role (λ i. (bit holding (cellRow i) && eqb (cellOperation i) o) && ltb (cellRow i) 0) grid e (λ i l. below-zero (bit holding (cellRow i) && eqb (cellOperation i) o) (cellRow i))
 
   -- a user who holds the role
-  pub column-in : (o n : ℕ) (out : List ℕ) (v : ℕ) → o < 16 → n < 64 → out ≡ columnSoFar o n → bit holding n ≡ true
-      → v ≡ maskOf 64 (λ k. bit (getD out (16 * n + o) 0) k || bit (getD permissions (16 * role + o) 0) k) → set out (16 * n + o) v ≡ columnSoFar o (n + 1)
+  pub column-in : (o n : ℕ) (out : List ℕ) (v : ℕ) → o < rowCells → n < 64 → out ≡ columnSoFar o n → bit holding n ≡ true
+      → v ≡ maskOf 64 (λ k. bit (getD out (cellAt n o) 0) k || bit (getD permissions (cellAt role o) 0) k) → set out (cellAt n o) v ≡ columnSoFar o (n + 1)
   unfolding columnSoFar joinedWord
   column-in o n out v ho hn e h q =
-      ap (λ (l : List ℕ). set l (16 * n + o) v) e
-      ∙ where-next permissions role (λ i. (bit holding (i / 16) && eqb (i % 16) o) && ltb (i / 16) n) (λ i. (bit holding (i / 16) && eqb (i % 16) o) && ltb (i / 16) (n + 1)) grid (16 * n + o) v (omega arith)
-      (ap (λ (c : Bool). (bit holding ((16 * n + o) / 16) && eqb ((16 * n + o) % 16) o) && c) (le-ltb ((16 * n + o) / 16) n (omega arith)) ∙ and-false (bit holding ((16 * n + o) / 16) && eqb ((16 * n + o) % 16) o))
-      (and-in (and-in (ap (bit holding) whole ∙ h) (eq-eqb ((16 * n + o) % 16) o rest)) (lt-ltb ((16 * n + o) / 16) (n + 1) (omega arith)))
+      ap (λ (l : List ℕ). set l (cellAt n o) v) e
+      ∙ where-next permissions role (λ i. (bit holding (cellRow i) && eqb (cellOperation i) o) && ltb (cellRow i) n) (λ i. (bit holding (cellRow i) && eqb (cellOperation i) o) && ltb (cellRow i) (n + 1)) grid (cellAt n o) v (omega arith)
+      (ap (λ (c : Bool). (bit holding (cellRow (cellAt n o)) && eqb (cellOperation (cellAt n o)) o) && c) (le-ltb (cellRow (cellAt n o)) n (omega arith)) ∙ and-false (bit holding (cellRow (cellAt n o)) && eqb (cellOperation (cellAt n o)) o))
+      (and-in (and-in (ap (bit holding) (cell-row n o ho) ∙ h) (eq-eqb (cellOperation (cellAt n o)) o (cell-operation n o ho))) (lt-ltb (cellRow (cellAt n o)) (n + 1) (omega arith)))
       other
-      (q ∙ ap₂ (λ (l : List ℕ) (x : ℕ). maskOf 64 (λ k. bit (getD l (16 * n + o) 0) k || bit (getD permissions (16 * role + x) 0) k)) e (sym rest))
+      (q ∙ ap₂ (λ (l : List ℕ) (x : ℕ). maskOf 64 (λ k. bit (getD l (cellAt n o) 0) k || bit (getD permissions (cellAt role x) 0) k)) e (sym (cell-operation n o ho)))
     where
-      whole : (16 * n + o) / 16 ≡ n
-      whole = omega arith
-
-      rest : (16 * n + o) % 16 ≡ o
-      rest = omega arith
-
-      other : (j : ℕ) → j < 1024 → (j ≡ 16 * n + o → ⊥) → ((bit holding (j / 16) && eqb (j % 16) o) && ltb (j / 16) n) ≡ ((bit holding (j / 16) && eqb (j % 16) o) && ltb (j / 16) (n + 1))
+      other : (j : ℕ) → j < userCells → (j ≡ cellAt n o → ⊥) → ((bit holding (cellRow j) && eqb (cellOperation j) o) && ltb (cellRow j) n) ≡ ((bit holding (cellRow j) && eqb (cellOperation j) o) && ltb (cellRow j) (n + 1))
       other j l d =
-          test (eqb (j % 16) o)
-          (λ t. let k = eqb-true (j % 16) o t in ap (λ (c : Bool). (bit holding (j / 16) && eqb (j % 16) o) && c) (below-next (j / 16) n (λ z. d (omega arith))))
-          (λ t. let none : (bit holding (j / 16) && eqb (j % 16) o) ≡ false = ap (λ (c : Bool). bit holding (j / 16) && c) t ∙ and-false (bit holding (j / 16)) in rw none refl)
+          test (eqb (cellOperation j) o)
+          (λ t. let k = eqb-true (cellOperation j) o t in ap (λ (c : Bool). (bit holding (cellRow j) && eqb (cellOperation j) o) && c) (below-next (cellRow j) n (λ z. d (omega arith))))
+          (λ t. let none : (bit holding (cellRow j) && eqb (cellOperation j) o) ≡ false = ap (λ (c : Bool). bit holding (cellRow j) && c) t ∙ and-false (bit holding (cellRow j)) in rw none refl)
 
   -- a user who does not
   pub column-out : (o n : ℕ) (out after : List ℕ) → out ≡ columnSoFar o n → bit holding n ≡ false → after ≡ out → after ≡ columnSoFar o (n + 1)
   unfolding columnSoFar
   column-out o n out after e h q =
-      q ∙ e ∙ where-same permissions role (λ i. (bit holding (i / 16) && eqb (i % 16) o) && ltb (i / 16) n) (λ i. (bit holding (i / 16) && eqb (i % 16) o) && ltb (i / 16) (n + 1)) grid at
+      q ∙ e ∙ where-same permissions role (λ i. (bit holding (cellRow i) && eqb (cellOperation i) o) && ltb (cellRow i) n) (λ i. (bit holding (cellRow i) && eqb (cellOperation i) o) && ltb (cellRow i) (n + 1)) grid at
     where
-      at : (j : ℕ) → j < 1024 → ((bit holding (j / 16) && eqb (j % 16) o) && ltb (j / 16) n) ≡ ((bit holding (j / 16) && eqb (j % 16) o) && ltb (j / 16) (n + 1))
+      at : (j : ℕ) → j < userCells → ((bit holding (cellRow j) && eqb (cellOperation j) o) && ltb (cellRow j) n) ≡ ((bit holding (cellRow j) && eqb (cellOperation j) o) && ltb (cellRow j) (n + 1))
       at j l =
-          test (eqb (j / 16) n)
-          (λ t. let none : bit holding (j / 16) ≡ false = ap (bit holding) (eqb-true (j / 16) n t) ∙ h in rw none refl)
-          (λ t. ap (λ (c : Bool). (bit holding (j / 16) && eqb (j % 16) o) && c) (below-next (j / 16) n (eqb-false (j / 16) n t)))
+          test (eqb (cellRow j) n)
+          (λ t. let none : bit holding (cellRow j) ≡ false = ap (bit holding) (eqb-true (cellRow j) n t) ∙ h in rw none refl)
+          (λ t. ap (λ (c : Bool). (bit holding (cellRow j) && eqb (cellOperation j) o) && c) (below-next (cellRow j) n (eqb-false (cellRow j) n t)))
 
   pub column-end : (o n : ℕ) (out : List ℕ) → out ≡ columnSoFar o n → n ≡ 64 → out ≡ addedColumn o permissions role holding grid
   unfolding columnSoFar addedColumn
   column-end o n out e q =
-      e ∙ where-same permissions role (λ i. (bit holding (i / 16) && eqb (i % 16) o) && ltb (i / 16) n) (λ i. bit holding (i / 16) && eqb (i % 16) o) grid
-      (λ i l. below-all (bit holding (i / 16) && eqb (i % 16) o) (i / 16) n (omega arith))
+      e ∙ where-same permissions role (λ i. (bit holding (cellRow i) && eqb (cellOperation i) o) && ltb (cellRow i) n) (λ i. bit holding (cellRow i) && eqb (cellOperation i) o) grid
+      (λ i l. below-all (bit holding (cellRow i) && eqb (cellOperation i) o) (cellRow i) n (omega arith))
 
-  pub column-so-long : (o n : ℕ) (out : List ℕ) → out ≡ columnSoFar o n → length out ≡ 1024
+  pub column-so-long : (o n : ℕ) (out : List ℕ) → out ≡ columnSoFar o n → length out ≡ userCells
   unfolding columnSoFar addedWhere
-  column-so-long o n out e = ap length e ∙ table-length 1024 (λ i. addedWord ((bit holding (i / 16) && eqb (i % 16) o) && ltb (i / 16) n) permissions role grid i)
+  column-so-long o n out e = ap length e ∙ table-length userCells (λ i. addedWord ((bit holding (cellRow i) && eqb (cellOperation i) o) && ltb (cellRow i) n) permissions role grid i)
 
   -- a part so far: at the operations below n
   unfoldable pub partSoFar : ℕ → ℕ → List ℕ
-  partSoFar class n = addedWhere (λ i. (bit holding (i / 16) && bit class (i % 16)) && ltb (i % 16) n) permissions role grid
+  partSoFar class n = addedWhere (λ i. (bit holding (cellRow i) && bit class (cellOperation i)) && ltb (cellOperation i) n) permissions role grid
 
-  pub part-none : (class : ℕ) → length grid ≡ 1024 → grid ≡ partSoFar class 0
+  pub part-none : (class : ℕ) → length grid ≡ userCells → grid ≡ partSoFar class 0
   unfolding partSoFar
-  part-none class e = where-none permissions role (λ i. (bit holding (i / 16) && bit class (i % 16)) && ltb (i % 16) 0) grid e (λ i l. below-zero (bit holding (i / 16) && bit class (i % 16)) (i % 16))
+  part-none class e = where-none permissions role (λ i. (bit holding (cellRow i) && bit class (cellOperation i)) && ltb (cellOperation i) 0) grid e (λ i l. below-zero (bit holding (cellRow i) && bit class (cellOperation i)) (cellOperation i))
 
   -- an operation of the class
   pub part-in : (class n : ℕ) (out after : List ℕ) → out ≡ partSoFar class n → bit class n ≡ true → after ≡ addedColumn n permissions role holding out → after ≡ partSoFar class (n + 1)
   unfolding partSoFar addedColumn
   part-in class n out after e h q =
-      q ∙ ap (addedWhere (λ i. bit holding (i / 16) && eqb (i % 16) n) permissions role) e
-      ∙ where-twice permissions role (λ i. bit holding (i / 16) && eqb (i % 16) n) (λ i. (bit holding (i / 16) && bit class (i % 16)) && ltb (i % 16) n) (λ i. (bit holding (i / 16) && bit class (i % 16)) && ltb (i % 16) (n + 1)) grid apart either
+      q ∙ ap (addedWhere (λ i. bit holding (cellRow i) && eqb (cellOperation i) n) permissions role) e
+      ∙ where-twice permissions role (λ i. bit holding (cellRow i) && eqb (cellOperation i) n) (λ i. (bit holding (cellRow i) && bit class (cellOperation i)) && ltb (cellOperation i) n) (λ i. (bit holding (cellRow i) && bit class (cellOperation i)) && ltb (cellOperation i) (n + 1)) grid apart either
     where
-      apart : (i : ℕ) → i < 1024 → ((bit holding (i / 16) && bit class (i % 16)) && ltb (i % 16) n) ≡ true → (bit holding (i / 16) && eqb (i % 16) n) ≡ false
+      apart : (i : ℕ) → i < userCells → ((bit holding (cellRow i) && bit class (cellOperation i)) && ltb (cellOperation i) n) ≡ true → (bit holding (cellRow i) && eqb (cellOperation i) n) ≡ false
       apart i l t =
-          let k = ltb-true (i % 16) n (and-r (bit holding (i / 16) && bit class (i % 16)) (ltb (i % 16) n) t) in
-          ap (λ (c : Bool). bit holding (i / 16) && c) (ne-eqb (i % 16) n (omega arith)) ∙ and-false (bit holding (i / 16))
+          let k = ltb-true (cellOperation i) n (and-r (bit holding (cellRow i) && bit class (cellOperation i)) (ltb (cellOperation i) n) t) in
+          ap (λ (c : Bool). bit holding (cellRow i) && c) (ne-eqb (cellOperation i) n (omega arith)) ∙ and-false (bit holding (cellRow i))
 
       here : (b c : Bool) → c ≡ true → ((b && c) && false) || (b && true) ≡ ((b && c) && true)
       here b c p = rw p (at b)
@@ -235,55 +221,55 @@ module _ (permissions : List ℕ) (role holding : ℕ) (grid : List ℕ) where
       apart-out : (b c d : Bool) → ((b && c) && d) || (b && false) ≡ ((b && c) && d)
       apart-out b c d = ap (λ (x : Bool). ((b && c) && d) || x) (and-false b) ∙ or-false ((b && c) && d)
 
-      either : (i : ℕ) → i < 1024 → (((bit holding (i / 16) && bit class (i % 16)) && ltb (i % 16) n) || (bit holding (i / 16) && eqb (i % 16) n)) ≡ ((bit holding (i / 16) && bit class (i % 16)) && ltb (i % 16) (n + 1))
+      either : (i : ℕ) → i < userCells → (((bit holding (cellRow i) && bit class (cellOperation i)) && ltb (cellOperation i) n) || (bit holding (cellRow i) && eqb (cellOperation i) n)) ≡ ((bit holding (cellRow i) && bit class (cellOperation i)) && ltb (cellOperation i) (n + 1))
       either i l =
-          test (eqb (i % 16) n)
-          (λ t. let k = eqb-true (i % 16) n t in
-          rw (t, le-ltb (i % 16) n (omega arith), lt-ltb (i % 16) (n + 1) (omega arith)) (here (bit holding (i / 16)) (bit class (i % 16)) (ap (bit class) k ∙ h)))
-          (λ t. rw t (apart-out (bit holding (i / 16)) (bit class (i % 16)) (ltb (i % 16) n) ∙ ap (λ (c : Bool). (bit holding (i / 16) && bit class (i % 16)) && c) (below-next (i % 16) n (eqb-false (i % 16) n t))))
+          test (eqb (cellOperation i) n)
+          (λ t. let k = eqb-true (cellOperation i) n t in
+          rw (t, le-ltb (cellOperation i) n (omega arith), lt-ltb (cellOperation i) (n + 1) (omega arith)) (here (bit holding (cellRow i)) (bit class (cellOperation i)) (ap (bit class) k ∙ h)))
+          (λ t. rw t (apart-out (bit holding (cellRow i)) (bit class (cellOperation i)) (ltb (cellOperation i) n) ∙ ap (λ (c : Bool). (bit holding (cellRow i) && bit class (cellOperation i)) && c) (below-next (cellOperation i) n (eqb-false (cellOperation i) n t))))
 
   -- an operation outside it
   pub part-out : (class n : ℕ) (out after : List ℕ) → out ≡ partSoFar class n → bit class n ≡ false → after ≡ out → after ≡ partSoFar class (n + 1)
   unfolding partSoFar
   part-out class n out after e h q =
-      q ∙ e ∙ where-same permissions role (λ i. (bit holding (i / 16) && bit class (i % 16)) && ltb (i % 16) n) (λ i. (bit holding (i / 16) && bit class (i % 16)) && ltb (i % 16) (n + 1)) grid at
+      q ∙ e ∙ where-same permissions role (λ i. (bit holding (cellRow i) && bit class (cellOperation i)) && ltb (cellOperation i) n) (λ i. (bit holding (cellRow i) && bit class (cellOperation i)) && ltb (cellOperation i) (n + 1)) grid at
     where
-      at : (j : ℕ) → j < 1024 → ((bit holding (j / 16) && bit class (j % 16)) && ltb (j % 16) n) ≡ ((bit holding (j / 16) && bit class (j % 16)) && ltb (j % 16) (n + 1))
+      at : (j : ℕ) → j < userCells → ((bit holding (cellRow j) && bit class (cellOperation j)) && ltb (cellOperation j) n) ≡ ((bit holding (cellRow j) && bit class (cellOperation j)) && ltb (cellOperation j) (n + 1))
       at j l =
-          test (eqb (j % 16) n)
-          (λ t. let none : (bit holding (j / 16) && bit class (j % 16)) ≡ false = ap (λ (c : Bool). bit holding (j / 16) && c) (ap (bit class) (eqb-true (j % 16) n t) ∙ h) ∙ and-false (bit holding (j / 16)) in rw none refl)
-          (λ t. ap (λ (c : Bool). (bit holding (j / 16) && bit class (j % 16)) && c) (below-next (j % 16) n (eqb-false (j % 16) n t)))
+          test (eqb (cellOperation j) n)
+          (λ t. let none : (bit holding (cellRow j) && bit class (cellOperation j)) ≡ false = ap (λ (c : Bool). bit holding (cellRow j) && c) (ap (bit class) (eqb-true (cellOperation j) n t) ∙ h) ∙ and-false (bit holding (cellRow j)) in rw none refl)
+          (λ t. ap (λ (c : Bool). (bit holding (cellRow j) && bit class (cellOperation j)) && c) (below-next (cellOperation j) n (eqb-false (cellOperation j) n t)))
 
-  pub part-end : (class n : ℕ) (out : List ℕ) → out ≡ partSoFar class n → n ≡ 16 → out ≡ addedPart holding permissions role class grid
+  pub part-end : (class n : ℕ) (out : List ℕ) → out ≡ partSoFar class n → n ≡ rowCells → out ≡ addedPart holding permissions role class grid
   unfolding partSoFar addedPart
   part-end class n out e q =
-      e ∙ where-same permissions role (λ i. (bit holding (i / 16) && bit class (i % 16)) && ltb (i % 16) n) (λ i. bit holding (i / 16) && bit class (i % 16)) grid
-      (λ i l. below-all (bit holding (i / 16) && bit class (i % 16)) (i % 16) n (omega arith))
+      e ∙ where-same permissions role (λ i. (bit holding (cellRow i) && bit class (cellOperation i)) && ltb (cellOperation i) n) (λ i. bit holding (cellRow i) && bit class (cellOperation i)) grid
+      (λ i l. below-all (bit holding (cellRow i) && bit class (cellOperation i)) (cellOperation i) n (omega arith))
 
-  pub part-so-long : (class n : ℕ) (out : List ℕ) → out ≡ partSoFar class n → length out ≡ 1024
+  pub part-so-long : (class n : ℕ) (out : List ℕ) → out ≡ partSoFar class n → length out ≡ userCells
   unfolding partSoFar addedWhere
-  part-so-long class n out e = ap length e ∙ table-length 1024 (λ i. addedWord ((bit holding (i / 16) && bit class (i % 16)) && ltb (i % 16) n) permissions role grid i)
+  part-so-long class n out e = ap length e ∙ table-length userCells (λ i. addedWord ((bit holding (cellRow i) && bit class (cellOperation i)) && ltb (cellOperation i) n) permissions role grid i)
 
 -- ---- one grid joined to another
 
-pub joined-unique : (from to out : List ℕ) → length out ≡ 1024 → ((i : ℕ) → i < 1024 → getD out i 0 ≡ joinedWord (getD to i 0) (getD from i 0)) → out ≡ joinedGrid from to
+pub joined-unique : (from to out : List ℕ) → length out ≡ userCells → ((i : ℕ) → i < userCells → getD out i 0 ≡ joinedWord (getD to i 0) (getD from i 0)) → out ≡ joinedGrid from to
 unfolding joinedGrid tableOf
-joined-unique from to out e h = table-unique 1024 out (λ i. joinedWord (getD to i 0) (getD from i 0)) e h
+joined-unique from to out e h = table-unique userCells out (λ i. joinedWord (getD to i 0) (getD from i 0)) e h
 
 -- a word of the two, from the words at hand
 pub word-joined : (from to out : List ℕ) (i v : ℕ) → getD out i 0 ≡ getD to i 0 → v ≡ maskOf 64 (λ k. bit (getD out i 0) k || bit (getD from i 0) k) → v ≡ joinedWord (getD to i 0) (getD from i 0)
 unfolding joinedWord
 word-joined from to out i v e q = q ∙ ap (λ (x : ℕ). maskOf 64 (λ k. bit x k || bit (getD from i 0) k)) e
 
-word-bit : (G : Block) (i r : ℕ) → i < 1024 → r < 64 → bit (getD (gridOf G) i 0) r ≡ G (i / 16) r (i % 16)
+word-bit : (G : Block) (i r : ℕ) → i < userCells → r < 64 → bit (getD (gridOf G) i 0) r ≡ G (cellRow i) r (cellOperation i)
 unfolding gridOf
-word-bit G i r l k = ap (λ (m : ℕ). bit m r) (table-get 1024 (λ i. maskOf 64 (λ r. G (i / 16) r (i % 16))) i l) ∙ bit-mask 64 (λ r. G (i / 16) r (i % 16)) r k
+word-bit G i r l k = ap (λ (m : ℕ). bit m r) (table-get userCells (λ i. maskOf 64 (λ r. G (cellRow i) r (cellOperation i))) i l) ∙ bit-mask 64 (λ r. G (cellRow i) r (cellOperation i)) r k
 
 pub joined-means : (G H : Block) → joinedGrid (gridOf G) (gridOf H) ≡ gridOf (λ u r o. H u r o || G u r o)
 unfolding joinedGrid joinedWord gridOf
 joined-means G H =
-    table-ext 1024 (λ i. maskOf 64 (λ r. bit (getD (gridOf H) i 0) r || bit (getD (gridOf G) i 0) r)) (λ i. maskOf 64 (λ r. H (i / 16) r (i % 16) || G (i / 16) r (i % 16)))
-    (λ i l. mask-same 64 (λ r. bit (getD (gridOf H) i 0) r || bit (getD (gridOf G) i 0) r) (λ r. H (i / 16) r (i % 16) || G (i / 16) r (i % 16))
+    table-ext userCells (λ i. maskOf 64 (λ r. bit (getD (gridOf H) i 0) r || bit (getD (gridOf G) i 0) r)) (λ i. maskOf 64 (λ r. H (cellRow i) r (cellOperation i) || G (cellRow i) r (cellOperation i)))
+    (λ i l. mask-same 64 (λ r. bit (getD (gridOf H) i 0) r || bit (getD (gridOf G) i 0) r) (λ r. H (cellRow i) r (cellOperation i) || G (cellRow i) r (cellOperation i))
     (λ r k. ap₂ _||_ (word-bit H i r l k) (word-bit G i r l k)))
 
 -- ---- a word to which a set is joined if a test passes
@@ -355,24 +341,24 @@ module _ (F : Policy) (Z : Sized F) where
   unfolding recordOf recordWith
   holders-bit k u hk hu = ap (λ (m : ℕ). bit m u) (table-get 32 (λ k. maskOf 64 (held F k)) k hk) ∙ bit-mask 64 (held F k) u hu
 
-  permissions-bit : (k r o : ℕ) → k < 32 → r < 64 → o < 16 → bit (getD (permissionTable F) (16 * k + o) 0) r ≡ F .permitted k r o
+  permissions-bit : (k r o : ℕ) → k < 32 → r < 64 → o < rowCells → bit (getD (permissionTable F) (cellAt k o) 0) r ≡ F .permitted k r o
   unfolding permissionTable
   permissions-bit k r o hk hr ho =
-      ap (λ (m : ℕ). bit m r) (table-get 512 (λ i. maskOf 64 (λ r. F .permitted (i / 16) r (i % 16))) (16 * k + o) (omega arith))
-      ∙ bit-mask 64 (λ r. F .permitted ((16 * k + o) / 16) r ((16 * k + o) % 16)) r hr
-      ∙ (let a : (16 * k + o) / 16 ≡ k = omega arith in let b : (16 * k + o) % 16 ≡ o = omega arith in ap₂ (λ (x y : ℕ). F .permitted x r y) a b)
+      ap (λ (m : ℕ). bit m r) (table-get roleCells (λ i. maskOf 64 (λ r. F .permitted (cellRow i) r (cellOperation i))) (cellAt k o) (omega arith))
+      ∙ bit-mask 64 (λ r. F .permitted (cellRow (cellAt k o)) r (cellOperation (cellAt k o))) r hr
+      ∙ cell-parts (λ x y. F .permitted x r y) k o ho
 
   pub part-added : (ls : Lines) (k m : ℕ) → Is (legal (settingOf F) (rolesIn F) (part k m))
       → addedPart (getD (recordOf F .holders) k 0) (permissionTable F) k m (gridOf (partsGrant (settingOf F) (rolesIn F) ls)) ≡ gridOf (partsGrant (settingOf F) (rolesIn F) (ls ++ (part k m ∷ [])))
   unfolding addedPart addedWhere addedWord joinedWord gridOf
   part-added ls k m h =
-      table-ext 1024 (λ i. addedWord (bit (getD (recordOf F .holders) k 0) (i / 16) && bit m (i % 16)) (permissionTable F) k (gridOf (partsGrant (settingOf F) (rolesIn F) ls)) i)
-      (λ i. maskOf 64 (λ r. partsGrant (settingOf F) (rolesIn F) (ls ++ (part k m ∷ [])) (i / 16) r (i % 16)))
-      (λ i l. added-mask (bit (getD (recordOf F .holders) k 0) (i / 16) && bit m (i % 16)) (getD (gridOf (partsGrant (settingOf F) (rolesIn F) ls)) i 0) (getD (permissionTable F) (16 * k + i % 16) 0)
-      (λ r. partsGrant (settingOf F) (rolesIn F) ls (i / 16) r (i % 16)) (λ r. partsGrant (settingOf F) (rolesIn F) (ls ++ (part k m ∷ [])) (i / 16) r (i % 16))
-      (table-get 1024 (λ i. maskOf 64 (λ r. partsGrant (settingOf F) (rolesIn F) ls (i / 16) r (i % 16))) i l)
-      (λ r lr. line-adds (settingOf F) (rolesIn F) ls (part k m) (i / 16) r (i % 16)
-      ∙ ap (λ (b : Bool). partsGrant (settingOf F) (rolesIn F) ls (i / 16) r (i % 16) || b)
-      (line-block k m (i / 16) r (i % 16) h
-      ∙ sym (ap₂ (λ (x y : Bool). (x && bit m (i % 16)) && y) (holders-bit k (i / 16) (role-within k m h) (omega arith)) (permissions-bit k r (i % 16) (role-within k m h) lr (omega arith))
-      ∙ and-assoc (held F k (i / 16)) (bit m (i % 16)) (F .permitted k r (i % 16))))))
+      table-ext userCells (λ i. addedWord (bit (getD (recordOf F .holders) k 0) (cellRow i) && bit m (cellOperation i)) (permissionTable F) k (gridOf (partsGrant (settingOf F) (rolesIn F) ls)) i)
+      (λ i. maskOf 64 (λ r. partsGrant (settingOf F) (rolesIn F) (ls ++ (part k m ∷ [])) (cellRow i) r (cellOperation i)))
+      (λ i l. added-mask (bit (getD (recordOf F .holders) k 0) (cellRow i) && bit m (cellOperation i)) (getD (gridOf (partsGrant (settingOf F) (rolesIn F) ls)) i 0) (getD (permissionTable F) (cellAt k (cellOperation i)) 0)
+      (λ r. partsGrant (settingOf F) (rolesIn F) ls (cellRow i) r (cellOperation i)) (λ r. partsGrant (settingOf F) (rolesIn F) (ls ++ (part k m ∷ [])) (cellRow i) r (cellOperation i))
+      (table-get userCells (λ i. maskOf 64 (λ r. partsGrant (settingOf F) (rolesIn F) ls (cellRow i) r (cellOperation i))) i l)
+      (λ r lr. line-adds (settingOf F) (rolesIn F) ls (part k m) (cellRow i) r (cellOperation i)
+      ∙ ap (λ (b : Bool). partsGrant (settingOf F) (rolesIn F) ls (cellRow i) r (cellOperation i) || b)
+      (line-block k m (cellRow i) r (cellOperation i) h
+      ∙ sym (ap₂ (λ (x y : Bool). (x && bit m (cellOperation i)) && y) (holders-bit k (cellRow i) (role-within k m h) (omega arith)) (permissions-bit k r (cellOperation i) (role-within k m h) lr (omega arith))
+      ∙ and-assoc (held F k (cellRow i)) (bit m (cellOperation i)) (F .permitted k r (cellOperation i))))))

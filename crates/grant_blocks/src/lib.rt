@@ -1,10 +1,11 @@
-// What the parts listed under a rule grant, kept as a grid of sets of resources, word 16 * user + operation, while the rule's lines are
+// What the parts listed under a rule grant, kept as a grid of sets of resources, by user and operation, while the rule's lines are
 // read.
 ghost use lib.ListN.{length, getD};
 ghost use mathlib.Core.Bool.{false};
 ghost use mathlib.Core.Path.{_≡_};
 ghost use Prim.Native.Nat.{_<_};
 ghost use Rattle.grant_grids.specs.Grid.{gridOf};
+ghost use Rattle.role_record.specs.Cells.{rowCells, userCells};
 ghost use Rattle.grant_blocks.specs.PartGrid.{addedColumn, addedPart, joinedGrid};
 use role_record::ByRole;
 use role_record::ByRoleOperation;
@@ -19,7 +20,7 @@ fn add_column(
     operation: usize,
     grid: &mut [u64],
 )
-    requires { ⌜ (role < 32) × (operation < 16) × (length (now grid) ≡ 1024) ⌝ }
+    requires { ⌜ (role < 32) × (operation < rowCells) × (length (now grid) ≡ userCells) ⌝ }
     ensures { λ _. ⌜
         now (grid .exit) ≡ addedColumn operation (now (permissions .entry)) role holding (now (grid .entry)) ⌝ }
 {
@@ -41,7 +42,7 @@ fn add_columns(
     class: u64,
     grid: &mut [u64],
 )
-    requires { ⌜ (role < 32) × (length (now grid) ≡ 1024) ⌝ }
+    requires { ⌜ (role < 32) × (length (now grid) ≡ userCells) ⌝ }
     ensures { λ _. ⌜ now (grid .exit) ≡ addedPart holding (now (permissions .entry)) role class (now (grid .entry)) ⌝ }
 {
     for o in 0..RoleFile::OPERATIONS {
@@ -78,7 +79,7 @@ pub fn clear(grid: &mut Grid)
 
 // Into a slice, since only a slice tells its length to a proof.
 fn join_words(from: &Grid, to: &mut [u64])
-    requires { ⌜ length (now to) ≡ 1024 ⌝ }
+    requires { ⌜ length (now to) ≡ userCells ⌝ }
     ensures { λ _. ⌜ now (to .exit) ≡ joinedGrid (now (from .entry)) (now (to .entry)) ⌝ }
 {
     for i in 0..RoleFile::USERS * RoleFile::OPERATIONS {

@@ -1,20 +1,23 @@
 -- The laws of grids: what a grid has, how loops fill one, and how a search for the first difference goes on.
 -- Assumes nothing.
-use Prim.Native.Nat.{ℕ, zero, suc, _+_, _*_, _/_, _%_, _≤_, _<_}
+use Prim.Native.Nat.{ℕ, zero, suc, _+_, _≤_, _<_}
 use borrow.Author.Tests.{eqb-true, eq-eqb}
 use lib.Bits.{bitOr, bitXor, or-add-and, xor-add-and, and-le-l, and-le-r, xor-self}
 use lib.Dec.{eqb}
 use lib.ListN.{length, getD}
 use mathlib.Core.Bool.{Bool, true, false, cond, _&&_, not, false≢true, Bool·beq}
-use mathlib.Core.List.{List, [], _∷_, _++_, map, append-assoc, append-nil, List·Memᴰ·head, List·Memᴰ·tail}
+use mathlib.Core.List.{List, [], _∷_, _++_, map, List·Memᴰ·head, List·Memᴰ·tail}
 use mathlib.Core.Logic.{_⊎_, inl, inr}
 use mathlib.Core.Option.{Option, none, some}
 use mathlib.Core.Path.{_≡_, refl, sym, ap, ap₂, _∙_}
 use native.Mathlib.Nat.{not-suc-le-zero, le-of-suc-le-suc, eq-or-lt-of-le}
 use native.Mathlib.Numerals.{add-one}
 use native.Mathlib.Omega.{arith}
+use Rattle.role_record.specs.Cells.{rowCells, cellAt, cellRow, cellOperation, userCells}
+use Rattle.role_record.specs.CellsLaws.{cell-parts}
 use Rattle.role_record.specs.Record.{Sized, tableOf, recordOf}
-use Rattle.role_admit.specs.TableLaws.{record-grants}
+use Rattle.role_admit.specs.RoleTableLaws.{record-grants}
+use Rattle.files.specs.CallLaws.{first-none, triple-in, first-ext}
 use Rattle.files.specs.Calls.{first, triples, rulesGrant, firstDifference}
 use Rattle.files.specs.RuleFile.{Lines}
 use Rattle.role_record.specs.RecordLaws.{table-get, table-length, table-ext}
@@ -22,42 +25,43 @@ use Rattle.policy.specs.Policy.{Policy, sideOf, settingOf, rolesIn}
 use Rattle.policy.specs.Roles.{Roles, rolesGrant}
 use Rattle.policy.specs.RuleLaws.{same-in, same-out}
 use Rattle.policy.specs.Rules.{Setting, Block, Triple, sameBlock, user, resource}
-use Rattle.sets.specs.LoopLaws.{upTo-more, all-more, table-unique}
+use Rattle.sets.specs.ListLaws.{each-more}
+use Rattle.sets.specs.LoopLaws.{all-more, table-unique}
 use Rattle.sets.specs.MaskLaws.{mask-same, mask-none}
 use Rattle.sets.specs.Sets.{bit, maskOf}
 use Rattle.sets.specs.SetLaws.{bit-mask}
 use Rattle.sets.specs.Tests.{Is, iff, each, upTo, _isIn_}
-use Rattle.sets.specs.TestLaws.{and-in, and-l, and-r, fails, same, iff-in, all-in, all-out, upTo-in, upTo-out, each-in, each-out, map-in, map-out}
+use Rattle.sets.specs.TestLaws.{and-in, and-l, and-r, fails, same, iff-in, all-in, all-out, upTo-in, upTo-out, each-out, map-out, beq-iff}
 use Rattle.grant_grids.specs.Grid.{gridOf, inGrid, grantedBy, tripleList, differAt, sameWords, gridDifference, differenceOf, isSame}
 use Rattle.grant_grids.specs.declared.Difference.the-variants.{Same, At}
 
 -- ---- grids
 
-pub in-grid : (G : Block) (u r o : ℕ) → u < 64 → r < 64 → o < 16 → inGrid (gridOf G) u r o ≡ G u r o
+pub in-grid : (G : Block) (u r o : ℕ) → u < 64 → r < 64 → o < rowCells → inGrid (gridOf G) u r o ≡ G u r o
 unfolding inGrid gridOf
 in-grid G u r o hu hr ho =
-    ap (λ (m : ℕ). bit m r) (table-get 1024 (λ i. maskOf 64 (λ r. G (i / 16) r (i % 16))) (16 * u + o) (omega arith))
-    ∙ bit-mask 64 (λ r. G ((16 * u + o) / 16) r ((16 * u + o) % 16)) r hr
-    ∙ (let a : (16 * u + o) / 16 ≡ u = omega arith in let b : (16 * u + o) % 16 ≡ o = omega arith in ap₂ (λ (x y : ℕ). G x r y) a b)
+    ap (λ (m : ℕ). bit m r) (table-get userCells (λ i. maskOf 64 (λ r. G (cellRow i) r (cellOperation i))) (cellAt u o) (omega arith))
+    ∙ bit-mask 64 (λ r. G (cellRow (cellAt u o)) r (cellOperation (cellAt u o))) r hr
+    ∙ cell-parts (λ x y. G x r y) u o ho
 
-pub grid-long : (G : Block) → length (gridOf G) ≡ 1024
+pub grid-long : (G : Block) → length (gridOf G) ≡ userCells
 unfolding gridOf
-grid-long G = table-length 1024 (λ i. maskOf 64 (λ r. G (i / 16) r (i % 16)))
+grid-long G = table-length userCells (λ i. maskOf 64 (λ r. G (cellRow i) r (cellOperation i)))
 
-pub grid-unique : (t : List ℕ) (G : Block) → length t ≡ 1024 → ((i : ℕ) → i < 1024 → getD t i 0 ≡ maskOf 64 (λ r. G (i / 16) r (i % 16))) → t ≡ gridOf G
+pub grid-unique : (t : List ℕ) (G : Block) → length t ≡ userCells → ((i : ℕ) → i < userCells → getD t i 0 ≡ maskOf 64 (λ r. G (cellRow i) r (cellOperation i))) → t ≡ gridOf G
 unfolding gridOf tableOf
-grid-unique t G e h = table-unique 1024 t (λ i. maskOf 64 (λ r. G (i / 16) r (i % 16))) e h
+grid-unique t G e h = table-unique userCells t (λ i. maskOf 64 (λ r. G (cellRow i) r (cellOperation i))) e h
 
 -- a grid of empty sets has no triples
-pub no-triples : (out : List ℕ) → length out ≡ 1024 → ((i : ℕ) → i < 1024 → getD out i 0 ≡ 0) → out ≡ gridOf (λ u r o. false)
+pub no-triples : (out : List ℕ) → length out ≡ userCells → ((i : ℕ) → i < userCells → getD out i 0 ≡ 0) → out ≡ gridOf (λ u r o. false)
 no-triples out e h = grid-unique out (λ u r o. false) e (λ i l. h i l ∙ sym (mask-none 64 (λ r. false) (λ r k. refl)))
 
 -- sets of triples that agree wherever a grid has room have one grid
-pub grid-same : (G H : Block) → ((u r o : ℕ) → u < 64 → r < 64 → o < 16 → G u r o ≡ H u r o) → gridOf G ≡ gridOf H
+pub grid-same : (G H : Block) → ((u r o : ℕ) → u < 64 → r < 64 → o < rowCells → G u r o ≡ H u r o) → gridOf G ≡ gridOf H
 unfolding gridOf
 grid-same G H h =
-    table-ext 1024 (λ i. maskOf 64 (λ r. G (i / 16) r (i % 16))) (λ i. maskOf 64 (λ r. H (i / 16) r (i % 16)))
-    (λ i l. mask-same 64 (λ r. G (i / 16) r (i % 16)) (λ r. H (i / 16) r (i % 16)) (λ r k. h (i / 16) r (i % 16) (omega arith) k (omega arith)))
+    table-ext userCells (λ i. maskOf 64 (λ r. G (cellRow i) r (cellOperation i))) (λ i. maskOf 64 (λ r. H (cellRow i) r (cellOperation i)))
+    (λ i l. mask-same 64 (λ r. G (cellRow i) r (cellOperation i)) (λ r. H (cellRow i) r (cellOperation i)) (λ r k. h (cellRow i) r (cellOperation i) (omega arith) k (omega arith)))
 
 -- ---- what the roles grant
 
@@ -83,14 +87,6 @@ module _ (F : Policy) (Z : Sized F) where
 
 some-not-none {ℓ} : {X : Type ℓ} {A : Type 0} {x : A} → some x ≡ none → X
 some-not-none h = let z : _≡_ {A = ℕ} 0 1 = cc in absurd (omega arith)
-
-module _ {T : Type 0} (g : ℕ → List T) where
-  each-last : (l : List ℕ) (n : ℕ) → each g (l ++ (n ∷ [])) ≡ each g l ++ g n
-  each-last [] n = append-nil (g n)
-  each-last (x ∷ xs) n = ap (λ (l : List T). g x ++ l) (each-last xs n) ∙ sym (append-assoc (g x) (each g xs) (g n))
-
-  each-more : (n : ℕ) → each g (upTo (n + 1)) ≡ each g (upTo n) ++ g n
-  each-more n = ap (each g) (upTo-more n) ∙ each-last (upTo n) n
 
 module _ {T : Type 0} (f : T → Bool) where
   -- past a list with none
@@ -178,15 +174,10 @@ module _ (G H : Block) where
       (ap (first (differAt G H)) (one-each (λ o. (u, r, o)) (upTo os))
       ∙ first-here (differAt G H) (λ o. (u, r, o) ∷ []) o os (u, r, o) lo (ap (first (differAt G H)) (sym (one-each (λ o. (u, r, o)) (upTo o))) ∙ ho) (rw e refl)))
 
--- where no member passes there is no first
-first-never : {T : Type 0} (f : T → Bool) (l : List T) → ((x : T) → x isIn l → f x ≡ false) → first f l ≡ none
-first-never f [] h = refl
-first-never f (x ∷ xs) h = rw (h x (List·Memᴰ·head refl)) (first-never f xs (λ y m. h y (List·Memᴰ·tail m)))
-
 -- a user with the same words differs at none
 pub user-skipped : (a b : List ℕ) (rs os n : ℕ) {s : Bool} → UsersPassed (inGrid a) (inGrid b) rs os n → s ≡ sameWords a b n os → s ≡ true → UsersPassed (inGrid a) (inGrid b) rs os (n + 1)
 unfolding sameWords differAt inGrid
-user-skipped a b rs os n h q e = user-passed (inGrid a) (inGrid b) rs os n rs h (first-never (differAt (inGrid a) (inGrid b)) (each (λ r. map (λ o. (n, r, o)) (upTo os)) (upTo rs)) alike) refl
+user-skipped a b rs os n h q e = user-passed (inGrid a) (inGrid b) rs os n rs h (first-none (differAt (inGrid a) (inGrid b)) (each (λ r. map (λ o. (n, r, o)) (upTo os)) (upTo rs)) alike) refl
   where
     words : sameWords a b n os ≡ true
     words = sym q ∙ e
@@ -195,8 +186,8 @@ user-skipped a b rs os n h q e = user-passed (inGrid a) (inGrid b) rs os n rs h 
     alike t m =
         let p = each-out (λ r. map (λ o. (n, r, o)) (upTo os)) (upTo rs) m in
         let k = map-out (λ o. (n, p .0, o)) (upTo os) (p .2) in
-        let w = eqb-true (getD a (16 * n + k .0) 0) (getD b (16 * n + k .0) 0) (all-out (λ o. eqb (getD a (16 * n + o) 0) (getD b (16 * n + o) 0)) words (k .1)) in
-        ap (differAt (inGrid a) (inGrid b)) (k .2) ∙ ap not (iff-in (bit (getD a (16 * n + k .0) 0) (p .0)) (bit (getD b (16 * n + k .0) 0) (p .0)) (ap (λ (m : ℕ). bit m (p .0)) w))
+        let w = eqb-true (getD a (cellAt n (k .0)) 0) (getD b (cellAt n (k .0)) 0) (all-out (λ o. eqb (getD a (cellAt n o) 0) (getD b (cellAt n o) 0)) words (k .1)) in
+        ap (differAt (inGrid a) (inGrid b)) (k .2) ∙ ap not (iff-in (bit (getD a (cellAt n (k .0)) 0) (p .0)) (bit (getD b (cellAt n (k .0)) 0) (p .0)) (ap (λ (m : ℕ). bit m (p .0)) w))
 
 -- what the code hands back
 module _ (a b : List ℕ) where
@@ -209,29 +200,18 @@ module _ (a b : List ℕ) where
   unfolding gridDifference differenceOf
   found-none us rs os u h e = sym (ap differenceOf (ap (λ (x : ℕ). first (differAt (inGrid a) (inGrid b)) (tripleList x rs os)) (sym e) ∙ h))
 
--- `x != y` of two bools
-unlike : (x y : Bool) → not (Bool·beq x y) ≡ not (iff x y)
-unlike true true = refl
-unlike true false = refl
-unlike false true = refl
-unlike false false = refl
-
 pub differs : {p q x y : Bool} → p ≡ x → q ≡ y → not (Bool·beq p q) ≡ not (iff x y)
-differs {x = x} {y = y} e f = ap₂ (λ (a b : Bool). not (Bool·beq a b)) e f ∙ unlike x y
+differs {x = x} {y = y} e f = ap₂ (λ (a b : Bool). not (Bool·beq a b)) e f ∙ ap not (beq-iff x y)
 
 -- ---- THE LAW: the first difference of two grids is that of the sets of triples that they stand for
-
-first-ext : {T : Type 0} (f g : T → Bool) (l : List T) → ((x : T) → x isIn l → f x ≡ g x) → first f l ≡ first g l
-first-ext f g [] h = refl
-first-ext f g (x ∷ xs) h = rw (h x (List·Memᴰ·head refl), first-ext f g xs (λ y m. h y (List·Memᴰ·tail m))) refl
 
 pub triples-same : (P : Setting) → triples P ≡ tripleList (P .side user .count) (P .side resource .count) (P .slots)
 unfolding triples tripleList
 triples-same P = refl
 
-pub triple-in : (P : Setting) (t : ℕ × ℕ × ℕ) → t isIn tripleList (P .side user .count) (P .side resource .count) (P .slots) → Triple P (t .0) (t .1) (t .2)
+pub triple-out : (P : Setting) (t : ℕ × ℕ × ℕ) → t isIn tripleList (P .side user .count) (P .side resource .count) (P .slots) → Triple P (t .0) (t .1) (t .2)
 unfolding tripleList
-triple-in P t m =
+triple-out P t m =
     let p = each-out (λ u. each (λ r. map (λ o. (u, r, o)) (upTo (P .slots))) (upTo (P .side resource .count))) (upTo (P .side user .count)) m in
     let q = each-out (λ r. map (λ o. (p .0, r, o)) (upTo (P .slots))) (upTo (P .side resource .count)) (p .2) in
     let s = map-out (λ o. (p .0, q .0, o)) (upTo (P .slots)) (q .2) in
@@ -243,7 +223,7 @@ pub difference-means : (P : Setting) (G H : Block) (a b : List ℕ)
 unfolding gridDifference differAt
 difference-means P G H a b p q =
     first-ext (differAt (inGrid a) (inGrid b)) (differAt G H) (tripleList (P .side user .count) (P .side resource .count) (P .slots))
-    (λ t m. let k = triple-in P t m in ap₂ (λ (x y : Bool). not (iff x y)) (p (t .0) (t .1) (t .2) k) (q (t .0) (t .1) (t .2) k))
+    (λ t m. let k = triple-out P t m in ap₂ (λ (x y : Bool). not (iff x y)) (p (t .0) (t .1) (t .2) k) (q (t .0) (t .1) (t .2) k))
     ∙ ap (first (differAt G H)) (sym (triples-same P))
 
 -- at what roles and rules grant: the judge's first verdict
@@ -263,12 +243,6 @@ first-out f h (List·Memᴰ·tail {x = y} {xs = ys} m) = first-out f (past (f y)
     past true h = some-not-none h
     past false h = h
 
-list-triple : (P : Setting) (u r o : ℕ) → Triple P u r o → (u, r, o) isIn triples P
-unfolding triples
-list-triple P u r o t =
-    each-in (λ u. each (λ r. map (λ o. (u, r, o)) (upTo (P .slots))) (upTo (P .side resource .count))) (upTo-in (t .user))
-    (each-in (λ r. map (λ o. (u, r, o)) (upTo (P .slots))) (upTo-in (t .resource)) (map-in (λ o. (u, r, o)) (upTo-in (t .op))))
-
 none-so : (d : Option (ℕ × ℕ × ℕ)) → isSame (differenceOf d) ≡ true → d ≡ none
 unfolding differenceOf isSame
 none-so none h = refl
@@ -284,9 +258,9 @@ pub same-means : (P : Setting) (G H : Block) → isSame (differenceOf (first (λ
 unfolding differenceOf isSame differAt
 same-means P G H =
     same (isSame (differenceOf (first (differAt G H) (triples P)))) (sameBlock P G H)
-    (λ h. same-in P G H (λ u r o t. not-differs (G u r o) (H u r o) (first-out (differAt G H) (none-so (first (differAt G H) (triples P)) h) (list-triple P u r o t))))
+    (λ h. same-in P G H (λ u r o t. not-differs (G u r o) (H u r o) (first-out (differAt G H) (none-so (first (differAt G H) (triples P)) h) (triple-in P u r o t))))
     (λ h. ap (λ (d : Option (ℕ × ℕ × ℕ)). isSame (differenceOf d))
-    (first-never (differAt G H) (triples P) (λ t m. ap not (iff-in (G (t .0) (t .1) (t .2)) (H (t .0) (t .1) (t .2)) (same-out P G H h (t .0) (t .1) (t .2) (triple-in P t (rw (triples-same P) at m)))))))
+    (first-none (differAt G H) (triples P) (λ t m. ap not (iff-in (G (t .0) (t .1) (t .2)) (H (t .0) (t .1) (t .2)) (same-out P G H h (t .0) (t .1) (t .2) (triple-out P t (rw (triples-same P) at m)))))))
 
 -- the answer of a comparison of two grids is the test of what they stand for
 pub grids-same : (P : Setting) (G H : Block) (a b : List ℕ)
@@ -320,11 +294,11 @@ pub differences-none : (a b : List ℕ) (u : ℕ) → eqb 0 0 ≡ sameWords a b 
 unfolding sameWords
 differences-none a b u = refl
 
-pub differences-more : (a b : List ℕ) (u d d′ n : ℕ) → eqb d 0 ≡ sameWords a b u n → d′ ≡ bitOr d (bitXor (getD a (16 * u + n) 0) (getD b (16 * u + n) 0)) → eqb d′ 0 ≡ sameWords a b u (n + 1)
+pub differences-more : (a b : List ℕ) (u d d′ n : ℕ) → eqb d 0 ≡ sameWords a b u n → d′ ≡ bitOr d (bitXor (getD a (cellAt u n) 0) (getD b (cellAt u n) 0)) → eqb d′ 0 ≡ sameWords a b u (n + 1)
 unfolding sameWords
 differences-more a b u d d′ n h e =
-    ap (λ (x : ℕ). eqb x 0) e ∙ differences-on d (getD a (16 * u + n) 0) (getD b (16 * u + n) 0) ∙ ap (λ (x : Bool). x && eqb (getD a (16 * u + n) 0) (getD b (16 * u + n) 0)) h
-    ∙ sym (all-more (λ o. eqb (getD a (16 * u + o) 0) (getD b (16 * u + o) 0)) n)
+    ap (λ (x : ℕ). eqb x 0) e ∙ differences-on d (getD a (cellAt u n) 0) (getD b (cellAt u n) 0) ∙ ap (λ (x : Bool). x && eqb (getD a (cellAt u n) 0) (getD b (cellAt u n) 0)) h
+    ∙ sym (all-more (λ o. eqb (getD a (cellAt u o) 0) (getD b (cellAt u o) 0)) n)
 
 pub differences-end : (a b : List ℕ) (u d n m : ℕ) → eqb d 0 ≡ sameWords a b u n → n ≡ m → eqb d 0 ≡ sameWords a b u m
 differences-end a b u d n m h e = h ∙ ap (sameWords a b u) e
@@ -333,5 +307,5 @@ differences-end a b u d n m h e = h ∙ ap (sameWords a b u) e
 pub fewer-words : (a b : List ℕ) (u n m : ℕ) {s : Bool} → n ≤ m → s ≡ sameWords a b u m → s ≡ true → true ≡ sameWords a b u n
 unfolding sameWords
 fewer-words a b u n m l e h =
-    sym (all-in (λ o. eqb (getD a (16 * u + o) 0) (getD b (16 * u + o) 0)) (upTo n)
-    (λ o k. let lo = upTo-out n k in all-out (λ o. eqb (getD a (16 * u + o) 0) (getD b (16 * u + o) 0)) (sym e ∙ h) (upTo-in {n = m} {i = o} (omega arith))))
+    sym (all-in (λ o. eqb (getD a (cellAt u o) 0) (getD b (cellAt u o) 0)) (upTo n)
+    (λ o k. let lo = upTo-out n k in all-out (λ o. eqb (getD a (cellAt u o) 0) (getD b (cellAt u o) 0)) (sym e ∙ h) (upTo-in {n = m} {i = o} (omega arith))))

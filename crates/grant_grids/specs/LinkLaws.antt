@@ -1,10 +1,9 @@
--- The laws of the table of atoms: how code works it out, and what it says of a policy.
+-- What the table of atoms says of a policy.
 -- Assumes nothing.
-use Prim.Native.Nat.{ℕ, _+_, _*_, _/_, _%_, _^_, _≤_, _<_}
-use borrow.Author.Tests.{eqb-true, ltb-false, lt-ltb, le-ltb, ne-eqb}
-use lib.Dec.{eqb, ltb}
+use Prim.Native.Nat.{ℕ, _+_, _*_, _/_, _%_, _<_}
+use borrow.Author.Tests.{lt-ltb, le-ltb, ne-eqb}
 use lib.ListN.{length, getD}
-use mathlib.Core.Bool.{Bool, true, false, cond, _&&_, _||_}
+use mathlib.Core.Bool.{Bool, cond}
 use mathlib.Core.List.{List}
 use mathlib.Core.Option.{Option, none, some}
 use mathlib.Core.Path.{_≡_, refl, sym, ap, ap₂, _∙_}
@@ -14,106 +13,9 @@ use Rattle.grant_grids.specs.Links.{valueIn, formIn, linkHolds, linkWord
 use Rattle.role_record.specs.RecordLaws.{table-get}
 use Rattle.policy.specs.Policy.{Policy, kindOf, isSetAt, valueAt, sideOf, settingOf}
 use Rattle.policy.specs.Rules.{Which, Form, formOf, linked, both, holds, user, resource, atom, own}
-use Rattle.sets.specs.MaskLaws.{bit-out, bit-maskOf, mask-same, mask-wide, mask-none}
-use Rattle.sets.specs.Sets.{bit, subset, maskOf}
-use Rattle.sets.specs.SetLaws.{bit-none, bit-mask}
+use Rattle.sets.specs.Sets.{bit, maskOf}
+use Rattle.sets.specs.SetLaws.{bit-mask}
 use Rattle.sets.specs.Tests.{isSome}
-use Rattle.sets.specs.TestLaws.{test}
-
--- ---- one pair of values, by the kinds of the attributes
-
-module _ (p q : Bool) (x y : ℕ) where
-  set-in-set : {d : Bool} → p ≡ true → q ≡ true → d ≡ subset y x → d ≡ linked (formOf p q) x y
-  set-in-set e f h = rw (e, f) h
-
-  -- "a value above 63 never is contained"
-  single-in-set : {d : Bool} → p ≡ true → q ≡ false → x < 2 ^ 64 → d ≡ bit x y → d ≡ linked (formOf p q) x y
-  single-in-set e f l h = rw (e, f) (h ∙ small)
-    where
-      small : bit x y ≡ (ltb y 64 && bit x y)
-      small =
-          test (ltb y 64)
-          (λ t. sym (ap (λ (b : Bool). b && bit x y) t))
-          (λ t. bit-out 64 x y l (ltb-false y 64 t) ∙ sym (ap (λ (b : Bool). b && bit x y) t))
-
-  no-form : p ≡ false → q ≡ true → false ≡ linked (formOf p q) x y
-  no-form e f = rw (e, f) refl
-
-  single-is-single : p ≡ false → q ≡ false → eqb x y ≡ linked (formOf p q) x y
-  single-is-single e f = rw (e, f) refl
-
--- ---- the values of a column, by the kinds of the attributes
-
-module _ (p q : Bool) (x : ℕ) (value : ℕ → ℕ) where
-  pub sets-fit : {m : ℕ} → p ≡ true → q ≡ true → m ≡ maskOf 64 (λ r. subset (value r) x) → m ≡ maskOf 64 (λ r. linked (formOf p q) x (value r))
-  sets-fit e f h = h ∙ mask-same 64 (λ r. subset (value r) x) (λ r. linked (formOf p q) x (value r)) (λ r l. set-in-set p q x (value r) e f refl)
-
-  pub elements-fit : {m : ℕ} → p ≡ true → q ≡ false → x < 2 ^ 64 → m ≡ maskOf 64 (λ r. bit x (value r)) → m ≡ maskOf 64 (λ r. linked (formOf p q) x (value r))
-  elements-fit e f k h = h ∙ mask-same 64 (λ r. bit x (value r)) (λ r. linked (formOf p q) x (value r)) (λ r l. single-in-set p q x (value r) e f k refl)
-
-  pub none-fit : p ≡ false → q ≡ true → 0 ≡ maskOf 64 (λ r. linked (formOf p q) x (value r))
-  none-fit e f = sym (mask-none 64 (λ r. linked (formOf p q) x (value r)) (λ r l. sym (no-form p q x (value r) e f)))
-
-  pub singles-fit : {m : ℕ} → p ≡ false → q ≡ false → m ≡ maskOf 64 (λ r. eqb x (value r)) → m ≡ maskOf 64 (λ r. linked (formOf p q) x (value r))
-  singles-fit e f h = h ∙ mask-same 64 (λ r. eqb x (value r)) (λ r. linked (formOf p q) x (value r)) (λ r l. single-is-single p q x (value r) e f)
-
--- of those that fit, the ones that are there
-pub fit-there : (n : ℕ) (f : ℕ → Bool) {there fit m : ℕ} → n ≤ 64 → there ≡ maskOf 64 (λ k. ltb k n) → fit ≡ maskOf 64 f → m ≡ maskOf 64 (λ k. bit there k && bit fit k) → m ≡ maskOf n f
-fit-there n f {there} {fit} l et ef em =
-    em ∙ mask-same 64 (λ k. bit there k && bit fit k) (λ k. ltb k n && f k) (λ k h. ap₂ _&&_ (ap (λ (x : ℕ). bit x k) et ∙ bit-mask 64 (λ k. ltb k n) k h) (ap (λ (x : ℕ). bit x k) ef ∙ bit-mask 64 f k h))
-    ∙ sym (mask-wide n 64 f l)
-
--- ---- one word
-
-module _ (known values kinds : List ℕ) (n a b u : ℕ) where
-  -- the user's value is not known
-  pub word-unknown : {k : Bool} → k ≡ bit (getD known a 0) u → k ≡ false → 0 ≡ linkWord known values kinds n a b u
-  unfolding linkWord linkHolds valueIn
-  word-unknown e h = sym (mask-none n (linkHolds known values kinds a b u) (λ r l. rw (sym e ∙ h) refl))
-
-  -- it is known: the resources whose values fit, of those that are known
-  pub word-known : {k p q : Bool} {m w : ℕ} → n ≤ 64 → k ≡ bit (getD known a 0) u → k ≡ true → p ≡ bit (getD kinds 0 0) a → q ≡ bit (getD kinds 1 0) b
-      → m ≡ maskOf n (λ r. linked (formOf p q) (getD values (64 * a + u) 0) (getD values (64 * (6 + b) + r) 0))
-      → w ≡ maskOf 64 (λ r. bit (getD known (6 + b) 0) r && bit m r)
-      → w ≡ linkWord known values kinds n a b u
-  unfolding linkWord linkHolds valueIn formIn
-  word-known {m = m} l ek h ep eq em ew =
-      ew ∙ mask-same 64 (λ k. bit (getD known (6 + b) 0) k && bit m k) (λ k. ltb k n && linkHolds known values kinds a b u k) at
-      ∙ sym (mask-wide n 64 (linkHolds known values kinds a b u) l)
-    where
-      fits : ℕ → Bool
-      fits r = linked (formIn kinds a b) (getD values (64 * a + u) 0) (getD values (64 * (6 + b) + r) 0)
-
-      found : m ≡ maskOf n fits
-      found = em ∙ ap₂ (λ (x y : Bool). maskOf n (λ r. linked (formOf x y) (getD values (64 * a + u) 0) (getD values (64 * (6 + b) + r) 0))) ep eq
-
-      by-known : (k : Bool) (within : Bool) (r : ℕ)
-          → (k && (within && fits r)) ≡ (within && both (linked (formIn kinds a b)) (some (getD values (64 * a + u) 0)) (cond k (some (getD values (64 * (6 + b) + r) 0)) none))
-      by-known true within r = refl
-      by-known false true r = refl
-      by-known false false r = refl
-
-      at : (r : ℕ) → r < 64 → (bit (getD known (6 + b) 0) r && bit m r) ≡ (ltb r n && linkHolds known values kinds a b u r)
-      at r k =
-          ap (λ (x : Bool). bit (getD known (6 + b) 0) r && x) (ap (λ (x : ℕ). bit x r) found ∙ bit-maskOf n fits r)
-          ∙ by-known (bit (getD known (6 + b) 0) r) (ltb r n) r
-          ∙ ap (λ (x : Bool). ltb r n && both (linked (formIn kinds a b)) (cond x (some (getD values (64 * a + u) 0)) none) (valueIn known values (6 + b) r)) (sym (sym ek ∙ h))
-
--- nobody knows one of the attributes
-both-unknown : (f : ℕ → ℕ → Bool) (x : Option ℕ) → both f x none ≡ false
-both-unknown f none = refl
-both-unknown f (some x) = refl
-
-pub word-nobody : (known values kinds : List ℕ) (n a b u : ℕ) → (eqb (getD known a 0) 0 || eqb (getD known (6 + b) 0) 0) ≡ true → 0 ≡ linkWord known values kinds n a b u
-unfolding linkWord linkHolds valueIn
-word-nobody known values kinds n a b u h =
-    sym (mask-none n (linkHolds known values kinds a b u) (λ r l. test (eqb (getD known a 0) 0)
-    (λ e. ap (λ (m : ℕ). both (linked (formIn kinds a b)) (cond (bit m u) (some (getD values (64 * a + u) 0)) none) (valueIn known values (6 + b) r)) (eqb-true (getD known a 0) 0 e)
-    ∙ ap (λ (k : Bool). both (linked (formIn kinds a b)) (cond k (some (getD values (64 * a + u) 0)) none) (valueIn known values (6 + b) r)) (bit-none u))
-    (λ e. let z = eqb-true (getD known (6 + b) 0) 0 (sym (ap (λ (c : Bool). c || eqb (getD known (6 + b) 0) 0) e) ∙ h) in
-    ap (λ (m : ℕ). both (linked (formIn kinds a b)) (valueIn known values a u) (cond (bit m r) (some (getD values (64 * (6 + b) + r) 0)) none)) z
-    ∙ ap (λ (k : Bool). both (linked (formIn kinds a b)) (valueIn known values a u) (cond k (some (getD values (64 * (6 + b) + r) 0)) none)) (bit-none r)
-    ∙ both-unknown (linked (formIn kinds a b)) (valueIn known values a u))))
 
 -- ---- the table
 -- what the table says of an atom, a user and a resource

@@ -1,13 +1,13 @@
 -- A table with some of its words changed. It is what loops come to that store word by word.
 -- Assumes nothing.
-use Prim.Native.Nat.{ℕ, _+_, _*_, _/_, _%_}
+use Prim.Native.Nat.{ℕ, _+_}
 use lib.Dec.{ltb}
 use lib.ListN.{getD}
 use mathlib.Core.Bool.{Bool, cond, _&&_, _||_, not}
 use mathlib.Core.List.{List}
+use Rattle.role_record.specs.Cells.{rowCells, rowStart, cellAt, cellRow, cellOperation, userCells}
 use Rattle.role_record.specs.Record.{tableOf}
 use Rattle.sets.specs.Sets.{bit, maskOf}
-use Rattle.grant_grids.specs.Links.{linkWord}
 
 -- the words of a table of n that pass a test, changed; w says what word i becomes, and the others stay
 unfoldable pub updated : ℕ → (ℕ → Bool) → (ℕ → ℕ → ℕ) → List ℕ → List ℕ
@@ -19,24 +19,12 @@ span s n i = not (ltb i s) && ltb i (s + n)
 
 -- word i of a grid, joined to what a role is permitted for its operation
 unfoldable pub permittedTo : List ℕ → ℕ → ℕ → ℕ → ℕ
-permittedTo permissions role i old = maskOf 64 (λ r. bit old r || bit (getD permissions (16 * role + i % 16) 0) r)
+permittedTo permissions role i old = maskOf 64 (λ r. bit old r || bit (getD permissions (cellAt role (cellOperation i)) 0) r)
 
 -- a grid with what a role is permitted joined to one user's words
 unfoldable pub joinedRow : List ℕ → ℕ → ℕ → List ℕ → List ℕ
-joinedRow permissions role user grid = updated 1024 (span (16 * user) 16) (permittedTo permissions role) grid
+joinedRow permissions role user grid = updated userCells (span (rowStart user) rowCells) (permittedTo permissions role) grid
 
 -- and to the words of each user who holds the role
 unfoldable pub joinedRole : ℕ → List ℕ → ℕ → List ℕ → List ℕ
-joinedRole holding permissions role grid = updated 1024 (λ i. bit holding (i / 16)) (permittedTo permissions role) grid
-
--- word i of the table of atoms, whatever it was
-unfoldable pub linkAt : List ℕ → List ℕ → List ℕ → ℕ → ℕ → ℕ → ℕ
-linkAt known values kinds resources i old = linkWord known values kinds resources (i / 384) (i / 64 % 6) (i % 64)
-
--- a table with the words of one atom made right
-unfoldable pub linkedAtom : List ℕ → List ℕ → List ℕ → ℕ → ℕ → List ℕ → List ℕ
-linkedAtom known values kinds resources atom table = updated 2304 (span (64 * atom) 64) (linkAt known values kinds resources) table
-
--- a table in which one atom holds of nobody
-unfoldable pub emptyAtom : ℕ → List ℕ → List ℕ
-emptyAtom atom table = updated 2304 (span (64 * atom) 64) (λ i old. 0) table
+joinedRole holding permissions role grid = updated userCells (λ i. bit holding (cellRow i)) (permittedTo permissions role) grid

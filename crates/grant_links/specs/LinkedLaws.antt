@@ -5,14 +5,14 @@ use Prim.Native.Nat.{ℕ, _+_, _*_, _^_, _<_}
 use borrow.Author.Tests.{eqb-true, ltb-true}
 use lib.Dec.{eqb, ltb}
 use lib.ListN.{getD}
-use mathlib.Core.Bool.{Bool, true, false, _&&_, and-comm}
+use mathlib.Core.Bool.{Bool, true, false, _&&_, and-comm, and-true}
 use mathlib.Core.List.{List}
 use mathlib.Core.Path.{_≡_, refl, sym, ap, _∙_, subst}
 use native.Mathlib.Omega.{arith}
 use Rattle.grant_links.specs.Linked.{linkedWith, rowOf}
 use Rattle.sets.specs.MemberLaws.{bit-less}
 use Rattle.sets.specs.Sets.{narrowing, bit, maskOf, lessOne}
-use Rattle.sets.specs.MaskLaws.{and-true, mask-lt, bit-maskOf, mask-unique, mask-same, mask-none, mask-wide}
+use Rattle.sets.specs.MaskLaws.{mask-lt, bit-maskOf, mask-unique, mask-same, mask-none, mask-wide}
 use Rattle.sets.specs.SetLaws.{bit-none, bit-mask}
 use Rattle.sets.specs.Tests.{Is, imp, all, upTo}
 use Rattle.sets.specs.TestLaws.{and-in, and-l, and-r, never, test, same, imp-in, imp-out, all-out, all-in, upTo-in, upTo-out, not-in}

@@ -1,16 +1,13 @@
 -- Classes and parts of a role, from the record's tables: the form in which code works them out.
 -- Assumes nothing.
-use Prim.Native.Nat.{ℕ, _+_, _*_}
+use Prim.Native.Nat.{ℕ}
 use lib.Dec.{eqb, ltb}
 use lib.ListN.{getD}
 use mathlib.Core.Bool.{Bool, false, cond, not}
 use mathlib.Core.List.{List}
+use Rattle.role_record.specs.Cells.{cellAt}
 use Rattle.sets.specs.Sets.{maskOf}
 use Rattle.sets.specs.Tests.{any, upTo}
-
--- where a table by role and operation has its word: 16 operations a role
-abbrev pub cellAt : ℕ → ℕ → ℕ
-cellAt role o = 16 * role + o
 
 -- two operations of a role have the same resources
 abbrev pub sameRow : List ℕ → (role o q : ℕ) → Bool

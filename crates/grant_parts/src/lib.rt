@@ -1,7 +1,8 @@
 // Classes and parts of a role, read off the loaded role file: the operations that have the same resources as one, and which operations are
-// the lowest of a part. The word of a role and an operation stands at 16 * role + operation.
+// the lowest of a part. The word of a role and an operation stands in their cell.
 ghost use mathlib.Core.Path.{_≡_};
 ghost use Prim.Native.Nat.{_≤_, _<_};
+ghost use Rattle.role_record.specs.Cells.{rowCells};
 ghost use Rattle.grant_parts.specs.Parts.{classRow, isFirst, isPartIn};
 use role_record::ByRole;
 use role_record::ByRoleOperation;
@@ -9,7 +10,7 @@ use role_record::RoleFile;
 
 // The operations of a role that have the same resources as operation o.
 pub fn class_of(permissions: &ByRoleOperation, role: usize, operations: usize, o: usize) -> u64
-    requires { ⌜ (role < 32) × (operations ≤ 16) × (o < 16) ⌝ }
+    requires { ⌜ (role < 32) × (operations ≤ 16) × (o < rowCells) ⌝ }
     ensures { λ r. ⌜ r ≡ classRow (now (permissions .entry)) role operations o ⌝ }
 {
     let row = permissions[RoleFile::OPERATIONS * role + o];
@@ -24,7 +25,7 @@ pub fn class_of(permissions: &ByRoleOperation, role: usize, operations: usize, o
 
 // Whether no operation of a role before operation o has the same resources.
 fn is_first(permissions: &ByRoleOperation, role: usize, o: usize) -> bool
-    requires { ⌜ (role < 32) × (o < 16) ⌝ }
+    requires { ⌜ (role < 32) × (o < rowCells) ⌝ }
     ensures { λ r. ⌜ r ≡ isFirst (now (permissions .entry)) role o ⌝ }
 {
     let row = permissions[RoleFile::OPERATIONS * role + o];
@@ -44,7 +45,7 @@ pub fn is_part<'a>(
     role: usize,
     o: usize,
 ) -> bool
-    requires { ⌜ (role < 32) × (o < 16) ⌝ }
+    requires { ⌜ (role < 32) × (o < rowCells) ⌝ }
     ensures { λ r. ⌜ r ≡ isPartIn (now (holders .entry)) (now (permissions .entry)) operations role o ⌝ }
 {
     if operations <= o {

@@ -6,7 +6,7 @@ use rule_judge::Judgement;
 // Prints the meaning of a verdict.
 fn say_meaning(printed: bool, n: usize) -> bool {
     let mut words = [0u8; 160];
-    let length = programs::verdict_words(n, &mut words);
+    let length = answer_words::verdict_words(n, &mut words);
     programs::say(printed, &words[..length])
 }
 

@@ -9,7 +9,7 @@ use Rattle.files.specs.Answer.{Answer, told, refused, accepted}
 use Rattle.files.specs.CallLaws.{accepted-output}
 use Rattle.files.specs.Calls.{Counts, countValues, mineAnswer}
 use Rattle.mine.specs.Room.{Fits}
-use Rattle.mining.specs.Mined.{minedNumbers}
+use Rattle.mining.specs.MinedNumbers.{minedNumbers}
 use Rattle.mining.specs.declared.Mined.{Mined}
 use Rattle.mining.specs.declared.Mined.the-variants.{Refused, Written}
 

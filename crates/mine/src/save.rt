@@ -6,7 +6,7 @@ fn path() -> [u8; 4096]
     ensures { λ r. ⌜ Ended r ⌝ }
 {
     let mut path = io::buffer();
-    programs::put(b"rules.out", &mut path);
+    answer_words::put(b"rules.out", &mut path);
     path[4095] = 0;
     path
 }

@@ -1,8 +1,5 @@
-pub mod Distinct
-pub mod Filling
-pub mod Entering
-pub mod ListedLaws
-pub mod MeansLaws
-pub mod EnteringLaws
-pub mod FillLaws
+pub mod InsideValues
+pub mod InsideFilling
 pub mod InsideLaws
+pub mod DistinctListedLaws
+pub mod DistinctLaws

@@ -1,6 +1,6 @@
 -- What scratch memory is filled with: the words of every part, worked out from the tables.
 -- Assumes nothing.
-use Prim.Native.Nat.{ℕ, _+_, _*_, _/_, _%_, _<_}
+use Prim.Native.Nat.{ℕ, _<_}
 use lib.Dec.{ltb}
 use lib.ListN.{getD}
 use mathlib.Core.Bool.{Bool, cond, _&&_}
@@ -8,21 +8,22 @@ use mathlib.Core.List.{List}
 use mathlib.Core.Path.{_≡_}
 use Rattle.mine_words.specs.PartWords.{atomsOf}
 use Rattle.grant_parts.specs.Parts.{isPartIn, classRow}
-use Rattle.mine_pairs.specs.Levels.{groupLevel}
+use Rattle.mine_pairs.specs.PairLevels.{groupLevel}
 use Rattle.mine_seats.specs.Seats.{usersAt, resourcesAt, operationsAt, restAt, restOf}
 use Rattle.mine_theory.specs.Words.Words.{Words}
+use Rattle.role_record.specs.Cells.{cellAt, cellRow, cellOperation}
 
 -- a part stands in seat k
 unfoldable pub seatIn : (holders permissions : List ℕ) → (operations roles k : ℕ) → Bool
-seatIn holders permissions operations roles k = ltb (k / 16) roles && (ltb (k % 16) operations && isPartIn holders permissions operations (k / 16) (k % 16))
+seatIn holders permissions operations roles k = ltb (cellRow k) roles && (ltb (cellOperation k) operations && isPartIn holders permissions operations (cellRow k) (cellOperation k))
 
 -- its words
 unfoldable pub seatWords : (links attributes holders permissions : List ℕ) → (operations k : ℕ) → Words
 seatWords links attributes holders permissions operations k = record {
-  users = getD holders (k / 16) 0;
-  resources = getD permissions (16 * (k / 16) + k % 16) 0;
-  ops = classRow permissions (k / 16) operations (k % 16);
-  atoms = atomsOf links attributes (getD holders (k / 16) 0) (getD permissions (16 * (k / 16) + k % 16) 0);
+  users = getD holders (cellRow k) 0;
+  resources = getD permissions (cellAt (cellRow k) (cellOperation k)) 0;
+  ops = classRow permissions (cellRow k) operations (cellOperation k);
+  atoms = atomsOf links attributes (getD holders (cellRow k) 0) (getD permissions (cellAt (cellRow k) (cellOperation k)) 0);
 }
 
 module _ (links matches known attributes holders permissions : List ℕ) (users resources operations roles : ℕ) where

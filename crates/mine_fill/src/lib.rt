@@ -4,6 +4,9 @@ ghost use mathlib.Core.Path.{_≡_};
 ghost use Prim.Native.Nat.{_≤_, _<_};
 ghost use Rattle.mine_fill.specs.Fill.{seatIn, seatWords, FilledWith, FilledTo};
 ghost use Rattle.mine_pairs.specs.Pairing.{wordsIn};
+ghost use Rattle.mine_seats.specs.Seats.{scratchWords};
+ghost use Rattle.role_record.specs.Cells.{roleCells};
+ghost use Rattle.role_record.specs.Record.{WithinLimits};
 use mine_pairs::Group;
 use mine_seats::Seat;
 use role_record::ByPlace;
@@ -13,8 +16,9 @@ use role_record::ByRoleOperation;
 use role_record::CountBySide;
 use role_record::Links;
 use role_record::RoleFile;
+use role_record::Sizes;
 
-// Whether a part stands in the seat: the part of role k / 16 with the lowest operation k % 16.
+// Whether a part stands in the seat: the part of the role and the lowest operation of that cell.
 fn is_seat<'a>(
     holders: &'a ByRole,
     permissions: &'a ByRoleOperation,
@@ -49,7 +53,7 @@ fn group_of<'a>(
     operations: usize,
     k: usize,
 ) -> Group
-    requires { ⌜ (operations ≤ 16) × (k < 512) ⌝ }
+    requires { ⌜ (operations ≤ 16) × (k < roleCells) ⌝ }
     ensures { λ g. ⌜
         wordsIn g
         ≡ seatWords (now (links .entry)) (now (attributes .entry)) (now (holders .entry)) (now (permissions .entry))
@@ -77,46 +81,28 @@ fn group_of<'a>(
 fn seat_of<'a>(
     links: &'a Links,
     matches: &'a ByPlaceMember,
-    known: &'a ByPlace,
+    knowing: &'a ByPlace,
     attributes: &'a CountBySide,
     holders: &'a ByRole,
     permissions: &'a ByRoleOperation,
-    users: usize,
-    resources: usize,
-    operations: usize,
-    roles: usize,
+    sizes: Sizes,
     k: usize,
 ) -> Seat
     requires { ⌜
-        (users ≤ 64)
-        × (resources ≤ 64)
-        × (operations ≤ 16)
-        × (roles ≤ 32)
+        WithinLimits sizes
         × (getD (now attributes) 0 0 ≤ 6)
         × (getD (now attributes) 1 0 ≤ 6)
-        × (k < 512) ⌝ }
+        × (k < roleCells) ⌝ }
     ensures { λ s. ⌜
-        FilledWith (now (links .entry)) (now (matches .entry)) (now (known .entry)) (now (attributes .entry))
-        (now (holders .entry)) (now (permissions .entry)) users resources operations roles k (s .users)
-        (s .resources) (s .operations) (s .rest) ⌝ }
+        FilledWith (now (links .entry)) (now (matches .entry)) (now (knowing .entry)) (now (attributes .entry))
+        (now (holders .entry)) (now (permissions .entry)) (sizes .users) (sizes .resources) (sizes .operations)
+        (sizes .roles) k (s .users) (s .resources) (s .operations) (s .rest) ⌝ }
 {
-    if is_seat(holders, permissions, operations, roles, k) {
-        let g = group_of(links, attributes, holders, permissions, operations, k);
-        let mut people = [0u64; RoleFile::ATTRIBUTES];
-        let mut things = [0u64; RoleFile::ATTRIBUTES];
-        mine_search::add_group(matches, g.users, g.resources, &mut people, &mut things);
-        let level = mine_pairs::level_of_group(
-            links,
-            matches,
-            &people,
-            &things,
-            known,
-            attributes,
-            users,
-            resources,
-            operations,
-            g,
-        );
+    if is_seat(holders, permissions, sizes.operations, sizes.roles, k) {
+        let g = group_of(links, attributes, holders, permissions, sizes.operations, k);
+        let mut met = [0u64; RoleFile::SIDES * RoleFile::ATTRIBUTES];
+        mine_matches::widen(matches, g.users, g.resources, &mut met);
+        let level = mine_pairs::level_of_group(links, matches, &met, knowing, attributes, sizes, g);
         let rest = mine_seats::pack(g.atoms, level, k);
         return Seat {
             users: g.users,
@@ -138,41 +124,32 @@ pub fn fill<'a>(
     scratch: &mut [u64],
     links: &'a Links,
     matches: &'a ByPlaceMember,
-    known: &'a ByPlace,
+    knowing: &'a ByPlace,
     attributes: &'a CountBySide,
     holders: &'a ByRole,
     permissions: &'a ByRoleOperation,
-    users: usize,
-    resources: usize,
-    operations: usize,
-    roles: usize,
+    sizes: Sizes,
 )
     requires { ⌜
-        (users ≤ 64)
-        × (resources ≤ 64)
-        × (operations ≤ 16)
-        × (roles ≤ 32)
+        WithinLimits sizes
         × (getD (now attributes) 0 0 ≤ 6)
         × (getD (now attributes) 1 0 ≤ 6)
-        × (length (now scratch) ≡ 2048) ⌝ }
+        × (length (now scratch) ≡ scratchWords) ⌝ }
     ensures { λ _. ⌜
-        (length (now (scratch .exit)) ≡ 2048)
-        × FilledTo (now (links .entry)) (now (matches .entry)) (now (known .entry)) (now (attributes .entry))
-        (now (holders .entry)) (now (permissions .entry)) users resources operations roles (now (scratch .exit))
-        512 ⌝ }
+        (length (now (scratch .exit)) ≡ scratchWords)
+        × FilledTo (now (links .entry)) (now (matches .entry)) (now (knowing .entry)) (now (attributes .entry))
+        (now (holders .entry)) (now (permissions .entry)) (sizes .users) (sizes .resources) (sizes .operations)
+        (sizes .roles) (now (scratch .exit)) roleCells ⌝ }
 {
     for k in 0..RoleFile::PARTS {
         let s = seat_of(
             links,
             matches,
-            known,
+            knowing,
             attributes,
             holders,
             permissions,
-            users,
-            resources,
-            operations,
-            roles,
+            sizes,
             k,
         );
         mine_seats::store(scratch, k, s);

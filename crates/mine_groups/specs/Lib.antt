@@ -1,4 +1,4 @@
-pub mod Seats
-pub mod SeatLaws
+pub mod SeatGroups
+pub mod SeatGroupLaws
 pub mod Scratch
 pub mod MergedLaws

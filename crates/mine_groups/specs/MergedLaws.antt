@@ -1,23 +1,20 @@
 -- What is worked out head by head in scratch is what the groups that merging leaves come to.
 -- Assumes nothing.
-use Prim.Native.Nat.{ℕ, suc, _+_, _<_}
-use lib.ListN.{length}
-use mathlib.Core.Bool.{Bool, cond}
+use Prim.Native.Nat.{ℕ, _+_, _<_}
+use lib.ListN.{length, length-map}
 use mathlib.Core.List.{List, [], _∷_, _++_, map, List·Memᴰ·head, List·Memᴰ·tail}
-use mathlib.Core.Path.{_≡_, refl, ap, ap₂, _∙_}
+use mathlib.Core.Path.{_≡_, refl, ap, ap₂, _∙_, sym}
 use Rattle.mine_theory.specs.Search.Frontier.{groupsIn}
 use Rattle.policy.specs.Policy.{Policy}
+use Rattle.role_record.specs.Cells.{roleCells}
+use Rattle.sets.specs.ListLaws.{keep-ext}
 use Rattle.sets.specs.Tests.{Is, _isIn_, keep, each, upTo, sum}
 use Rattle.sets.specs.TestLaws.{keep-out, upTo-out}
 use Rattle.mine_seats.specs.Seats.{isPartAt, isHeadAt}
 use Rattle.mine_groups.specs.Scratch.{Merged}
-use Rattle.mine_groups.specs.Seats.{isSeat, seatsOf, seatGroups}
+use Rattle.mine_groups.specs.SeatGroups.{isSeat, seatsOf, seatGroups}
 
 -- ---- lists
-
-keep-ext : (f g : ℕ → Bool) (l : List ℕ) → ((x : ℕ) → x isIn l → f x ≡ g x) → keep f l ≡ keep g l
-keep-ext f g [] h = refl
-keep-ext f g (x ∷ l) h = ap₂ (λ (b : Bool) (r : List ℕ). cond b (x ∷ r) r) (h x (List·Memᴰ·head refl)) (keep-ext f g l (λ y m. h y (List·Memᴰ·tail m)))
 
 each-map : {A B C : Type 0} (f : B → List C) (g : A → B) (h : A → List C) (l : List A) → ((x : A) → x isIn l → h x ≡ f (g x)) → each h l ≡ each f (map g l)
 each-map f g h [] e = refl
@@ -27,34 +24,30 @@ sum-map : {A B : Type 0} (f : B → ℕ) (g : A → B) (h : A → ℕ) (l : List
 sum-map f g h [] e = refl
 sum-map f g h (x ∷ l) e = ap₂ _+_ (e x (List·Memᴰ·head refl)) (sum-map f g h l (λ y m. e y (List·Memᴰ·tail m)))
 
-length-map : {A B : Type 0} (g : A → B) (l : List A) → length l ≡ length (map g l)
-length-map g [] = refl
-length-map g (x ∷ l) = ap suc (length-map g l)
-
 -- the heads that scratch has
 abbrev pub headsIn : List ℕ → List ℕ
-headsIn t = keep (isHeadAt t) (upTo 512)
+headsIn t = keep (isHeadAt t) (upTo roleCells)
 
 module _ (F : Policy) (t : List ℕ) (M : Merged F t) where
-  heads-alive : headsIn t ≡ keep (M .groups .alive) (upTo 512)
-  heads-alive = keep-ext (isHeadAt t) (M .groups .alive) (upTo 512) (λ i m. M .shown .heads i (upTo-out 512 m))
+  heads-alive : headsIn t ≡ keep (M .groups .alive) (upTo roleCells)
+  heads-alive = keep-ext (isHeadAt t) (M .groups .alive) (upTo roleCells) (λ i m. M .shown .heads i (upTo-out roleCells m))
 
-  groups-listed : map (M .groups .group) (keep (M .groups .alive) (upTo 512)) ≡ seatGroups F
+  groups-listed : map (M .groups .group) (keep (M .groups .alive) (upTo roleCells)) ≡ seatGroups F
   unfolding groupsIn
   groups-listed = M .left
 
   -- what is listed head by head
-  pub heads-each : {C : Type 0} (f : List ℕ → List C) (h : ℕ → List C) → ((i : ℕ) → i < 512 → Is (M .groups .alive i) → h i ≡ f (M .groups .group i)) → each h (headsIn t) ≡ each f (seatGroups F)
-  heads-each f h e = ap (each h) heads-alive ∙ each-map f (M .groups .group) h (keep (M .groups .alive) (upTo 512)) (λ i m. let k = keep-out (M .groups .alive) (upTo 512) m in e i (upTo-out 512 (k .0)) (k .1)) ∙ ap (each f) groups-listed
+  pub heads-each : {C : Type 0} (f : List ℕ → List C) (h : ℕ → List C) → ((i : ℕ) → i < roleCells → Is (M .groups .alive i) → h i ≡ f (M .groups .group i)) → each h (headsIn t) ≡ each f (seatGroups F)
+  heads-each f h e = ap (each h) heads-alive ∙ each-map f (M .groups .group) h (keep (M .groups .alive) (upTo roleCells)) (λ i m. let k = keep-out (M .groups .alive) (upTo roleCells) m in e i (upTo-out roleCells (k .0)) (k .1)) ∙ ap (each f) groups-listed
 
   -- what is added up
-  pub heads-sum : (f : List ℕ → ℕ) (h : ℕ → ℕ) → ((i : ℕ) → i < 512 → Is (M .groups .alive i) → h i ≡ f (M .groups .group i)) → sum h (headsIn t) ≡ sum f (seatGroups F)
-  heads-sum f h e = ap (sum h) heads-alive ∙ sum-map f (M .groups .group) h (keep (M .groups .alive) (upTo 512)) (λ i m. let k = keep-out (M .groups .alive) (upTo 512) m in e i (upTo-out 512 (k .0)) (k .1)) ∙ ap (sum f) groups-listed
+  pub heads-sum : (f : List ℕ → ℕ) (h : ℕ → ℕ) → ((i : ℕ) → i < roleCells → Is (M .groups .alive i) → h i ≡ f (M .groups .group i)) → sum h (headsIn t) ≡ sum f (seatGroups F)
+  heads-sum f h e = ap (sum h) heads-alive ∙ sum-map f (M .groups .group) h (keep (M .groups .alive) (upTo roleCells)) (λ i m. let k = keep-out (M .groups .alive) (upTo roleCells) m in e i (upTo-out roleCells (k .0)) (k .1)) ∙ ap (sum f) groups-listed
 
   -- and how many there are
   pub heads-count : length (headsIn t) ≡ length (seatGroups F)
-  heads-count = ap length heads-alive ∙ length-map (M .groups .group) (keep (M .groups .alive) (upTo 512)) ∙ ap length groups-listed
+  heads-count = ap length heads-alive ∙ sym (length-map (keep (M .groups .alive) (upTo roleCells)) (M .groups .group)) ∙ ap length groups-listed
 
-  pub parts-count : length (keep (isPartAt t) (upTo 512)) ≡ length (seatsOf F)
+  pub parts-count : length (keep (isPartAt t) (upTo roleCells)) ≡ length (seatsOf F)
   unfolding seatsOf
-  parts-count = ap length (keep-ext (isPartAt t) (isSeat F) (upTo 512) (λ i m. M .shown .seats i (upTo-out 512 m)))
+  parts-count = ap length (keep-ext (isPartAt t) (isSeat F) (upTo roleCells) (λ i m. M .shown .seats i (upTo-out roleCells m)))

@@ -1,4 +1,4 @@
--- The marks of heads in scratch memory: a bit for each slot, in eight words.
+-- The marks of heads in scratch memory: a bit for each seat, in eight words.
 -- Assumes nothing.
 use Prim.Native.Nat.{ℕ, _/_, _%_, _<_}
 use lib.Dec.{eqb}
@@ -8,24 +8,25 @@ use mathlib.Core.List.{List}
 use mathlib.Core.Path.{_≡_}
 use Rattle.mine_pairs.specs.Pairing.{reaches}
 use Rattle.mine_seats.specs.Seats.{wordsAt, isHeadAt}
+use Rattle.role_record.specs.Cells.{roleCells}
 use Rattle.sets.specs.Sets.{bit, maskOf}
 use Rattle.sets.specs.Tests.{Is}
 
--- slot k is marked: bit k % 64 of word k / 64
-abbrev pub marked : List ℕ → ℕ → Bool
-marked marks k = bit (getD marks (k / 64) 0) (k % 64)
+-- seat k is marked: bit k % 64 of word k / 64
+abbrev pub isMarked : List ℕ → ℕ → Bool
+isMarked marks k = bit (getD marks (k / 64) 0) (k % 64)
 
--- slot j without its mark
+-- seat j without its mark
 abbrev pub unmarked : List ℕ → ℕ → List ℕ
 unmarked marks j = set marks (j / 64) (maskOf 64 (λ k. bit (getD marks (j / 64) 0) k && not (eqb k (j % 64))))
 
--- the heads are marked, and no other slots
+-- the heads are marked, and no other seats
 pub record Marked (marks t : List ℕ) : Type 0 where
   pub long : length marks ≡ 8
-  pub right : (k : ℕ) → k < 512 → marked marks k ≡ isHeadAt t k
+  pub right : (k : ℕ) → k < roleCells → isMarked marks k ≡ isHeadAt t k
 
--- heads are marked, and among them all that reach the group of slot c
+-- heads are marked, and among them all that reach the group of seat c
 pub record Open (marks t : List ℕ) (c : ℕ) : Type 0 where
   pub long : length marks ≡ 8
-  pub heads : (k : ℕ) → k < 512 → Is (marked marks k) → Is (isHeadAt t k)
-  pub far : (k : ℕ) → k < 512 → (k ≡ c → ⊥) → Is (isHeadAt t k) → marked marks k ≡ false → reaches (wordsAt t k) (wordsAt t c) ≡ false
+  pub heads : (k : ℕ) → k < roleCells → Is (isMarked marks k) → Is (isHeadAt t k)
+  pub far : (k : ℕ) → k < roleCells → (k ≡ c → ⊥) → Is (isHeadAt t k) → isMarked marks k ≡ false → reaches (wordsAt t k) (wordsAt t c) ≡ false

@@ -1,30 +1,31 @@
--- The laws of a join: the words of scratch memory, the heads and their marks, and the tables of the group; and of the last pass over the
+-- The laws of a join: the words of scratch memory, the heads and their marks, and the table of the group; and of the last pass over the
 -- heads.
 -- Assumes nothing.
-use Prim.Native.Nat.{ℕ, _+_, _/_, _%_, _^_, _≤_, _<_, max, min}
-use borrow.Author.Tests.{eqb-true, eqb-false, eq-eqb, ne-eqb, ltb-false, ltb-true}
+use Prim.Native.Nat.{ℕ, _+_, _/_, _%_, _-_, _^_, _≤_, _<_, max, min}
+use borrow.Author.Tests.{eqb-true, eqb-false, eq-eqb, ne-eqb, ltb-false, ltb-true, not-true}
 use lib.Dec.{eqb, ltb}
-use lib.ListN.{length, getD, length-set}
+use lib.ListN.{length, getD, length-set, drop}
 use mathlib.Core.Bool.{Bool, false, _&&_, not, _||_, and-true, and-false}
 use mathlib.Core.List.{List}
 use mathlib.Core.Logic.{_⊎_, inl, inr, ⊎-elim}
 use mathlib.Core.Path.{_≡_, refl, sym, ap, _∙_, ap₂, subst}
 use native.Mathlib.Omega.{arith}
-use Rattle.mine_matches.specs.Matches.{Met, both}
+use Rattle.mine_matches.specs.Matches.{Met, bothMembers, SidesMet}
 use Rattle.mine_heads.specs.HeadLaws.{unmarked-at}
-use Rattle.mine_heads.specs.Heads.{marked, unmarked, Marked, Open}
+use Rattle.mine_heads.specs.Heads.{isMarked, unmarked, Marked, Open}
 use Rattle.mine_join.specs.Joins.{TakenIn, Joined, Joinable, Resolved}
-use Rattle.mine_search.specs.MetLaws.{beside-met, group-begun}
-use Rattle.mine_search.specs.Search.{GroupMet}
-use Rattle.mine_pairs.specs.FitLaws.{words-same}
+use Rattle.mine_search.specs.SearchMetLaws.{beside-met, group-begun}
+use Rattle.mine_search.specs.PartnerSearch.{GroupMet}
 use Rattle.mine_pairs.specs.Pairing.{reaches, less}
 use Rattle.mine_seats.specs.SeatLaws.{atoms-packed, level-packed, head-packed, stored-users, stored-resources, stored-operations, stored-rest, stored-kept, stored-kept-rest, atoms-low, stored-long, taken-long, taken-kept, taken-other, taken-low, taken-head}
-use Rattle.mine_seats.specs.Seats.{usersAt, resourcesAt, operationsAt, restAt, levelIn, headIn, restOf, wordsAt, isPartAt, isHeadAt, stored, headTaken, Kept, atomsIn, lowIn}
+use Rattle.mine_seats.specs.Seats.{usersAt, resourcesAt, operationsAt, restAt, levelIn, headIn, restOf, wordsAt, isPartAt, isHeadAt, storedSeat, headTaken, Kept, atomsIn, lowIn, scratchWords}
+use Rattle.role_record.specs.Cells.{roleCells}
 use Rattle.sets.specs.MaskLaws.{bit-out, bits-same, mask-lt, mask-same, mask-wide}
 use Rattle.sets.specs.SetLaws.{bit-none, bit-mask, subset-in, subset-chain}
 use Rattle.sets.specs.Sets.{bit, maskOf, subset}
-use Rattle.sets.specs.TestLaws.{or-l, never, test, fails, and-in, and-l, and-r, or-r, or-out, not-out}
+use Rattle.sets.specs.TestLaws.{or-l, never, test, fails, and-in, and-l, and-r, or-r, or-out}
 use Rattle.sets.specs.Tests.{Is}
+use Rattle.mine_theory.specs.Words.WordLaws.{words-same}
 use Rattle.mine_theory.specs.Words.Words.{Words, joined}
 
 -- ---- the words
@@ -44,30 +45,30 @@ some-stay : {a : ℕ} (b c : ℕ) → c < 2 ^ 64 → a ≡ maskOf 64 (λ k. bit 
 some-stay {a} b c h e f o = never o (ap not (eq-eqb c 0 (bits-same 64 c 0 h (omega arith) (λ k l. fails (bit c k) (λ p. never (or-l (bit b k) p) (sym (bit-mask 64 (λ k. bit c k || bit b k) k l) ∙ ap (λ (x : ℕ). bit x k) (sym e ∙ f) ∙ bit-none k)) ∙ sym (bit-none k)))))
 
 -- the words of both groups, stored in seat i
-pub taken-in : {u : List ℕ} {W X : Words} {a b c d m : ℕ} (t : List ℕ) (i j level : ℕ) → length t ≡ 2048 → i < 512 → level < 4 → W ≡ wordsAt t i → X ≡ wordsAt t j
+pub taken-in : {u : List ℕ} {W X : Words} {a b c d m : ℕ} (t : List ℕ) (i j level : ℕ) → length t ≡ scratchWords → i < roleCells → level < 4 → W ≡ wordsAt t i → X ≡ wordsAt t j
     → m ≡ maskOf 64 (λ k. bit (W .atoms) k && bit (X .atoms) k) → d ≡ restOf m level i → a ≡ maskOf 64 (λ k. bit (W .users) k || bit (X .users) k)
-    → b ≡ maskOf 64 (λ k. bit (W .resources) k || bit (X .resources) k) → c ≡ maskOf 64 (λ k. bit (W .ops) k || bit (X .ops) k) → usersAt t i < 2 ^ 64 → u ≡ stored t i a b c d → TakenIn t u i j level
+    → b ≡ maskOf 64 (λ k. bit (W .resources) k || bit (X .resources) k) → c ≡ maskOf 64 (λ k. bit (W .ops) k || bit (X .ops) k) → usersAt t i < 2 ^ 64 → u ≡ storedSeat t i a b c d → TakenIn t u i j level
 unfolding joined
 taken-in {u} {W} {X} {a} {b} {c} {d} {m} t i j level long l low p q e f g h k z s = rw s (record {
   long = stored-long t i a b c d ∙ long;
-  words = words-same (stored-users t i a b c d long l ∙ g) (stored-resources t i a b c d long l ∙ h) (stored-operations t i a b c d long l ∙ k) (ap atomsIn rest ∙ atoms-packed m level i few low ∙ e) ∙ both;
+  words = words-same (stored-users t i a b c d long l ∙ g) (stored-resources t i a b c d long l ∙ h) (stored-operations t i a b c d long l ∙ k) (ap atomsIn rest ∙ atoms-packed m level i few low ∙ e) ∙ bothMembers;
   level-set = ap levelIn rest ∙ level-packed m level i few low;
   head = ap headIn rest ∙ head-packed m level i few low;
-  part = λ o. ap not (ne-eqb (usersAt (stored t i a b c d) i) 0 (λ y. some-stay (X .users) (usersAt t i) z (g ∙ ap (λ (Y : Words). maskOf 64 (λ k. bit (Y .users) k || bit (X .users) k)) p) (sym (stored-users t i a b c d long l) ∙ y) o));
+  part = λ o. ap not (ne-eqb (usersAt (storedSeat t i a b c d) i) 0 (λ y. some-stay (X .users) (usersAt t i) z (g ∙ ap (λ (Y : Words). maskOf 64 (λ k. bit (Y .users) k || bit (X .users) k)) p) (sym (stored-users t i a b c d long l) ∙ y) o));
   others = λ n d. (stored-kept t i a b c _ n d, stored-kept-rest t i a b c _ n d);
 })
   where
     few : m < 2 ^ 36
     few = meet-low (X .atoms) (atoms-low t i p) e
 
-    rest : restAt (stored t i a b c d) i ≡ restOf m level i
+    rest : restAt (storedSeat t i a b c d) i ≡ restOf m level i
     rest = stored-rest t i a b c d long l ∙ f
 
-    both : joined W X ≡ joined (wordsAt t i) (wordsAt t j)
-    both = rw (p, q) refl
+    bothMembers : joined W X ≡ joined (wordsAt t i) (wordsAt t j)
+    bothMembers = rw (p, q) refl
 
 -- seat i takes in seat j's group, and seat j takes the head that seat i names
-pub joined-seats : {t u v : List ℕ} {i j level : ℕ} → i < j → j < 512 → TakenIn t u i j level → v ≡ headTaken u j i → Joined t v i j level
+pub joined-seats : {t u v : List ℕ} {i j level : ℕ} → i < j → j < roleCells → TakenIn t u i j level → v ≡ headTaken u j i → Joined t v i j level
 joined-seats {t} {u} {v} {i} {j} h l T e = rw e (record {
   long = taken-long u j i ∙ T .long;
   words = let o = taken-kept u j i i in words-same (o .users) (o .resources) (o .operations) (ap atomsIn own) ∙ T .words;
@@ -99,7 +100,7 @@ module _ {t u : List ℕ} {i j level : ℕ} (order : i < j) (J : Joined t u i j 
       other di dj = ap₂ (λ (x y : ℕ). not (eqb x 0) && eqb (headIn y) k) (J .kept k di .users) (J .others k di dj) ∙ sym (ap (λ (b : Bool). isHeadAt t k && not b) (ne-eqb k j dj) ∙ and-true (isHeadAt t k))
 
 -- a join takes the mark of seat j away
-pub marks-joined : {t u marks new : List ℕ} {i j level : ℕ} → i < j → j < 512 → Joined t u i j level → Is (isHeadAt t i) → Marked marks t → new ≡ unmarked marks j → Marked new u
+pub marks-joined : {t u marks new : List ℕ} {i j level : ℕ} → i < j → j < roleCells → Joined t u i j level → Is (isHeadAt t i) → Marked marks t → new ≡ unmarked marks j → Marked new u
 marks-joined {t} {u} {marks} {new} {i} {j} order l J a M e = rw e (record {
   long = length-set marks (j / 64) (maskOf 64 (λ x. bit (getD marks (j / 64) 0) x && not (eqb x (j % 64)))) ∙ M .long;
   right = λ k h. unmarked-at marks j k (M .long) l ∙ ap (λ (b : Bool). b && not (eqb k j)) (M .right k h) ∙ sym (joined-head order J a k);
@@ -130,7 +131,7 @@ second-within m n h = subset-in n (maskOf 64 (λ k. bit m k || bit n k)) λ k x.
     (λ e. bit-mask 64 (λ k. bit m k || bit n k) k (ltb-true k 64 e) ∙ or-r (bit m k) x)
     (λ e. never x (bit-out 64 n k h (ltb-false k 64 e)))
 
-module _ {t u : List ℕ} {i j level : ℕ} (order : i < j) (l : j < 512) (J : Joined t u i j level) (a : Is (isHeadAt t i)) (c : ℕ) (one : (c ≡ i) ⊎ (c ≡ j)) where
+module _ {t u : List ℕ} {i j level : ℕ} (order : i < j) (l : j < roleCells) (J : Joined t u i j level) (a : Is (isHeadAt t i)) (c : ℕ) (one : (c ≡ i) ⊎ (c ≡ j)) where
   users-grow : usersAt t c < 2 ^ 64 → Is (subset (usersAt t c) (wordsAt u i .users))
   unfolding joined
   users-grow h = subst (λ (m : ℕ). Is (subset (usersAt t c) m)) (sym (ap (λ (W : Words). W .users) (J .words))) (⊎-elim
@@ -149,11 +150,11 @@ module _ {t u : List ℕ} {i j level : ℕ} (order : i < j) (l : j < 512) (J : J
     long = length-set marks (j / 64) (maskOf 64 (λ x. bit (getD marks (j / 64) 0) x && not (eqb x (j % 64)))) ∙ O .long;
     heads = λ k h m.
         let b = sym (unmarked-at marks j k (O .long) l) ∙ m in
-        joined-head order J a k ∙ and-in (O .heads k h (and-l (marked marks k) _ b)) (and-r (marked marks k) _ b);
+        joined-head order J a k ∙ and-in (O .heads k h (and-l (isMarked marks k) _ b)) (and-r (isMarked marks k) _ b);
     far = λ k h d b m.
         let w = sym (joined-head order J a k) ∙ b in
-        let dj = eqb-false k j (not-out (eqb k j) (and-r (isHeadAt t k) _ w)) in
-        let closed : marked marks k ≡ false = sym (ap (λ (x : Bool). marked marks k && not x) (ne-eqb k j dj) ∙ and-true (marked marks k)) ∙ sym (unmarked-at marks j k (O .long) l) ∙ m in
+        let dj = eqb-false k j (not-true (eqb k j) (and-r (isHeadAt t k) _ w)) in
+        let closed : isMarked marks k ≡ false = sym (ap (λ (x : Bool). isMarked marks k && not x) (ne-eqb k j dj) ∙ and-true (isMarked marks k)) ∙ sym (unmarked-at marks j k (O .long) l) ∙ m in
         let K = J .kept k d in
         let r = J .others k d dj in
         ap (λ (X : Words). reaches X (wordsAt u i)) (alike K r)
@@ -163,27 +164,25 @@ module _ {t u : List ℕ} {i j level : ℕ} (order : i < j) (l : j < 512) (J : J
       alike : {k : ℕ} → Kept t u k → restAt u k ≡ restAt t k → wordsAt u k ≡ wordsAt t k
       alike K r = rw (K .users, K .resources, K .operations, r) refl
 
--- ---- the tables of who meets the values of the members
+-- ---- the table of who meets the values of the members
 
 module _ (matches : List ℕ) where
   -- the members of one group alone
-  pub group-first : {us rs : ℕ} (t : List ℕ) (c : ℕ) (people things : List ℕ) → us ≡ usersAt t c → rs ≡ resourcesAt t c
-      → Met matches 0 (both 0 us) people → Met matches 1 (both 0 rs) things → GroupMet matches t c people things
-  group-first t c people things e f h k =
-      group-begun matches t c people things (subst (λ (m : ℕ). Met matches 0 (both 0 m) people) e h) (subst (λ (m : ℕ). Met matches 1 (both 0 m) things) f k)
+  pub group-first : {us rs : ℕ} (t : List ℕ) (c : ℕ) (met : List ℕ) → us ≡ usersAt t c → rs ≡ resourcesAt t c → SidesMet matches (bothMembers 0 us) (bothMembers 0 rs) met → GroupMet matches t c met
+  group-first t c met e f h = group-begun matches t c met (subst (λ (m : ℕ). Met matches 0 (bothMembers 0 m) met) e (h .0), subst (λ (m : ℕ). Met matches 1 (bothMembers 0 m) (drop 6 met)) f (h .1))
 
   -- after a join the head has the members of both groups
-  pub group-joined : {t u : List ℕ} {i j level us rs : ℕ} (c k : ℕ) (people things : List ℕ) → Joined t u i j level → i ≡ min c k → j ≡ max c k → us ≡ usersAt t k → rs ≡ resourcesAt t k
-      → Met matches 0 (both (usersAt t c) us) people → Met matches 1 (both (resourcesAt t c) rs) things → GroupMet matches u i people things
-  unfolding joined both
-  group-joined {t} {u} {i} {j} c k people things w p q e f h l = record {
-    of-users = subst (λ (m : ℕ). Met matches 0 m people) (sym (ap (λ (W : Words). W .users) (w .words))) (beside-met matches 0 (usersAt t) c k people p q (subst (λ (m : ℕ). Met matches 0 (both (usersAt t c) m) people) e h));
-    of-resources = subst (λ (m : ℕ). Met matches 1 m things) (sym (ap (λ (W : Words). W .resources) (w .words))) (beside-met matches 1 (resourcesAt t) c k things p q (subst (λ (m : ℕ). Met matches 1 (both (resourcesAt t c) m) things) f l));
-  }
+  pub group-joined : {t u : List ℕ} {i j level us rs : ℕ} (c k : ℕ) (met : List ℕ) → Joined t u i j level → i ≡ min c k → j ≡ max c k → us ≡ usersAt t k → rs ≡ resourcesAt t k
+      → SidesMet matches (bothMembers (usersAt t c) us) (bothMembers (resourcesAt t c) rs) met → GroupMet matches u i met
+  unfolding joined bothMembers
+  group-joined {t} {u} {i} {j} c k met w p q e f h = (
+    subst (λ (m : ℕ). Met matches 0 m met) (sym (ap (λ (W : Words). W .users) (w .words))) (beside-met matches 0 (usersAt t) c k met p q (subst (λ (m : ℕ). Met matches 0 (bothMembers (usersAt t c) m) met) e (h .0))),
+    subst (λ (m : ℕ). Met matches 1 m (drop 6 met)) (sym (ap (λ (W : Words). W .resources) (w .words))) (beside-met matches 1 (resourcesAt t) c k (drop 6 met) p q (subst (λ (m : ℕ). Met matches 1 (bothMembers (resourcesAt t c) m) (drop 6 met)) f (h .1))),
+  )
 
 -- ---- two seats in order
 
-pub in-order : {t : List ℕ} {c k level i j : ℕ} → Joinable t c k level → i ≡ min c k → j ≡ max c k → (i < j) × (j < 512) × Is (isHeadAt t i)
+pub in-order : {t : List ℕ} {c k level i j : ℕ} → Joinable t c k level → i ≡ min c k → j ≡ max c k → (i < j) × (j < roleCells) × Is (isHeadAt t i)
 in-order {t} J e f = let o = J .order in let b = J .below in (omega arith, omega arith, subst (λ (x : ℕ). Is (isHeadAt t x)) (sym e) (J .head))
 
 pub joined-same : {t u : List ℕ} {i j y level : ℕ} → j ≡ y → Joined t u i j level → Joined t u i y level
@@ -193,7 +192,7 @@ joined-same {t} {u} {i} {j} {y} {level} f J = subst (λ (k : ℕ). Joined t u i 
 
 -- the seats before n are resolved, and the others are as they were
 pub record ResolvedTo (t u : List ℕ) (n : ℕ) : Type 0 where
-  pub long : length u ≡ 2048
+  pub long : length u ≡ scratchWords
   pub kept : (k : ℕ) → Kept t u k
   pub low : (k : ℕ) → k < n → lowIn (restAt u k) ≡ lowIn (restAt t k)
   pub own : (k : ℕ) → k < n → headIn (restAt t k) ≡ k → headIn (restAt u k) ≡ k
@@ -202,7 +201,7 @@ pub record ResolvedTo (t u : List ℕ) (n : ℕ) : Type 0 where
 
 module _ (t : List ℕ) where
   -- none is resolved at first
-  pub resolve-none : length t ≡ 2048 → ResolvedTo t t 0
+  pub resolve-none : length t ≡ scratchWords → ResolvedTo t t 0
   resolve-none h = record {
     long = h;
     kept = λ k. record { users = refl; resources = refl; operations = refl };
@@ -213,7 +212,7 @@ module _ (t : List ℕ) where
   }
 
   -- one more
-  pub resolve-turn : {u v : List ℕ} {n h p : ℕ} → n < 512 → ResolvedTo t u n → h ≡ headIn (restAt u n) → p ≡ min h 511 → v ≡ headTaken u n p → ResolvedTo t v (n + 1)
+  pub resolve-turn : {u v : List ℕ} {n h p : ℕ} → n < roleCells → ResolvedTo t u n → h ≡ headIn (restAt u n) → p ≡ min h (roleCells - 1) → v ≡ headTaken u n p → ResolvedTo t v (n + 1)
   resolve-turn {u} {v} {n} {h} {p} l R f g e = rw e (record {
     long = taken-long u n p ∙ R .long;
     kept = λ k. let o = R .kept k in let m = taken-kept u n p k in record { users = m .users ∙ o .users; resources = m .resources ∙ o .resources; operations = m .operations ∙ o .operations };
@@ -228,12 +227,12 @@ module _ (t : List ℕ) where
       by-turn : (k : ℕ) → k < n + 1 → (P : ℕ → Type 0) → P n → (k < n → P k) → P k
       by-turn k b P x y = test (eqb k n) (λ q. rw (eqb-true k n q) x) (λ q. let d = eqb-false k n q in y (omega arith))
 
-      here : (x : ℕ) → x < 512 → headIn (restAt t n) ≡ x → headIn (restAt (headTaken u n p) n) ≡ headIn (restAt u x)
+      here : (x : ℕ) → x < roleCells → headIn (restAt t n) ≡ x → headIn (restAt (headTaken u n p) n) ≡ headIn (restAt u x)
       here x b q =
           let o = ap headIn (R .left n (omega arith)) in
           let z : p ≡ x = omega arith in
           taken-head u n p (R .long) l ∙ ap (λ (y : ℕ). headIn (restAt u y)) z
 
   -- all are resolved at the end
-  pub resolve-end : {u : List ℕ} {n : ℕ} → ResolvedTo t u n → 512 ≤ n → Resolved t u
+  pub resolve-end : {u : List ℕ} {n : ℕ} → ResolvedTo t u n → roleCells ≤ n → Resolved t u
   resolve-end R h = record { long = R .long; kept = R .kept; low = λ k l. R .low k (omega arith); own = λ k l. R .own k (omega arith); named = λ k l. R .named k (omega arith) }

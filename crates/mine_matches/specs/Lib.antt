@@ -1,4 +1,5 @@
 pub mod Matches
-pub mod TableLaws
+pub mod MatchTableLaws
 pub mod MetLaws
 pub mod MatchLaws
+pub mod ValueMeansLaws

@@ -1,35 +1,38 @@
 -- What the tables of a policy's record say: who knows an attribute, who meets whose value, and who passes the conjuncts of some members.
 -- Assumes nothing.
 use Prim.Native.Nat.{ℕ, zero, suc, _+_, _*_, _/_, _%_, _^_, _≤_, _<_}
-use borrow.Author.Tests.{eqb-true, eqb-false, eq-eqb, ne-eqb, ltb-true, ltb-false, lt-ltb, le-ltb}
+use borrow.Author.Tests.{eqb-true, eqb-false, eq-eqb, ne-eqb, ltb-true, lt-ltb, le-ltb}
 use lib.Dec.{eqb, ltb}
 use lib.ListN.{length, getD}
-use mathlib.Core.Bool.{Bool, true, false, cond, _&&_, _||_}
-use mathlib.Core.List.{List, [], _∷_, _++_, List·Memᴰ·append-cases, Memᴰ·append-left, Memᴰ·append-right}
-use mathlib.Core.Logic.{_⊎_, inl, inr, ⊎-elim}
+use mathlib.Core.Bool.{Bool, true, false, cond, _&&_, _||_, and-true, or-false}
+use mathlib.Core.List.{List, [], _∷_, _++_}
+use mathlib.Core.Logic.{⊎-elim}
 use mathlib.Core.Option.{Option, none, some}
 use mathlib.Core.Path.{_≡_, refl, sym, ap, ap₂, _∙_, subst}
 use native.Mathlib.Omega.{arith}
-use Rattle.role_admit.specs.AdmitLaws.{side-kinds, column-side, column-known}
-use Rattle.role_admit.specs.TableLaws.{holders-shown}
-use Rattle.rule_conjuncts.specs.Summary.{placeSide, placeAttribute}
-use Rattle.rule_conjuncts.specs.SummaryLaws.{all-append, all-same}
+use Rattle.role_admit.specs.AdmitLaws.{side-kinds, column-known}
+use Rattle.role_admit.specs.RoleTableLaws.{holders-shown}
 use Rattle.files.specs.RoleFile.{sideBy}
 use Rattle.files.specs.RuleFile.{legal, value}
-use Rattle.role_record.specs.Record.{Sized, columnSide, numberOr, knownTable, valueTable, kindTable, recordWith, recordOf}
-use Rattle.role_record.specs.RecordLaws.{table-get}
-use Rattle.mine_matches.specs.Matches.{countAt, knownFor, knownPlaces, heldRoles, valueFor, matchWord, matchTable, metOf, passingOf, knownIn, matchesIn}
-use Rattle.rule_meeting.specs.MeansLaws.{meeting-means}
+use Rattle.role_record.specs.Places.{placeSide, placeAttribute}
+use Rattle.role_record.specs.Record.{Sized, numberOr, knownTable, valueTable, kindTable, recordWith, recordOf}
+use Rattle.role_record.specs.RecordLaws.{table-get, side-room, attributes-room, value-shown}
+use Rattle.mine_matches.specs.Matches.{knownFor, knownPlaces, matchWord, matchTable, metOf, passingOf, knownIn, matchesIn}
+use Rattle.rule_meeting.specs.MeetingMeansLaws.{meeting-means}
 use Rattle.rule_meeting.specs.Meeting.{meetingOf}
 use Rattle.policy.specs.Covering.{allKnow}
 use Rattle.policy.specs.Policy.{Policy, kindOf, held, rolesOf, isSetAt, valueAt, sideOf, settingOf, rolesIn}
+use Rattle.policy.specs.PolicyLaws.{attributes-of}
 use Rattle.policy.specs.Rules.{own, Side, Which, by, both, admits, meets, attrsOf, user, resource}
-use Rattle.sets.specs.MaskLaws.{or-false, and-true, bit-out, mask-lt, mask-same, mask-none}
+use Rattle.policy.specs.SideLaws.{declared-in, own-in}
+use Rattle.sets.specs.ListLaws.{all-append, all-ext}
+use Rattle.sets.specs.MaskLaws.{mask-lt, mask-same, mask-none, bit-low}
 use Rattle.sets.specs.SetLaws.{subset-out, subset-in, bit-mask}
 use Rattle.sets.specs.Sets.{bit, subset, maskOf}
-use Rattle.sets.specs.TestLaws.{and-in, and-l, and-r, never, test, same, iff-in, all-out, all-in, any-in, any-out, keep-in, keep-out, only-in, only-out, upTo-in, upTo-out}
+use Rattle.sets.specs.TestLaws.{and-in, and-l, and-r, test, same, iff-in, all-out, all-in, any-in, any-out, keep-in, keep-out, upTo-in, upTo-out}
 use Rattle.sets.specs.Tests.{Is, imp, _isIn_, all, any, keep, only, upTo, isSome}
 use Rattle.mine_theory.specs.Words.Words.{metBy, passes}
+use Rattle.grant_values.specs.PlaceValues.{countAt, heldRoles, valueFor}
 
 -- ---- places
 
@@ -46,23 +49,6 @@ count-side F i = go (ltb i 7)
     go true = refl
     go false = refl
 
--- the attributes that a rule may use: those declared and the 255
-attribute-cases : (F : Policy) (w : Which) (a : ℕ) → a isIn attrsOf (settingOf F .side w) true → (a < length (F .table w .kinds)) ⊎ (a ≡ own)
-unfolding attrsOf settingOf sideOf
-attribute-cases F w a m = ⊎-elim (λ k. inl (upTo-out (length (F .table w .kinds)) k)) (λ k. inr (only-out true k .1)) (List·Memᴰ·append-cases (upTo (length (F .table w .kinds))) m)
-
-declared-in : (S : Side) (a : ℕ) → a < S .attrs → a isIn attrsOf S true
-unfolding attrsOf
-declared-in S a l = Memᴰ·append-left (only true own) (upTo-in l)
-
-own-in : (S : Side) → own isIn attrsOf S true
-unfolding attrsOf
-own-in S = Memᴰ·append-right (upTo (S .attrs)) (only-in own refl)
-
--- a set of those on a side has nobody else
-member-there : (n m y : ℕ) → m < 2 ^ n → Is (bit m y) → y < n
-member-there n m y h b = test (ltb y n) (λ e. ltb-true y n e) (λ e. never b (bit-out n m y h (ltb-false y n e)))
-
 -- to meet one value
 meets-one : (S : Side) (a v x : ℕ) → meets S a (v ∷ []) x ≡ both (S .below a) (some v) (S .value a x)
 unfolding meets
@@ -78,14 +64,6 @@ unfolding meetingOf
 own-meeting s v n roles known values holders b d j h = rw (le-ltb j 6 h) refl
 
 module _ (F : Policy) (Z : Sized F) where
-  side-room : (w : Which) → settingOf F .side w .count ≤ 64
-  unfolding settingOf sideOf
-  side-room w = Z .many w
-
-  attributes-room : (w : Which) → settingOf F .side w .attrs ≤ 6
-  unfolding settingOf sideOf
-  attributes-room w = Z .declared w
-
   -- ---- who knows
 
   known-side : (i y : ℕ) → i < 14 → y < F .table (sideBy (i / 7)) .count → bit (knownFor (F .table user .count) (F .table resource .count) (knownTable F) i) y ≡ isSome (valueAt F (sideBy (i / 7)) (placeAttribute i) y)
@@ -106,18 +84,11 @@ module _ (F : Policy) (Z : Sized F) where
       let n = Z .few in
       mask-same (F .roles) (λ k. bit (getD (recordOf F .holders) k 0) u) (λ k. held F k u) (λ k l. ap (λ (m : ℕ). bit m u) (holders-shown F Z k (omega arith)) ∙ bit-mask 64 (held F k) u h)
 
-  column-value : (side a x : ℕ) → side < 2 → a < 6 → x < 64 → getD (valueTable F) (64 * (6 * side + a) + x) 0 ≡ numberOr (F .table (sideBy side) .value a x)
-  unfolding valueTable
-  column-value side a x hs ha hx =
-      table-get 768 (λ i. numberOr (F .table (columnSide (i / 64)) .value (i / 64 % 6) (i % 64))) (64 * (6 * side + a) + x) (omega arith)
-      ∙ ap₂ (λ (s y : ℕ). numberOr (F .table (columnSide s) .value (s % 6) y)) (let e : (64 * (6 * side + a) + x) / 64 ≡ 6 * side + a = omega arith in e) (let e : (64 * (6 * side + a) + x) % 64 ≡ x = omega arith in e)
-      ∙ ap₂ (λ (w : Which) (b : ℕ). numberOr (F .table w .value b x)) (column-side side a hs ha) (let e : (6 * side + a) % 6 ≡ a = omega arith in e)
-
   value-side : (i y : ℕ) → i < 14 → y < 64 → valueFor (valueTable F) (recordOf F .holders) (F .roles) i y ≡ numberOr (valueAt F (sideBy (i / 7)) (placeAttribute i) y)
   unfolding valueFor valueAt
   value-side i y hi hy = test (eqb (i % 7) 6)
       (λ p. let d = eqb-true (i % 7) 6 p in rw (p, le-ltb (i % 7) 6 (omega arith)) (owned (ltb i 7) ∙ ap (λ (w : Which). by w (rolesOf F y) y) (place-side i hi)))
-      (λ p. let d = eqb-false (i % 7) 6 p in rw (p, lt-ltb (i % 7) 6 (omega arith), ne-eqb (i % 7) own (λ z. omega arith)) (column-value (i / 7) (i % 7) y (omega arith) (omega arith) hy))
+      (λ p. let d = eqb-false (i % 7) 6 p in rw (p, lt-ltb (i % 7) 6 (omega arith), ne-eqb (i % 7) own (λ z. omega arith)) (value-shown F (i / 7) (i % 7) y (omega arith) (omega arith) hy))
     where
       owned : (b : Bool) → cond b (heldRoles (recordOf F .holders) (F .roles) y) y ≡ by (cond b user resource) (rolesOf F y) y
       owned true = held-shown y hy
@@ -165,7 +136,7 @@ module _ (F : Policy) (Z : Sized F) where
           ap (λ (b : Bool). meetingOf (i / 7) b j v (F .table (sideBy (i / 7)) .count) (F .roles) (knownTable F) (valueTable F) (recordOf F .holders)) (ap (λ (x : ℕ). bit x j) (side-kinds F (i / 7) (omega arith)) ∙ bit-mask 64 (kindOf (F .table (sideBy (i / 7)))) j (omega arith))
           ∙ met-side (i / 7) j v (kindOf (F .table (sideBy (i / 7))) j) (omega arith) (declared-legal (sideBy (i / 7)) j v l))
           (λ (q : j ≡ own). absurd (omega arith))
-          (attribute-cases F (sideBy (i / 7)) j m)
+          (attributes-of F (sideBy (i / 7)) j m)
 
       go : (b : Bool) → eqb (i % 7) 6 ≡ b → cond b own (i % 7) isIn attrsOf (settingOf F .side (sideBy (i / 7))) true → valueAt F (sideBy (i / 7)) (cond b own (i % 7)) y ≡ some v
           → meetingOf (i / 7) (bit (getD (kindTable F) (i / 7) 0) (i % 7)) (i % 7) v (F .table (sideBy (i / 7)) .count) (F .roles) (knownTable F) (valueTable F) (recordOf F .holders) ≡ maskOf (F .table (sideBy (i / 7)) .count) (λ x. both (settingOf F .side (sideBy (i / 7)) .below (cond b own (i % 7))) (some v) (settingOf F .side (sideBy (i / 7)) .value (cond b own (i % 7)) x))
@@ -241,14 +212,14 @@ module _ (F : Policy) (Z : Sized F) where
         ∙ same (any (λ y. bit members y && bit (getD (matchesIn F) (64 * i + y) 0) x) (upTo 64)) (any (λ y. bit members y && meets-theirs y) (upTo (settingOf F .side (placeSide i) .count)))
         (λ h. let t = any-out (λ y. bit members y && bit (getD (matchesIn F) (64 * i + y) 0) x) (upTo 64) h in
         let b = and-l (bit members (t .0)) _ (t .2) in
-        let l = member-there (settingOf F .side (placeSide i) .count) members (t .0) hm b in
+        let l = bit-low (settingOf F .side (placeSide i) .count) members (t .0) hm b in
         any-in (λ y. bit members y && meets-theirs y) (upTo-in l) (and-in b (sym (match-means (t .0) x l hx) ∙ and-r (bit members (t .0)) _ (t .2))))
         (λ h. let t = any-out (λ y. bit members y && meets-theirs y) (upTo (settingOf F .side (placeSide i) .count)) h in
         let l = upTo-out (settingOf F .side (placeSide i) .count) (t .1) in
         any-in (λ y. bit members y && bit (getD (matchesIn F) (64 * i + y) 0) x) (upTo-in {n = 64} (omega arith)) (and-in (and-l (bit members (t .0)) _ (t .2)) (match-means (t .0) x l hx ∙ and-r (bit members (t .0)) _ (t .2))))
       where
         many-there : settingOf F .side (placeSide i) .count ≤ 64
-        many-there = side-room (placeSide i)
+        many-there = side-room F Z (placeSide i)
 
         meets-theirs : ℕ → Bool
         meets-theirs y = both (settingOf F .side (placeSide i) .below (placeAttribute i)) (settingOf F .side (placeSide i) .value (placeAttribute i) y) (settingOf F .side (placeSide i) .value (placeAttribute i) x)
@@ -263,7 +234,7 @@ module _ (F : Policy) (Z : Sized F) where
       let t = keep-out (bit members) (upTo (settingOf F .side (placeSide i) .count)) k in
       sym (known-means i hi y (upTo-out (settingOf F .side (placeSide i) .count) (t .0))) ∙ subset-out members (getD (knownIn F) i 0) h y (t .1))
       (λ h. subset-in members (getD (knownIn F) i 0) λ y b.
-      let l = member-there (settingOf F .side (placeSide i) .count) members y hm b in
+      let l = bit-low (settingOf F .side (placeSide i) .count) members y hm b in
       known-means i hi y l ∙ all-out (λ w. isSome (settingOf F .side (placeSide i) .value (placeAttribute i) w)) h (keep-in (bit members) (upTo-in l) b))
 
   -- ---- who passes, by side
@@ -295,15 +266,15 @@ module _ (F : Policy) (Z : Sized F) where
     declared-asks : (x a : ℕ) → x < settingOf F .side (sideBy side) .count → a < settingOf F .side (sideBy side) .attrs
         → imp (subset members (getD (knownIn F) (7 * side + a) 0)) (bit (metOf (matchesIn F) (7 * side + a) members) x) ≡ asks x a
     declared-asks x a hx ha =
-        let n = attributes-room (sideBy side) in
+        let n = attributes-room F Z (sideBy side) in
         let e = ap (λ (b : Bool). cond b own a) (ne-eqb a 6 (λ z. omega arith)) in
-        ap₂ imp (asked-at a (omega arith)) (met-at a x (omega arith) (subst (λ (c : ℕ). c isIn attrsOf (settingOf F .side (sideBy side)) true) (sym e) (declared-in (settingOf F .side (sideBy side)) a ha)) hx) ∙ ap (asks x) e
+        ap₂ imp (asked-at a (omega arith)) (met-at a x (omega arith) (subst (λ (c : ℕ). c isIn attrsOf (settingOf F .side (sideBy side)) true) (sym e) (declared-in (settingOf F .side (sideBy side)) true a ha)) hx) ∙ ap (asks x) e
 
     -- everybody knows a 255
     own-asks : (x : ℕ) → x < settingOf F .side (sideBy side) .count → bit (metOf (matchesIn F) (7 * side + 6) members) x ≡ asks x own
     unfolding allKnow settingOf sideOf valueAt
     own-asks x hx =
-        met-at 6 x (omega arith) (own-in (settingOf F .side (sideBy side))) hx
+        met-at 6 x (omega arith) (own-in (settingOf F .side (sideBy side)) true refl) hx
         ∙ sym (ap (λ (b : Bool). imp b (metBy (settingOf F .side (sideBy side)) own (bit members) x)) (all-in (λ w. true) (keep (bit members) (upTo (F .table (sideBy side) .count))) (λ w k. refl)))
 
     -- THE LAW of who passes all conjuncts of the covering rule of these members
@@ -313,7 +284,7 @@ module _ (F : Policy) (Z : Sized F) where
     passing-means b =
         mask-same (settingOf F .side (sideBy side) .count) (λ x. all (conjunct-at x) (upTo (settingOf F .side (sideBy side) .attrs)) && imp b (bit (metOf (matchesIn F) (7 * side + 6) members) x)) (λ x. all (asks x) (upTo (settingOf F .side (sideBy side) .attrs) ++ only b own))
         (λ x hx.
-        ap₂ _&&_ (all-same (conjunct-at x) (asks x) (upTo (settingOf F .side (sideBy side) .attrs)) (λ a m. declared-asks x a hx (upTo-out (settingOf F .side (sideBy side) .attrs) m))) (owned b x hx)
+        ap₂ _&&_ (all-ext (conjunct-at x) (asks x) (upTo (settingOf F .side (sideBy side) .attrs)) (λ a m. declared-asks x a hx (upTo-out (settingOf F .side (sideBy side) .attrs) m))) (owned b x hx)
         ∙ sym (all-append (asks x) (upTo (settingOf F .side (sideBy side) .attrs)) (only b own)))
       where
         conjunct-at : ℕ → ℕ → Bool

@@ -1,8 +1,8 @@
 -- Who meets whose value, at each of the 14 places of attributes: the tables, and what is read off them.
 -- Assumes nothing.
 use Prim.Native.Nat.{ℕ, _+_, _*_, _/_, _%_, _<_}
-use lib.Dec.{eqb, ltb}
-use lib.ListN.{getD}
+use lib.Dec.{eqb}
+use lib.ListN.{getD, drop}
 use mathlib.Core.Bool.{Bool, cond, _&&_, _||_}
 use mathlib.Core.List.{List}
 use mathlib.Core.Path.{_≡_}
@@ -11,10 +11,7 @@ use Rattle.rule_meeting.specs.Meeting.{meetingOf}
 use Rattle.policy.specs.Policy.{Policy}
 use Rattle.sets.specs.Sets.{bit, subset, maskOf}
 use Rattle.sets.specs.Tests.{imp, all, any, upTo}
-
--- how many there are on the side of a place: users at the first seven, resources at the others
-abbrev pub countAt : ℕ → ℕ → ℕ → ℕ
-countAt users resources i = cond (ltb i 7) users resources
+use Rattle.grant_values.specs.PlaceValues.{countAt, valueFor}
 
 -- who knows the attribute of a place: for a 255 everybody there is
 unfoldable pub knownFor : (users resources : ℕ) → List ℕ → ℕ → ℕ
@@ -22,15 +19,6 @@ knownFor users resources known i = maskOf (countAt users resources i) (λ x. eqb
 
 unfoldable pub knownPlaces : (users resources : ℕ) → List ℕ → List ℕ
 knownPlaces users resources known = tableOf 14 (knownFor users resources known)
-
--- the roles that a user holds
-unfoldable pub heldRoles : List ℕ → ℕ → ℕ → ℕ
-heldRoles holders roles u = maskOf roles (λ k. bit (getD holders k 0) u)
-
--- the value that somebody has at a place: of a 255 the roles held, or the resource's number
-unfoldable pub valueFor : (values holders : List ℕ) → ℕ → ℕ → ℕ → ℕ
-valueFor values holders roles i x =
-    cond (ltb (i % 7) 6) (getD values (64 * (6 * (i / 7) + i % 7) + x) 0) (cond (ltb i 7) (heldRoles holders roles x) x)
 
 module _ (kinds known values holders : List ℕ) (users resources roles : ℕ) where
   -- who meets the value that somebody has at a place; nobody if it is unknown
@@ -49,12 +37,16 @@ unfoldable pub metOf : List ℕ → ℕ → ℕ → ℕ
 metOf matches i members = maskOf 64 (λ x. any (λ y. bit members y && bit (getD matches (64 * i + y) 0) x) (upTo 64))
 
 -- some members and others
-unfoldable pub both : ℕ → ℕ → ℕ
-both m n = maskOf 64 (λ k. bit m k || bit n k)
+unfoldable pub bothMembers : ℕ → ℕ → ℕ
+bothMembers m n = maskOf 64 (λ k. bit m k || bit n k)
 
 -- the table has, for each attribute of a side, who meets a conjunct of the values of these members
 abbrev pub Met : (matches : List ℕ) → (side members : ℕ) → List ℕ → Type 0
 Met matches side members met = (a : ℕ) → a < 6 → getD met a 0 ≡ metOf matches (7 * side + a) members
+
+-- one table has both sides, the users' attributes first
+abbrev pub SidesMet : (matches : List ℕ) → (users resources : ℕ) → List ℕ → Type 0
+SidesMet matches users resources met = Met matches 0 users met × Met matches 1 resources (drop 6 met)
 
 -- to each word of one such table is joined who meets the value of one member, and that gives the other
 abbrev pub MemberAdded : (matches : List ℕ) → (side member : ℕ) → List ℕ → List ℕ → Type 0

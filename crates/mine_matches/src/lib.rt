@@ -1,42 +1,24 @@
-// The 14 places of attributes, the six of the users, their 255, the six of the resources, their 255: who knows the attribute of each, what
-// value somebody has, and who passes the conjuncts of the values that some members have.
-ghost use lib.ListN.{length};
+// The 14 places of attributes, the six of the users, their 255, the six of the resources, their 255: who knows the attribute of each, and
+// who passes the conjuncts of the values that some members have.
+ghost use lib.ListN.{length, drop};
 ghost use mathlib.Core.Bool.{false};
 ghost use mathlib.Core.List.{List};
 ghost use mathlib.Core.Path.{_≡_};
-ghost use Prim.Native.Nat.{ℕ, _≤_, _<_};
-ghost use Rattle.mine_matches.specs.Matches.{countAt, knownFor, knownPlaces, heldRoles, valueFor, metOf, both, Met, MemberAdded, passingOf};
+ghost use Prim.Native.Nat.{ℕ, _≤_, _<_, _*_};
+ghost use Rattle.mine_matches.specs.Matches.{knownFor, knownPlaces, metOf, bothMembers, Met, MemberAdded, passingOf, SidesMet};
 use role_record::ByAttribute;
 use role_record::ByPlace;
 use role_record::ByPlaceMember;
-use role_record::ByRole;
-use role_record::OfSide;
 use role_record::RoleFile;
-use role_record::Values;
-
-// How many there are on the side of a place.
-fn count_at(users: usize, resources: usize, place: usize) -> usize
-    ensures { λ r. ⌜ r ≡ countAt users resources place ⌝ }
-{
-    if place < RoleFile::CONJUNCTS {
-        return users;
-    }
-    resources
-}
 
 // Who knows the attribute of a place: for a 255 everybody there is.
 fn known_at(users: usize, resources: usize, known: &ByAttribute, place: usize) -> u64
     requires { ⌜ (users ≤ 64) × (resources ≤ 64) × (place < 14) ⌝ }
     ensures { λ r. ⌜ r ≡ knownFor users resources (now (known .entry)) place ⌝ }
 {
-    let everybody = sets::below(count_at(users, resources, place));
-    let attribute = place % RoleFile::CONJUNCTS;
-    if attribute == RoleFile::ATTRIBUTES {
-        return everybody;
-    }
     sets::meet(
-        everybody,
-        known[RoleFile::ATTRIBUTES * (place / RoleFile::CONJUNCTS) + attribute],
+        sets::below(grant_values::count_at(users, resources, place)),
+        grant_values::knowing(users, resources, known, place),
     )
 }
 
@@ -56,43 +38,6 @@ pub fn known_places(users: usize, resources: usize, known: &ByAttribute, out: &m
     ensures { λ _. ⌜ now (out .exit) ≡ knownPlaces users resources (now (known .entry)) ⌝ }
 {
     fill_known(users, resources, known, out);
-}
-
-// The roles that a user holds.
-fn roles_of(holders: &ByRole, roles: usize, user: usize) -> u64
-    requires { ⌜ roles ≤ 32 ⌝ }
-    ensures { λ r. ⌜ r ≡ heldRoles (now (holders .entry)) roles user ⌝ }
-{
-    let mut m: u64 = 0;
-    for k in 0..roles {
-        if sets::has(holders[k], user) {
-            m = sets::with(m, k);
-        }
-    }
-    m
-}
-
-// The value that somebody has at a place, known or not.
-pub fn value_at<'a>(
-    values: &'a Values,
-    holders: &'a ByRole,
-    roles: usize,
-    place: usize,
-    who: usize,
-) -> u64
-    requires { ⌜ (roles ≤ 32) × (place < 14) × (who < 64) ⌝ }
-    ensures { λ r. ⌜ r ≡ valueFor (now (values .entry)) (now (holders .entry)) roles place who ⌝ }
-{
-    let attribute = place % RoleFile::CONJUNCTS;
-    if attribute < RoleFile::ATTRIBUTES {
-        return values[RoleFile::MEMBERS
-            * (RoleFile::ATTRIBUTES * (place / RoleFile::CONJUNCTS) + attribute)
-            + who];
-    }
-    if place < RoleFile::CONJUNCTS {
-        return roles_of(holders, roles, who);
-    }
-    who as u64
 }
 
 // Who meets a conjunct of the values of these members at a place.
@@ -130,9 +75,10 @@ fn add_member(matches: &ByPlaceMember, side: usize, member: usize, met: &mut [u6
 fn add_members(matches: &ByPlaceMember, side: usize, members: u64, met: &mut [u64])
     requires { ⌜ (side < 2) × (length (now met) ≡ 6) ⌝ }
     ensures { λ _. ⌜
-        ((m : ℕ)
+        (length (now (met .exit)) ≡ 6)
+        × ((m : ℕ)
         → Met (now (matches .entry)) side m (now (met .entry))
-        → Met (now (matches .entry)) side (both m members) (now (met .exit))) ⌝ }
+        → Met (now (matches .entry)) side (bothMembers m members) (now (met .exit))) ⌝ }
 {
     let mut left = members;
     while 0 < left {
@@ -141,21 +87,37 @@ fn add_members(matches: &ByPlaceMember, side: usize, members: u64, met: &mut [u6
     }
 }
 
-// Makes the table of some members that of these members too.
-pub fn widen(matches: &ByPlaceMember, side: usize, members: u64, met: &mut OfSide)
-    requires { ⌜ side < 2 ⌝ }
+// Into a slice, of which a part can be lent: the users' attributes come first.
+fn add_sides(matches: &ByPlaceMember, users: u64, resources: u64, met: &mut [u64])
+    requires { ⌜ length (now met) ≡ 12 ⌝ }
     ensures { λ _. ⌜
-        ((m : ℕ)
-        → Met (now (matches .entry)) side m (now (met .entry))
-        → Met (now (matches .entry)) side (both m members) (now (met .exit))) ⌝ }
+        ((m n : ℕ)
+        → SidesMet (now (matches .entry)) m n (now (met .entry))
+        → SidesMet (now (matches .entry)) (bothMembers m users) (bothMembers n resources) (now (met .exit))) ⌝ }
 {
-    add_members(matches, side, members, met);
+    add_members(matches, 0, users, &mut met[0..RoleFile::ATTRIBUTES]);
+    add_members(
+        matches,
+        1,
+        resources,
+        &mut met[RoleFile::ATTRIBUTES..RoleFile::SIDES * RoleFile::ATTRIBUTES],
+    );
+}
+
+// Makes the table of some users and resources that of these too.
+pub fn widen(matches: &ByPlaceMember, users: u64, resources: u64, met: &mut ByAttribute)
+    ensures { λ _. ⌜
+        ((m n : ℕ)
+        → SidesMet (now (matches .entry)) m n (now (met .entry))
+        → SidesMet (now (matches .entry)) (bothMembers m users) (bothMembers n resources) (now (met .exit))) ⌝ }
+{
+    add_sides(matches, users, resources, met);
 }
 
 // Who passes all conjuncts but the 255 of the covering rule of some members, on a side, by the table of who meets each.
 pub fn passing<'a>(
-    met: &'a OfSide,
-    known: &'a ByPlace,
+    met: &'a ByAttribute,
+    knowing: &'a ByPlace,
     attributes: usize,
     side: usize,
     members: u64,
@@ -164,14 +126,14 @@ pub fn passing<'a>(
     requires { ⌜ (attributes ≤ 6) × (side < 2) × (count ≤ 64) ⌝ }
     ensures { λ r. ⌜
         ((matches : List ℕ)
-        → Met matches side members (now (met .entry))
-        → r ≡ passingOf matches (now (known .entry)) attributes side false members count) ⌝ }
+        → Met matches side members (drop (6 * side) (now (met .entry)))
+        → r ≡ passingOf matches (now (knowing .entry)) attributes side false members count) ⌝ }
 {
     let mut m = sets::below(count);
     for a in 0..attributes {
         // An attribute that one of them does not know gives no conjunct.
-        if sets::within(members, known[RoleFile::CONJUNCTS * side + a]) {
-            m = sets::meet(m, met[a]);
+        if sets::within(members, knowing[RoleFile::CONJUNCTS * side + a]) {
+            m = sets::meet(m, met[RoleFile::ATTRIBUTES * side + a]);
         }
     }
     m

@@ -3,35 +3,30 @@
 use Prim.Native.Nat.{ℕ, _≤_, _<_}
 use borrow.Author.Tests.{eqb-true, eqb-false, eq-eqb, ne-eqb}
 use lib.Dec.{eqb}
-use mathlib.Core.Bool.{Bool, true, false, cond, _&&_, _||_, not, and-false}
+use mathlib.Core.Bool.{Bool, true, false, cond, _&&_, _||_, not, and-false, or-false, or-assoc}
 use mathlib.Core.List.{List, [], _∷_, _++_}
 use mathlib.Core.Logic.{_⊎_, inl, inr}
 use mathlib.Core.Path.{_≡_, refl, sym, ap, ap₂, _∙_, subst}
 use native.Mathlib.Omega.{arith}
 use Rattle.mine_theory.specs.Search.Frontier.{Seats, joinedAt, okAt}
 use Rattle.mine_theory.specs.Search.FrontierLaws.{okAt-out, emptied, alive-kept, group-joined, group-kept}
+use Rattle.role_record.specs.Cells.{roleCells}
 use Rattle.role_record.specs.Record.{Sized}
 use Rattle.mine_merge.specs.Traced.{tracedTo, Traced}
 use Rattle.mine_join.specs.Joins.{Joined}
-use Rattle.mine_pairs.specs.FitLaws.{roomy, words-same}
 use Rattle.policy.specs.Covering.{fits, levelOf}
 use Rattle.policy.specs.Merging.{union, mergeable}
 use Rattle.policy.specs.Policy.{Policy, settingOf}
 use Rattle.policy.specs.Rules.{Block, Some}
 use Rattle.mine_seats.specs.Seats.{restAt, atomsIn, levelIn, headIn, wordsAt, isPartAt, isHeadAt}
-use Rattle.sets.specs.MaskLaws.{or-false}
 use Rattle.sets.specs.TestLaws.{and-l, and-r, or-l, or-r, or-out, never, test}
 use Rattle.sets.specs.Tests.{Is, elem}
-use Rattle.mine_groups.specs.SeatLaws.{merged-fits, merged-some}
-use Rattle.mine_groups.specs.Seats.{seatBlock}
-use Rattle.mine_theory.specs.Words.WordLaws.{words-joined, union-joined}
+use Rattle.mine_groups.specs.SeatGroupLaws.{merged-fits, merged-some}
+use Rattle.mine_groups.specs.SeatGroups.{seatBlock}
+use Rattle.mine_theory.specs.Words.WordLaws.{words-joined, union-joined, words-same, roomy}
 use Rattle.mine_theory.specs.Words.Words.{joined, wordsOf}
 
 -- ---- tests and lists
-
-or-grouped : (a b c : Bool) → (a || (b || c)) ≡ ((a || b) || c)
-or-grouped true b c = refl
-or-grouped false b c = refl
 
 either-group : (p c a b x y : Bool) → ((p && cond c a x) || (p && cond c b y)) ≡ (p && cond c (a || b) (x || y))
 either-group true true a b x y = refl
@@ -40,7 +35,7 @@ either-group false c a b x y = refl
 
 elem-append : (k : ℕ) (xs ys : List ℕ) → elem k (xs ++ ys) ≡ (elem k xs || elem k ys)
 elem-append k [] ys = refl
-elem-append k (x ∷ xs) ys = ap (λ (b : Bool). eqb k x || b) (elem-append k xs ys) ∙ or-grouped (eqb k x) (elem k xs) (elem k ys)
+elem-append k (x ∷ xs) ys = ap (λ (b : Bool). eqb k x || b) (elem-append k xs ys) ∙ sym (or-assoc (eqb k x) (elem k xs) (elem k ys))
 
 -- a seat is this one or another
 by-seat {ℓ} : {X : Type ℓ} (k i : ℕ) → (k ≡ i → X) → ((k ≡ i → ⊥) → X) → X
@@ -48,14 +43,14 @@ by-seat k i f g = test (eqb k i) (λ e. f (eqb-true k i e)) (λ e. g (eqb-false 
 
 -- ---- the join
 
-module _ (F : Policy) (Z : Sized F) (t u : List ℕ) (s : Seats (List ℕ)) (i j level : ℕ) (order : i < j) (l : j < 512) (S : Traced F t s) (J : Joined t u i j level) (may : Is (okAt (mergeable (settingOf F) (seatBlock F)) s i j)) (right : level ≡ levelOf (settingOf F) (union (settingOf F) (seatBlock F) (s .group i ++ s .group j))) where
+module _ (F : Policy) (Z : Sized F) (t u : List ℕ) (s : Seats (List ℕ)) (i j level : ℕ) (order : i < j) (l : j < roleCells) (S : Traced F t s) (J : Joined t u i j level) (may : Is (okAt (mergeable (settingOf F) (seatBlock F)) s i j)) (right : level ≡ levelOf (settingOf F) (union (settingOf F) (seatBlock F) (s .group i ++ s .group j))) where
   abbrev after : Seats (List ℕ)
   after = joinedAt _++_ s i j
 
   abbrev block : List ℕ → Block
   block = union (settingOf F) (seatBlock F)
 
-  first-below : i < 512
+  first-below : i < roleCells
   first-below = omega arith
 
   first-alive : Is (s .alive i)
@@ -85,14 +80,14 @@ module _ (F : Policy) (Z : Sized F) (t u : List ℕ) (s : Seats (List ℕ)) (i j
   filled-both = merged-some F (s .group i) (s .group j) (S .filled i first-below first-alive)
 
   -- a head is a part and names itself
-  part-head : (k : ℕ) → k < 512 → Is (s .alive k) → Is (isPartAt t k)
+  part-head : (k : ℕ) → k < roleCells → Is (s .alive k) → Is (isPartAt t k)
   part-head k h p = and-l (isPartAt t k) (eqb (headIn (restAt t k)) k) (S .heads k h ∙ p)
 
-  own-head : (k : ℕ) → k < 512 → Is (s .alive k) → Is (eqb (headIn (restAt t k)) k)
+  own-head : (k : ℕ) → k < roleCells → Is (s .alive k) → Is (eqb (headIn (restAt t k)) k)
   own-head k h p = and-r (isPartAt t k) (eqb (headIn (restAt t k)) k) (S .heads k h ∙ p)
 
   -- the same seats have parts
-  part-kept : (k : ℕ) → k < 512 → isPartAt u k ≡ isPartAt t k
+  part-kept : (k : ℕ) → k < roleCells → isPartAt u k ≡ isPartAt t k
   part-kept k h = by-seat k i
       (λ q. rw q (J .part (part-head i first-below first-alive) ∙ sym (part-head i first-below first-alive)))
       (λ d. ap (λ (x : ℕ). not (eqb x 0)) (J .kept k d .users))
@@ -101,7 +96,7 @@ module _ (F : Policy) (Z : Sized F) (t u : List ℕ) (s : Seats (List ℕ)) (i j
   head-kept : (k : ℕ) → (k ≡ j → ⊥) → headIn (restAt u k) ≡ headIn (restAt t k)
   head-kept k dj = by-seat k i (λ q. rw q (J .head ∙ sym (eqb-true (headIn (restAt t i)) i (own-head i first-below first-alive)))) (λ di. ap headIn (J .others k di dj))
 
-  shown-heads : (k : ℕ) → k < 512 → isHeadAt u k ≡ after .alive k
+  shown-heads : (k : ℕ) → k < roleCells → isHeadAt u k ≡ after .alive k
   shown-heads k h = by-seat k j gone (λ dj. ap₂ (λ (b : Bool) (x : ℕ). b && eqb x k) (part-kept k h) (head-kept k dj) ∙ S .heads k h ∙ sym (alive-kept _++_ s i j k dj))
     where
       gone : k ≡ j → isHeadAt u k ≡ after .alive k
@@ -116,7 +111,7 @@ module _ (F : Policy) (Z : Sized F) (t u : List ℕ) (s : Seats (List ℕ)) (i j
   each-after P p f k a = by-seat k i (λ q. rw q (subst (P i) (sym (group-joined _++_ s i j)) p)) (λ d. subst (P k) (sym (group-kept _++_ s i j k d)) (f k d (not-second k a) (was-alive k a)))
 
   -- every part names an earlier part, or itself
-  shown-earlier : (k : ℕ) → k < 512 → Is (isPartAt u k) → (headIn (restAt u k) ≤ k) × Is (isPartAt u (headIn (restAt u k)))
+  shown-earlier : (k : ℕ) → k < roleCells → Is (isPartAt u k) → (headIn (restAt u k) ≤ k) × Is (isPartAt u (headIn (restAt u k)))
   shown-earlier k h p = by-seat k j second (λ d. other d (S .earlier k h (sym (part-kept k h) ∙ p)))
     where
       second : k ≡ j → (headIn (restAt u k) ≤ k) × Is (isPartAt u (headIn (restAt u k)))
@@ -126,7 +121,7 @@ module _ (F : Policy) (Z : Sized F) (t u : List ℕ) (s : Seats (List ℕ)) (i j
       other d (e, f) = rw (head-kept k d) (e, part-kept (headIn (restAt t k)) (omega arith) ∙ f)
 
   -- a head is in its own group alone
-  member-head : (a k : ℕ) → a < 512 → k < 512 → Is (s .alive a) → Is (s .alive k) → elem k (s .group a) ≡ eqb k a
+  member-head : (a k : ℕ) → a < roleCells → k < roleCells → Is (s .alive a) → Is (s .alive k) → elem k (s .group a) ≡ eqb k a
   member-head a k ha hk pa pk = S .members a k ha hk pa ∙ ap₂ (λ (b c : Bool). b && cond c (eqb k a) (elem (headIn (restAt t k)) (s .group a))) (part-head k hk pk) (own-head k hk pk)
 
   -- seat j is where seat i is
@@ -135,8 +130,8 @@ module _ (F : Policy) (Z : Sized F) (t u : List ℕ) (s : Seats (List ℕ)) (i j
       ap₂ (λ (b : Bool) (x : ℕ). b && cond (eqb x j) (eqb j a) (elem x group)) (part-kept j l ∙ part-head j l second-alive) (J .named)
       ∙ ap (λ (b : Bool). cond b (eqb j a) (elem i group)) (ne-eqb i j (λ e. omega arith))
 
-  shown-members : (a k : ℕ) → a < 512 → k < 512 → Is (after .alive a) → elem k (after .group a) ≡ tracedTo u (after .group a) a k
-  shown-members a k ha hk p = each-after (λ a g. a < 512 → elem k g ≡ tracedTo u g a k) (λ h. own) (λ a di dj b h. other a di dj b h) a p ha
+  shown-members : (a k : ℕ) → a < roleCells → k < roleCells → Is (after .alive a) → elem k (after .group a) ≡ tracedTo u (after .group a) a k
+  shown-members a k ha hk p = each-after (λ a g. a < roleCells → elem k g ≡ tracedTo u g a k) (λ h. own) (λ a di dj b h. other a di dj b h) a p ha
     where
       told : (k ≡ j → ⊥) → (group : List ℕ) (a : ℕ) → tracedTo t group a k ≡ tracedTo u group a k
       told d group a = sym (ap₂ (λ (b : Bool) (x : ℕ). b && cond (eqb x k) (eqb k a) (elem x group)) (part-kept k hk) (head-kept k d))
@@ -158,7 +153,7 @@ module _ (F : Policy) (Z : Sized F) (t u : List ℕ) (s : Seats (List ℕ)) (i j
       own : elem k (s .group i ++ s .group j) ≡ tracedTo u (s .group i ++ s .group j) i k
       own = by-seat k j (λ q. rw q own-second) own-other
 
-      other : (a : ℕ) → (a ≡ i → ⊥) → (a ≡ j → ⊥) → Is (s .alive a) → a < 512 → elem k (s .group a) ≡ tracedTo u (s .group a) a k
+      other : (a : ℕ) → (a ≡ i → ⊥) → (a ≡ j → ⊥) → Is (s .alive a) → a < roleCells → elem k (s .group a) ≡ tracedTo u (s .group a) a k
       other a di dj b h = by-seat k j (λ q. rw q second) (λ d. S .members a k h hk b ∙ told d (s .group a) a)
         where
           second : elem j (s .group a) ≡ tracedTo u (s .group a) a j
@@ -172,15 +167,15 @@ module _ (F : Policy) (Z : Sized F) (t u : List ℕ) (s : Seats (List ℕ)) (i j
     long = J .long;
     seats = λ k h. part-kept k h ∙ S .seats k h;
     heads = shown-heads;
-    words = λ k h a. each-after (λ k g. k < 512 → wordsAt u k ≡ wordsOf (settingOf F) (block g)) (λ h. words-both) (λ k di dj b h. words-other k di dj ∙ S .words k h b) k a h;
-    level = λ k h a. each-after (λ k g. k < 512 → levelIn (restAt u k) ≡ levelOf (settingOf F) (block g)) (λ h. J .level-set ∙ right) (λ k di dj b h. ap levelIn (J .others k di dj) ∙ S .level k h b) k a h;
-    fitting = λ k h a. each-after (λ k g. k < 512 → Is (fits (settingOf F) (block g) 3)) (λ h. merged-fits F (s .group i) (s .group j) merged) (λ k di dj b h. S .fitting k h b) k a h;
-    filled = λ k h a. each-after (λ k g. k < 512 → Some (settingOf F) (block g)) (λ h. filled-both) (λ k di dj b h. S .filled k h b) k a h;
+    words = λ k h a. each-after (λ k g. k < roleCells → wordsAt u k ≡ wordsOf (settingOf F) (block g)) (λ h. words-both) (λ k di dj b h. words-other k di dj ∙ S .words k h b) k a h;
+    level = λ k h a. each-after (λ k g. k < roleCells → levelIn (restAt u k) ≡ levelOf (settingOf F) (block g)) (λ h. J .level-set ∙ right) (λ k di dj b h. ap levelIn (J .others k di dj) ∙ S .level k h b) k a h;
+    fitting = λ k h a. each-after (λ k g. k < roleCells → Is (fits (settingOf F) (block g) 3)) (λ h. merged-fits F (s .group i) (s .group j) merged) (λ k di dj b h. S .fitting k h b) k a h;
+    filled = λ k h a. each-after (λ k g. k < roleCells → Some (settingOf F) (block g)) (λ h. filled-both) (λ k di dj b h. S .filled k h b) k a h;
     earlier = shown-earlier;
     members = shown-members;
-    low = λ a k h p. each-after (λ a g. a < 512 → Is (elem k g) → k < 512) (λ h q. either k (or-out (elem k (s .group i)) (elem k (s .group j)) (sym (elem-append k (s .group i) (s .group j)) ∙ q))) (λ a di dj b h. S .low a k h b) a p h;
+    low = λ a k h p. each-after (λ a g. a < roleCells → Is (elem k g) → k < roleCells) (λ h q. either k (or-out (elem k (s .group i)) (elem k (s .group j)) (sym (elem-append k (s .group i) (s .group j)) ∙ q))) (λ a di dj b h. S .low a k h b) a p h;
   }
     where
-      either : (k : ℕ) → Is (elem k (s .group i)) ⊎ Is (elem k (s .group j)) → k < 512
+      either : (k : ℕ) → Is (elem k (s .group i)) ⊎ Is (elem k (s .group j)) → k < roleCells
       either k (inl q) = S .low i k first-below first-alive q
       either k (inr q) = S .low j k l second-alive q

@@ -1,7 +1,7 @@
 pub mod Steps
 pub mod Traced
 pub mod Progress
-pub mod CountLaws
+pub mod HeadCountLaws
 pub mod PairLaws
 pub mod JoinLaws
 pub mod AloneLaws

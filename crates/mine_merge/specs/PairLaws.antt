@@ -8,12 +8,13 @@ use mathlib.Core.List.{List, _++_}
 use mathlib.Core.Path.{_≡_, refl, ap, ap₂, _∙_}
 use native.Mathlib.Omega.{arith}
 use Rattle.mine_theory.specs.Search.Frontier.{Seats, okAt}
+use Rattle.role_record.specs.Cells.{roleCells}
 use Rattle.role_record.specs.Record.{Sized}
 use Rattle.mine_merge.specs.Steps.{Paired}
 use Rattle.mine_merge.specs.Traced.{Traced}
-use Rattle.mine_search.specs.Search.{joinedLevel, pairAt}
-use Rattle.mine_pairs.specs.LevelLaws.{pairLevelIn, groups-mean}
-use Rattle.mine_pairs.specs.Levels.{pairLevel}
+use Rattle.mine_search.specs.PartnerSearch.{joinedLevel, pairAt}
+use Rattle.mine_pairs.specs.PairLevelLaws.{pairLevelIn, groups-mean}
+use Rattle.mine_pairs.specs.PairLevels.{pairLevel}
 use Rattle.policy.specs.Covering.{standsIn, levelOf}
 use Rattle.policy.specs.CoverLaws.{pair-in, stands-in}
 use Rattle.policy.specs.Merging.{union, mergeable}
@@ -23,9 +24,9 @@ use Rattle.mine_seats.specs.Seats.{restAt, levelIn, wordsAt}
 use Rattle.sets.specs.LowestLaws.{lowest-most}
 use Rattle.sets.specs.SetLaws.{bit-none, bit-mask}
 use Rattle.sets.specs.Sets.{bit}
-use Rattle.sets.specs.TestLaws.{never}
+use Rattle.sets.specs.TestLaws.{never, and-third}
 use Rattle.sets.specs.Tests.{Is}
-use Rattle.mine_groups.specs.Seats.{seatBlock}
+use Rattle.mine_groups.specs.SeatGroups.{seatBlock}
 use Rattle.mine_theory.specs.Words.Words.{Words, wordsOf}
 
 -- a set of triples that is not empty has users
@@ -39,12 +40,6 @@ users-some P B s e =
 pub level-most : (P : Setting) (B : Block) → levelOf P B ≤ 3
 unfolding levelOf
 level-most P B = lowest-most _
-
--- two tests that must pass before a third counts
-pub both-first : (a b c d : Bool) → (Is a → Is b → c ≡ d) → (a && (b && c)) ≡ (a && (b && d))
-both-first true true c d h = h refl refl
-both-first true false c d h = refl
-both-first false b c d h = refl
 
 -- a level below 4 is one
 low-level : (b : Bool) (l : ℕ) → l ≤ 3 → ltb (cond b l 4) 4 ≡ b
@@ -62,7 +57,7 @@ module _ (F : Policy) (Z : Sized F) (links matches known attributes : List ℕ) 
   policy-tables i j = rw (T .of-links, T .of-matches, T .of-known, T .of-attributes, T .of-users, T .of-resources, T .of-operations) refl
 
   -- the level of two groups together, where they may be joined
-  pub level-means : (i j : ℕ) → i < 512 → j < 512 → Is (s .alive i) → Is (s .alive j)
+  pub level-means : (i j : ℕ) → i < roleCells → j < roleCells → Is (s .alive i) → Is (s .alive j)
       → joinedLevel links matches known attributes users resources operations t i j ≡ cond (mergeable (settingOf F) (seatBlock F) (s .group i) (s .group j)) (levelOf (settingOf F) (union (settingOf F) (seatBlock F) (s .group i ++ s .group j))) 4
   level-means i j hi hj ai aj =
       policy-tables i j
@@ -70,9 +65,9 @@ module _ (F : Policy) (Z : Sized F) (links matches known attributes : List ℕ) 
       ∙ groups-mean F Z (seatBlock F) (s .group i) (s .group j) (S .filled i hi ai) (S .filled j hj aj) (S .fitting i hi ai) (S .fitting j hj aj)
 
   -- THE LAW of pairs
-  pub pair-means : (i j : ℕ) → i < 512 → j < 512 → pairAt links matches known attributes users resources operations t i j ≡ okAt (mergeable (settingOf F) (seatBlock F)) s i j
+  pub pair-means : (i j : ℕ) → i < roleCells → j < roleCells → pairAt links matches known attributes users resources operations t i j ≡ okAt (mergeable (settingOf F) (seatBlock F)) s i j
   unfolding pairAt okAt
   pair-means i j hi hj =
       ap₂ (λ (a b : Bool). a && (b && ltb (joinedLevel links matches known attributes users resources operations t i j) 4)) (S .heads i hi) (S .heads j hj)
-      ∙ both-first (s .alive i) (s .alive j) _ _ (λ ai aj. ap (λ (l : ℕ). ltb l 4) (level-means i j hi hj ai aj)
+      ∙ and-third (s .alive i) (s .alive j) _ _ (λ ai aj. ap (λ (l : ℕ). ltb l 4) (level-means i j hi hj ai aj)
       ∙ low-level (mergeable (settingOf F) (seatBlock F) (s .group i) (s .group j)) (levelOf (settingOf F) (union (settingOf F) (seatBlock F) (s .group i ++ s .group j))) (level-most (settingOf F) (union (settingOf F) (seatBlock F) (s .group i ++ s .group j))))

@@ -8,21 +8,22 @@ use mathlib.Core.List.{List}
 use mathlib.Core.Path.{_≡_, refl, sym, ap, ap₂, _∙_}
 use native.Mathlib.Omega.{arith}
 use Rattle.mine_theory.specs.Search.Frontier.{Seats}
+use Rattle.mine_theory.specs.Words.WordLaws.{words-same}
 use Rattle.mine_merge.specs.Traced.{Traced}
 use Rattle.mine_join.specs.Joins.{Resolved}
-use Rattle.mine_pairs.specs.FitLaws.{words-same}
 use Rattle.policy.specs.Policy.{Policy}
 use Rattle.mine_seats.specs.Seats.{restAt, atomsIn, levelIn, headIn, isPartAt, isHeadAt}
+use Rattle.role_record.specs.Cells.{roleCells}
 use Rattle.sets.specs.TestLaws.{test}
 use Rattle.sets.specs.Tests.{Is, elem}
-use Rattle.mine_groups.specs.Scratch.{Shows}
+use Rattle.mine_groups.specs.Scratch.{ShowsGroups}
 
 module _ (F : Policy) (t u : List ℕ) (s : Seats (List ℕ)) (S : Traced F t s) (R : Resolved t u) where
   -- the last word keeps its atoms and its level
-  atoms-stay : (k : ℕ) → k < 512 → atomsIn (restAt u k) ≡ atomsIn (restAt t k)
+  atoms-stay : (k : ℕ) → k < roleCells → atomsIn (restAt u k) ≡ atomsIn (restAt t k)
   atoms-stay k h = let e = R .low k h in omega arith
 
-  level-stays : (k : ℕ) → k < 512 → levelIn (restAt u k) ≡ levelIn (restAt t k)
+  level-stays : (k : ℕ) → k < roleCells → levelIn (restAt u k) ≡ levelIn (restAt t k)
   level-stays k h = let e = R .low k h in omega arith
 
   part-stays : (k : ℕ) → isPartAt u k ≡ isPartAt t k
@@ -30,14 +31,14 @@ module _ (F : Policy) (t u : List ℕ) (s : Seats (List ℕ)) (S : Traced F t s)
 
   -- what is known of seat k: it names no later seat, and is in the group of the head that it names
   abbrev Right : ℕ → Type 0
-  Right k = (headIn (restAt u k) ≤ k) × ((i : ℕ) → i < 512 → Is (s .alive i) → elem k (s .group i) ≡ eqb (headIn (restAt u k)) i)
+  Right k = (headIn (restAt u k) ≤ k) × ((i : ℕ) → i < roleCells → Is (s .alive i) → elem k (s .group i) ≡ eqb (headIn (restAt u k)) i)
 
-  right-before : (n k : ℕ) → k < n → k < 512 → Is (isPartAt t k) → Right k
+  right-before : (n k : ℕ) → k < n → k < roleCells → Is (isPartAt t k) → Right k
   right-before zero k b h p = absurd (omega arith)
   right-before (suc n) k b h p = test (eqb (headIn (restAt t k)) k) (λ e. own (eqb-true (headIn (restAt t k)) k e) e) (λ e. let d = eqb-false (headIn (restAt t k)) k e in let f = S .earlier k h p in let q : headIn (restAt t k) < k = omega arith in
       named e q (right-before n (headIn (restAt t k)) (omega arith) (omega arith) (f .1)))
     where
-      members : {c : Bool} → eqb (headIn (restAt t k)) k ≡ c → (i : ℕ) → i < 512 → Is (s .alive i) → elem k (s .group i) ≡ cond c (eqb k i) (elem (headIn (restAt t k)) (s .group i))
+      members : {c : Bool} → eqb (headIn (restAt t k)) k ≡ c → (i : ℕ) → i < roleCells → Is (s .alive i) → elem k (s .group i) ≡ cond c (eqb k i) (elem (headIn (restAt t k)) (s .group i))
       members e i l a = S .members i k l h a ∙ ap₂ (λ (b c : Bool). b && cond c (eqb k i) (elem (headIn (restAt t k)) (s .group i))) p e
 
       own : headIn (restAt t k) ≡ k → Is (eqb (headIn (restAt t k)) k) → Right k
@@ -46,7 +47,7 @@ module _ (F : Policy) (t u : List ℕ) (s : Seats (List ℕ)) (S : Traced F t s)
       named : eqb (headIn (restAt t k)) k ≡ false → headIn (restAt t k) < k → Right (headIn (restAt t k)) → Right k
       named e q r = let o = R .named k h q in let m = r .0 in (omega arith, λ i l a. members e i l a ∙ r .1 i l a ∙ ap (λ (x : ℕ). eqb x i) (sym o))
 
-  shown-heads : (k : ℕ) → k < 512 → isHeadAt u k ≡ s .alive k
+  shown-heads : (k : ℕ) → k < roleCells → isHeadAt u k ≡ s .alive k
   shown-heads k h = ap (λ (b : Bool). b && eqb (headIn (restAt u k)) k) (part-stays k) ∙ by-part (isPartAt t k) refl ∙ S .heads k h
     where
       by-head : Is (isPartAt t k) → eqb (headIn (restAt u k)) k ≡ eqb (headIn (restAt t k)) k
@@ -62,7 +63,7 @@ module _ (F : Policy) (t u : List ℕ) (s : Seats (List ℕ)) (S : Traced F t s)
       by-part : (b : Bool) → isPartAt t k ≡ b → (b && eqb (headIn (restAt u k)) k) ≡ (isPartAt t k && eqb (headIn (restAt t k)) k)
       by-part b e = test b (λ q. rw (q, e ∙ q) (by-head (e ∙ q))) (λ q. rw (q, e ∙ q) refl)
 
-  shown-members : (i k : ℕ) → i < 512 → k < 512 → Is (s .alive i) → elem k (s .group i) ≡ (isPartAt u k && eqb (headIn (restAt u k)) i)
+  shown-members : (i k : ℕ) → i < roleCells → k < roleCells → Is (s .alive i) → elem k (s .group i) ≡ (isPartAt u k && eqb (headIn (restAt u k)) i)
   shown-members i k l h a = by-part (isPartAt t k) refl ∙ ap (λ (b : Bool). b && eqb (headIn (restAt u k)) i) (sym (part-stays k))
     where
       by-part : (b : Bool) → isPartAt t k ≡ b → elem k (s .group i) ≡ (isPartAt t k && eqb (headIn (restAt u k)) i)
@@ -71,7 +72,7 @@ module _ (F : Policy) (t u : List ℕ) (s : Seats (List ℕ)) (S : Traced F t s)
           (λ q. S .members i k l h a ∙ ap (λ (b : Bool). b && cond (eqb (headIn (restAt t k)) k) (eqb k i) (elem (headIn (restAt t k)) (s .group i))) (e ∙ q) ∙ sym (ap (λ (b : Bool). b && eqb (headIn (restAt u k)) i) (e ∙ q)))
 
   -- THE LAW of the last pass
-  pub resolved-shows : Shows F u s
+  pub resolved-shows : ShowsGroups F u s
   resolved-shows = record {
     long = R .long;
     seats = λ k h. part-stays k ∙ S .seats k h;

@@ -5,6 +5,7 @@ use lib.ListN.{length}
 use mathlib.Core.List.{List}
 use mathlib.Core.Path.{_≡_}
 use Rattle.grant_grids.specs.Links.{linksOf}
+use Rattle.role_record.specs.Cells.{roleCells}
 use Rattle.role_record.specs.Record.{recordOf}
 use Rattle.mine_matches.specs.Matches.{knownIn, matchesIn}
 use Rattle.policy.specs.Policy.{Policy}
@@ -36,4 +37,4 @@ pub record Tables (F : Policy) (links matches known attributes holders permissio
 
 -- how many groups there are
 unfoldable pub headCount : List ℕ → ℕ
-headCount t = length (keep (isHeadAt t) (upTo 512))
+headCount t = length (keep (isHeadAt t) (upTo roleCells))

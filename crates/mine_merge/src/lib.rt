@@ -2,163 +2,93 @@
 ghost use lib.ListN.{length, getD};
 ghost use mathlib.Core.Path.{_≡_};
 ghost use Prim.Native.Nat.{ℕ, _+_, _≤_, _<_};
-ghost use Rattle.role_record.specs.Record.{Sized};
+ghost use Rattle.mine_seats.specs.Seats.{scratchWords};
+ghost use Rattle.role_record.specs.Cells.{roleCells};
+ghost use Rattle.role_record.specs.Record.{Sized, WithinLimits};
 ghost use Rattle.mine_merge.specs.Progress.{Settled};
 ghost use Rattle.mine_merge.specs.Steps.{Paired, Tables, headCount};
 ghost use Rattle.mine_heads.specs.Heads.{Marked};
-ghost use Rattle.mine_join.specs.Joins.{Prepared};
-ghost use Rattle.mine_search.specs.Search.{Finds};
 ghost use Rattle.policy.specs.Policy.{Policy};
 ghost use Rattle.mine_groups.specs.Scratch.{Merged};
-ghost use Rattle.mine_groups.specs.Seats.{seatMerges};
+ghost use Rattle.mine_groups.specs.SeatGroups.{seatMerges};
 use mine_heads::Marks;
-use mine_search::Found;
+use mine_search::Seeking;
 use role_record::ByPlace;
 use role_record::ByPlaceMember;
 use role_record::ByRole;
 use role_record::ByRoleOperation;
 use role_record::CountBySide;
 use role_record::Links;
-use role_record::OfSide;
 use role_record::RoleFile;
+use role_record::Sizes;
 
-// Joins the group of seat `start` with the seat found behind it, and what comes of it with the first seat that it may be joined with, until
-// there is none: how many joins were made. After a join the seats on both sides are tried, since the group is a new one.
-fn join_on<'a>(
-    scratch: &mut [u64],
-    heads: &mut Marks,
-    ready: &mut Marks,
-    people: &mut OfSide,
-    things: &mut OfSide,
-    links: &'a Links,
-    matches: &'a ByPlaceMember,
-    known: &'a ByPlace,
-    attributes: &'a CountBySide,
-    users: usize,
-    resources: usize,
-    operations: usize,
-    start: usize,
-    behind: Found,
-) -> usize
-    requires { ⌜ (users ≤ 64) × (resources ≤ 64) × (operations ≤ 64) × (getD (now attributes) 0 0 ≤ 6) × (getD (now attributes) 1 0 ≤ 6) × (start < 512)
-        × (length (now scratch) ≡ 2048)
-        × Prepared (now matches) (now scratch) (now heads) (now ready) (now people) (now things) start
-        × Finds (now links) (now matches) (now known) (now attributes) users resources operations (now scratch) start (start + 1) (behind .seat) (behind .level) ⌝ }
-    ensures { λ n. ⌜
-        (length (now (scratch .exit)) ≡ 2048)
-        × (n + headCount (now (scratch .exit)) ≤ headCount (now (scratch .entry)))
-        × Marked (now (heads .exit)) (now (scratch .exit))
-        × ((F : Policy)
-        → Sized F
-        → Paired F (now (links .entry)) (now (matches .entry)) (now (known .entry)) (now (attributes .entry)) users
-        resources operations
-        → (made : ℕ)
-        → Settled F (now (scratch .entry)) made start
-        → Settled F (now (scratch .exit)) (made + n) (start + 1)) ⌝ }
-{
-    let mut merges: usize = 0;
-    let mut c = start;
-    let mut other = behind;
-    while other.seat < RoleFile::PARTS {
-        c = mine_join::join_found(scratch, heads, ready, people, things, matches, c, other);
-        merges += 1;
-        other = mine_search::first_partner(
-            scratch,
-            ready,
-            links,
-            matches,
-            people,
-            things,
-            known,
-            attributes,
-            users,
-            resources,
-            operations,
-            c,
-            0,
-        );
-    }
-    merges
-}
-
-// Joins pairs until the seat `start`, or an earlier one that has taken it in, is in none: how many joins were made. No pair of earlier
-// seats is left before, so that at first only the seats behind `start` are tried.
+// Joins the group of seat `start` with the first seat that it may be joined with, and what comes of it likewise, until there is none: how
+// many joins were made. No pair of earlier seats is left before, so that at first only the seats behind `start` are tried.
 fn settle_head<'a>(
     scratch: &mut [u64],
     heads: &mut Marks,
     links: &'a Links,
     matches: &'a ByPlaceMember,
-    known: &'a ByPlace,
+    knowing: &'a ByPlace,
     attributes: &'a CountBySide,
-    users: usize,
-    resources: usize,
-    operations: usize,
+    sizes: Sizes,
     start: usize,
 ) -> usize
     requires { ⌜
-        (users ≤ 64)
-        × (resources ≤ 64)
-        × (operations ≤ 64)
+        WithinLimits sizes
         × (getD (now attributes) 0 0 ≤ 6)
         × (getD (now attributes) 1 0 ≤ 6)
-        × (start < 512)
-        × (length (now scratch) ≡ 2048)
+        × (start < roleCells)
+        × (length (now scratch) ≡ scratchWords)
         × Marked (now heads) (now scratch) ⌝ }
     ensures { λ n. ⌜
-        (length (now (scratch .exit)) ≡ 2048)
+        (length (now (scratch .exit)) ≡ scratchWords)
         × (n + headCount (now (scratch .exit)) ≤ headCount (now (scratch .entry)))
         × Marked (now (heads .exit)) (now (scratch .exit))
         × ((F : Policy)
         → Sized F
-        → Paired F (now (links .entry)) (now (matches .entry)) (now (known .entry)) (now (attributes .entry)) users
-        resources operations
+        → Paired F (now (links .entry)) (now (matches .entry)) (now (knowing .entry)) (now (attributes .entry))
+        (sizes .users) (sizes .resources) (sizes .operations)
         → (made : ℕ)
         → Settled F (now (scratch .entry)) made start
         → Settled F (now (scratch .exit)) (made + n) (start + 1)) ⌝ }
 {
-    let mut people = [0u64; RoleFile::ATTRIBUTES];
-    let mut things = [0u64; RoleFile::ATTRIBUTES];
+    let mut met = [0u64; RoleFile::SIDES * RoleFile::ATTRIBUTES];
     let mut ready = [0u64; mine_heads::WORDS];
-    mine_join::prepare(
-        scratch,
-        heads,
-        &mut ready,
-        &mut people,
-        &mut things,
-        matches,
-        start,
-    );
-    let behind = mine_search::first_partner(
-        scratch,
-        &ready,
-        links,
-        matches,
-        &people,
-        &things,
-        known,
-        attributes,
-        users,
-        resources,
-        operations,
-        start,
-        start + 1,
-    );
-    join_on(
-        scratch,
-        heads,
-        &mut ready,
-        &mut people,
-        &mut things,
-        links,
-        matches,
-        known,
-        attributes,
-        users,
-        resources,
-        operations,
-        start,
-        behind,
-    )
+    mine_join::prepare(scratch, heads, &mut ready, &mut met, matches, start);
+    let mut merges: usize = 0;
+    let mut seeking = Seeking {
+        seat: start,
+        from: start + 1,
+    };
+    loop {
+        let other = mine_search::first_partner(
+            scratch,
+            &ready,
+            links,
+            matches,
+            &met,
+            knowing,
+            attributes,
+            sizes,
+            seeking,
+        );
+        if RoleFile::PARTS <= other.seat {
+            return merges;
+        }
+        let c = mine_join::join_found(
+            scratch,
+            heads,
+            &mut ready,
+            &mut met,
+            matches,
+            seeking.seat,
+            other,
+        );
+        merges += 1;
+        // What comes of a join is a new group, for which the seats on both sides are tried.
+        seeking = Seeking { seat: c, from: 0 };
+    }
 }
 
 // The same, where most seats are no heads any more.
@@ -167,30 +97,26 @@ fn settle<'a>(
     heads: &mut Marks,
     links: &'a Links,
     matches: &'a ByPlaceMember,
-    known: &'a ByPlace,
+    knowing: &'a ByPlace,
     attributes: &'a CountBySide,
-    users: usize,
-    resources: usize,
-    operations: usize,
+    sizes: Sizes,
     start: usize,
 ) -> usize
     requires { ⌜
-        (users ≤ 64)
-        × (resources ≤ 64)
-        × (operations ≤ 64)
+        WithinLimits sizes
         × (getD (now attributes) 0 0 ≤ 6)
         × (getD (now attributes) 1 0 ≤ 6)
-        × (start < 512)
-        × (length (now scratch) ≡ 2048)
+        × (start < roleCells)
+        × (length (now scratch) ≡ scratchWords)
         × Marked (now heads) (now scratch) ⌝ }
     ensures { λ n. ⌜
-        (length (now (scratch .exit)) ≡ 2048)
+        (length (now (scratch .exit)) ≡ scratchWords)
         × (n + headCount (now (scratch .exit)) ≤ headCount (now (scratch .entry)))
         × Marked (now (heads .exit)) (now (scratch .exit))
         × ((F : Policy)
         → Sized F
-        → Paired F (now (links .entry)) (now (matches .entry)) (now (known .entry)) (now (attributes .entry)) users
-        resources operations
+        → Paired F (now (links .entry)) (now (matches .entry)) (now (knowing .entry)) (now (attributes .entry))
+        (sizes .users) (sizes .resources) (sizes .operations)
         → (made : ℕ)
         → Settled F (now (scratch .entry)) made start
         → Settled F (now (scratch .exit)) (made + n) (start + 1)) ⌝ }
@@ -201,11 +127,9 @@ fn settle<'a>(
             heads,
             links,
             matches,
-            known,
+            knowing,
             attributes,
-            users,
-            resources,
-            operations,
+            sizes,
             start,
         );
     }
@@ -217,43 +141,35 @@ pub fn merge<'a>(
     scratch: &mut [u64],
     links: &'a Links,
     matches: &'a ByPlaceMember,
-    known: &'a ByPlace,
+    knowing: &'a ByPlace,
     attributes: &'a CountBySide,
     holders: &'a ByRole,
     permissions: &'a ByRoleOperation,
-    users: usize,
-    resources: usize,
-    operations: usize,
-    roles: usize,
+    sizes: Sizes,
 ) -> usize
     requires { ⌜
-        (users ≤ 64)
-        × (resources ≤ 64)
-        × (operations ≤ 16)
-        × (roles ≤ 32)
+        WithinLimits sizes
         × (getD (now attributes) 0 0 ≤ 6)
         × (getD (now attributes) 1 0 ≤ 6)
-        × (length (now scratch) ≡ 2048) ⌝ }
+        × (length (now scratch) ≡ scratchWords) ⌝ }
     ensures { λ n. ⌜
-        (length (now (scratch .exit)) ≡ 2048)
+        (length (now (scratch .exit)) ≡ scratchWords)
         × ((F : Policy)
         → Sized F
-        → Tables F (now (links .entry)) (now (matches .entry)) (now (known .entry)) (now (attributes .entry))
-        (now (holders .entry)) (now (permissions .entry)) users resources operations roles
+        → Tables F (now (links .entry)) (now (matches .entry)) (now (knowing .entry)) (now (attributes .entry))
+        (now (holders .entry)) (now (permissions .entry)) (sizes .users) (sizes .resources) (sizes .operations)
+        (sizes .roles)
         → (n ≡ seatMerges F) × Merged F (now (scratch .exit))) ⌝ }
 {
     mine_fill::fill(
         scratch,
         links,
         matches,
-        known,
+        knowing,
         attributes,
         holders,
         permissions,
-        users,
-        resources,
-        operations,
-        roles,
+        sizes,
     );
     let mut heads = [0u64; mine_heads::WORDS];
     mine_heads::mark(scratch, &mut heads);
@@ -264,11 +180,9 @@ pub fn merge<'a>(
             &mut heads,
             links,
             matches,
-            known,
+            knowing,
             attributes,
-            users,
-            resources,
-            operations,
+            sizes,
             front,
         );
     }

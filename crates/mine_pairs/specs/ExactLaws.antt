@@ -2,29 +2,29 @@
 -- whether the rule with exactly their users and resources does, and that nobody who passes besides is joined with anything that passes.
 -- Assumes nothing.
 use Prim.Native.Nat.{ℕ, _+_, _*_, _^_, _≤_, _<_}
-use borrow.Author.Tests.{eqb-true, eqb-false, ltb-true, ltb-false}
+use borrow.Author.Tests.{eqb-true, eqb-false, ltb-true, not-true}
 use lib.Dec.{eqb, ltb}
 use lib.ListN.{getD}
 use mathlib.Core.Bool.{Bool, true, false, _&&_, _||_, not}
 use mathlib.Core.List.{List}
 use mathlib.Core.Logic.{_⊎_, inl, inr, ⊎-elim}
 use mathlib.Core.Option.{none}
-use mathlib.Core.Path.{_≡_, refl, sym, ap, ap₂, _∙_}
+use mathlib.Core.Path.{_≡_, sym, ap, ap₂, _∙_}
 use native.Mathlib.Omega.{arith}
 use Rattle.files.specs.Calls.{first}
 use Rattle.grant_grids.specs.Grid.{differAt, differenceOf, isSame}
 use Rattle.grant_grids.specs.GridLaws.{triples-same, same-means}
 use Rattle.policy.specs.RuleLaws.{same-in, same-out}
 use Rattle.policy.specs.Rules.{Setting, by, sameBlock, user, resource}
-use Rattle.sets.specs.MaskLaws.{bit-out, mask-lt}
+use Rattle.sets.specs.MaskLaws.{mask-lt, bit-low}
 use Rattle.sets.specs.Sets.{bit, subset, maskOf}
 use Rattle.sets.specs.SetLaws.{bit-none, subset-out, subset-self, bit-mask}
 use Rattle.sets.specs.Tests.{Is, imp, all, upTo}
-use Rattle.sets.specs.TestLaws.{and-in, and-l, and-r, or-l, or-r, or-out, never, test, fails, same, imp-in, imp-out, all-in, all-out, upTo-out, not-in, not-out}
+use Rattle.sets.specs.TestLaws.{and-in, and-l, and-r, or-l, or-r, or-out, never, test, fails, same, imp-in, imp-out, all-in, all-out, upTo-out, not-in}
 use Rattle.mine_theory.specs.Words.Words.{Words, joined}
 use Rattle.mine_pairs.specs.FitLaws.{row-bit}
-use Rattle.mine_pairs.specs.JoinLaws.{some-member, less-out, free-in, free-out}
-use Rattle.mine_pairs.specs.Pairing.{tableSpans, covering, covered, grouped, firstBeyond, grantsJust, grantsExactly, less, cornerFree, rimFree, reaches, cornersFree, mayJoin}
+use Rattle.mine_pairs.specs.MayJoinLaws.{some-member, less-out, free-in, free-out}
+use Rattle.mine_pairs.specs.Pairing.{tableSpans, covering, covered, grouped, firstBeyond, coversJust, grantsExactly, less, cornerFree, rimFree, reaches, cornersFree, mayJoin}
 
 -- ---- triple by triple
 
@@ -33,16 +33,16 @@ abbrev sizes : ℕ → ℕ → ℕ → Setting
 sizes us rs os = record { side = λ w. record { count = by w us rs; attrs = 0; isSet = λ a. false; value = λ a x. none; below = λ a v x. false }; slots = os }
 
 module _ (links : List ℕ) (W X : Words) (who what us rs os : ℕ) where
-  just-means : grantsJust links W X who what us rs os ≡ sameBlock (sizes us rs os) (covered links W X who what) (grouped links W X)
+  just-means : coversJust links W X who what us rs os ≡ sameBlock (sizes us rs os) (covered links W X who what) (grouped links W X)
   unfolding firstBeyond differAt
   just-means =
       ap (λ (ts : List (ℕ × ℕ × ℕ)). isSame (differenceOf (first (differAt (covered links W X who what) (grouped links W X)) ts))) (sym (triples-same (sizes us rs os)))
       ∙ same-means (sizes us rs os) (covered links W X who what) (grouped links W X)
 
-  just-in : ((u r o : ℕ) → u < us → r < rs → o < os → covered links W X who what u r o ≡ grouped links W X u r o) → Is (grantsJust links W X who what us rs os)
+  just-in : ((u r o : ℕ) → u < us → r < rs → o < os → covered links W X who what u r o ≡ grouped links W X u r o) → Is (coversJust links W X who what us rs os)
   just-in h = just-means ∙ same-in (sizes us rs os) (covered links W X who what) (grouped links W X) (λ u r o t. h u r o (t .user) (t .resource) (t .op))
 
-  just-out : Is (grantsJust links W X who what us rs os) → (u r o : ℕ) → u < us → r < rs → o < os → covered links W X who what u r o ≡ grouped links W X u r o
+  just-out : Is (coversJust links W X who what us rs os) → (u r o : ℕ) → u < us → r < rs → o < os → covered links W X who what u r o ≡ grouped links W X u r o
   just-out h u r o lu lr lo = same-out (sizes us rs os) (covered links W X who what) (grouped links W X) (sym just-means ∙ h) u r o (record { user = lu; resource = lr; op = lo })
 
 -- these atoms join a user with a resource
@@ -127,15 +127,11 @@ grouped-within links W X u r o lu lr lo h =
     (groups-covered links W X (joined W X .users) (joined W X .resources) (subset-self (joined W X .users)) (subset-self (joined W X .resources)) u r o lu lr lo h) in
     (t .user, t .resource)
 
--- a member of a set of numbers below n
-member-low : (n m k : ℕ) → m < 2 ^ n → Is (bit m k) → k < n
-member-low n m k l h = test (ltb k n) (ltb-true k n) (λ e. never h (bit-out n m k l (ltb-false k n e)))
-
 -- ---- who passes besides
 
 module _ (links : List ℕ) (W X : Words) (who what us rs os : ℕ) (mu : us ≤ 64) (mr : rs ≤ 64) (mo : os ≤ 64) (bu : who < 2 ^ us) (br : what < 2 ^ rs)
     (p : Is (subset (joined W X .users) who)) (q : Is (subset (joined W X .resources) what)) where
-  just-exactly : Is (grantsJust links W X who what us rs os) → Is (grantsExactly links W X us rs os)
+  just-exactly : Is (coversJust links W X who what us rs os) → Is (grantsExactly links W X us rs os)
   unfolding grantsExactly
   just-exactly h = just-in links W X (joined W X .users) (joined W X .resources) us rs os λ u r o lu lr lo.
       same (covered links W X (joined W X .users) (joined W X .resources) u r o) (grouped links W X u r o)
@@ -143,17 +139,17 @@ module _ (links : List ℕ) (W X : Words) (who what us rs os : ℕ) (mu : us ≤
       (λ k. groups-covered links W X (joined W X .users) (joined W X .resources) (subset-self (joined W X .users)) (subset-self (joined W X .resources)) u r o (omega arith) (omega arith) (omega arith) k)
 
   -- who and what passes and is joined is a user and a resource of the groups
-  passers-own : (o : ℕ) → o < os → Is (bit (joined W X .ops) o) → Is (grantsJust links W X who what us rs os) → (u r : ℕ) → Is (bit who u) → Is (bit what r) → Is (joins links (joined W X .atoms) u r)
+  passers-own : (o : ℕ) → o < os → Is (bit (joined W X .ops) o) → Is (coversJust links W X who what us rs os) → (u r : ℕ) → Is (bit who u) → Is (bit what r) → Is (joins links (joined W X .atoms) u r)
       → Is (bit (joined W X .users) u) × Is (bit (joined W X .resources) r)
   unfolding covering
   passers-own o lo b h u r pu pr k =
-      let lu = member-low us who u bu pu in
-      let lr = member-low rs what r br pr in
+      let lu = bit-low us who u bu pu in
+      let lr = bit-low rs what r br pr in
       grouped-within links W X u r o (omega arith) (omega arith) (omega arith)
       (sym (just-out links W X who what us rs os h u r o lu lr lo)
       ∙ spans-in links (covering W X who what) u r o (omega arith) (record { operation = b; user = pu; resource = pr; joined-by = k }))
 
-  just-rim : (o : ℕ) → o < os → Is (bit (joined W X .ops) o) → Is (grantsJust links W X who what us rs os) → Is (rimFree links (joined W X .atoms) (joined W X .users) (joined W X .resources) who what)
+  just-rim : (o : ℕ) → o < os → Is (bit (joined W X .ops) o) → Is (coversJust links W X who what us rs os) → Is (rimFree links (joined W X .atoms) (joined W X .users) (joined W X .resources) who what)
   unfolding rimFree
   just-rim o lo b h = and-in
       (free-in links (joined W X .atoms) (joined W X .users) (less what (joined W X .resources)) λ u r lu lr pu pr k.
@@ -163,7 +159,7 @@ module _ (links : List ℕ) (W X : Words) (who what us rs os : ℕ) (mu : us ≤
       let t = less-out who (joined W X .users) u lu pu in
       never (passers-own o lo b h u r (t .0) pr k .0) (t .1))
 
-  rim-just : Is (grantsExactly links W X us rs os) → Is (rimFree links (joined W X .atoms) (joined W X .users) (joined W X .resources) who what) → Is (grantsJust links W X who what us rs os)
+  rim-just : Is (grantsExactly links W X us rs os) → Is (rimFree links (joined W X .atoms) (joined W X .users) (joined W X .resources) who what) → Is (coversJust links W X who what us rs os)
   unfolding grantsExactly rimFree covering
   rim-just e f = just-in links W X who what us rs os λ u r o lu lr lo.
       same (covered links W X who what u r o) (grouped links W X u r o)
@@ -179,9 +175,9 @@ module _ (links : List ℕ) (W X : Words) (who what us rs os : ℕ) (mu : us ≤
       (groups-covered links W X who what p q u r o (omega arith) (omega arith) (omega arith))
 
   -- THE LAW: the groups are granted exactly, and nobody besides is joined
-  rim-law : (o : ℕ) → o < os → Is (bit (joined W X .ops) o) → grantsJust links W X who what us rs os ≡ (grantsExactly links W X us rs os && rimFree links (joined W X .atoms) (joined W X .users) (joined W X .resources) who what)
+  rim-law : (o : ℕ) → o < os → Is (bit (joined W X .ops) o) → coversJust links W X who what us rs os ≡ (grantsExactly links W X us rs os && rimFree links (joined W X .atoms) (joined W X .users) (joined W X .resources) who what)
   rim-law o lo b =
-      same (grantsJust links W X who what us rs os) (grantsExactly links W X us rs os && rimFree links (joined W X .atoms) (joined W X .users) (joined W X .resources) who what)
+      same (coversJust links W X who what us rs os) (grantsExactly links W X us rs os && rimFree links (joined W X .atoms) (joined W X .users) (joined W X .resources) who what)
       (λ h. and-in (just-exactly h) (just-rim o lo b h)) (λ h. rim-just (and-l (grantsExactly links W X us rs os) _ h) (and-r (grantsExactly links W X us rs os) _ h))
 
 -- ---- groups that may become one
@@ -295,19 +291,16 @@ module _ (links : List ℕ) (W X : Words) (j : Is (mayJoin links W X)) where
   alike-exactly e us rs os mu mr mo = just-in links W X (joined W X .users) (joined W X .resources) us rs os λ u r o lu lr lo.
       user-exactly u r o (omega arith) (omega arith) (omega arith) (λ _ i b. ap (λ (m : ℕ). bit m i) (sym e) ∙ b) (λ _ i b. ap (λ (m : ℕ). bit m i) e ∙ b)
 
--- and a group together with itself
-pub self-exactly : (links : List ℕ) (W : Words) (us rs os : ℕ) → us ≤ 64 → rs ≤ 64 → os ≤ 64 → Is (grantsExactly links W W us rs os)
+-- a group may become one with itself
+pub self-joins : (links : List ℕ) (W : Words) → Is (mayJoin links W W)
 unfolding reaches mayJoin cornersFree
-self-exactly links W = alike-exactly links W W may refl
+self-joins links W = and-in (and-in reached reached) (and-in free free)
   where
     free : Is (cornerFree links (joined W W .atoms) (less (W .users) (W .users)) (less (W .resources) (W .resources)))
     free = free-in links (joined W W .atoms) (less (W .users) (W .users)) (less (W .resources) (W .resources)) λ u r lu lr p q k. let t = less-out (W .users) (W .users) u lu p in never (t .0) (t .1)
 
     reached : Is (reaches W W)
     reached = or-r (eqb (less (W .ops) (W .ops)) 0) (and-in (subset-self (W .users)) (subset-self (W .resources)))
-
-    may : Is (mayJoin links W W)
-    may = and-in (and-in reached reached) (and-in free free)
 
 -- ---- the code's steps
 
@@ -331,12 +324,12 @@ module _ (links : List ℕ) (W X : Words) (who what us rs os : ℕ) {m n s b a :
   act : (o : ℕ) × (o < os) × Is (bit (joined W X .ops) o)
   unfolding joined
   act =
-      let w = some-member (maskOf 64 (λ k. bit s k && bit b k)) (mask-lt 64 (λ k. bit s k && bit b k)) (eqb-false _ 0 (ap (λ (x : ℕ). eqb x 0) (sym (t .acts)) ∙ not-out (eqb a 0) (and-r (p && q) _ (t .passed)))) in
+      let w = some-member (maskOf 64 (λ k. bit s k && bit b k)) (mask-lt 64 (λ k. bit s k && bit b k)) (eqb-false _ 0 (ap (λ (x : ℕ). eqb x 0) (sym (t .acts)) ∙ not-true (eqb a 0) (and-r (p && q) _ (t .passed)))) in
       let k = meet-out s b (w .0) (w .1) (w .2) in
       (w .0, ltb-true (w .0) os (sym (ap (λ (x : ℕ). bit x (w .0)) (t .there) ∙ bit-mask 64 (λ k. ltb k os) (w .0) (w .1)) ∙ k .1), sym (ap (λ (x : ℕ). bit x (w .0)) (t .operations)) ∙ k .0)
 
   -- those who pass besides decide
-  pub besides-decide : grantsJust links W X who what us rs os ≡ (grantsExactly links W X us rs os && rimFree links (maskOf 64 (λ k. bit (W .atoms) k && bit (X .atoms) k)) m n who what)
+  pub besides-decide : coversJust links W X who what us rs os ≡ (grantsExactly links W X us rs os && rimFree links (maskOf 64 (λ k. bit (W .atoms) k && bit (X .atoms) k)) m n who what)
   unfolding joined
   besides-decide =
       rim-law links W X who what us rs os (t .many) (t .much) (t .few) (t .who-low) (t .what-low)

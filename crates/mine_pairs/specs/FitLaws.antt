@@ -4,7 +4,7 @@ use Prim.Native.Nat.{ℕ, _+_, _*_, _/_, _%_, _^_, _≤_, _<_}
 use borrow.Author.Tests.{ltb-true}
 use lib.Dec.{ltb}
 use lib.ListN.{getD}
-use mathlib.Core.Bool.{Bool, true, false, _&&_, _||_}
+use mathlib.Core.Bool.{Bool, _&&_, _||_, or-self, and-self}
 use mathlib.Core.List.{List}
 use mathlib.Core.Path.{_≡_, refl, sym, ap, ap₂, _∙_}
 use native.Mathlib.Omega.{arith}
@@ -19,12 +19,13 @@ use Rattle.mine_pairs.specs.Pairing.{tableSpans, covering, covered, grou
 use Rattle.policy.specs.Covering.{opIn, standsIn}
 use Rattle.policy.specs.Policy.{Policy, sideOf, settingOf}
 use Rattle.policy.specs.Rules.{Setting, Which, Block, attrsOf, ownAt, Triple, user, resource}
+use Rattle.sets.specs.ListLaws.{all-ext}
 use Rattle.sets.specs.MaskLaws.{bit-maskOf, mask-lt, mask-same, mask-bits, mask-wide}
 use Rattle.sets.specs.SetLaws.{bit-none, bit-mask}
 use Rattle.sets.specs.Sets.{narrowing, bit, maskOf}
 use Rattle.sets.specs.TestLaws.{and-l, and-r, test}
 use Rattle.sets.specs.Tests.{Is, imp, all, upTo}
-use Rattle.mine_theory.specs.Words.WordLaws.{all-ext, same-tests}
+use Rattle.mine_theory.specs.Words.WordLaws.{same-tests, words-same}
 use Rattle.mine_theory.specs.Words.Words.{Words, membersOf, Roomy, passes, joined, together, atomIn, wordsOf, atomsHold, coverGrants, spans, pairFits, ownFits}
 
 -- every atom of a word is over declared attributes
@@ -48,11 +49,6 @@ row-bit links m us rs u r l = test (bit us u)
     (λ e. rw e (bit-none r))
 
 module _ (F : Policy) (Z : Sized F) where
-  -- the tables have room for the policy
-  pub roomy : Roomy (settingOf F)
-  unfolding settingOf sideOf
-  roomy = record { many = Z .many; attributes = Z .declared; operable = let m = Z .operable in omega arith }
-
   -- the table of links says which atoms of a word hold
   pub atoms-linked : (m u r : ℕ) → Declared (settingOf F) m → u < F .table user .count → r < F .table resource .count
       → all (λ i. imp (bit m i) (bit (getD (linksOf F) (64 * i + u) 0) r)) (upTo 36) ≡ atomsHold (settingOf F) m u r
@@ -105,21 +101,8 @@ pub record Bounded (W : Words) : Type 0 where
   pub ops : W .ops < 2 ^ 64
   pub atoms : W .atoms < 2 ^ 64
 
-or-self : (b : Bool) → (b || b) ≡ b
-or-self true = refl
-or-self false = refl
-
-and-self : (b : Bool) → (b && b) ≡ b
-and-self true = refl
-and-self false = refl
-
 mask-self : (m : ℕ) (f : Bool → Bool) → ((b : Bool) → f b ≡ b) → m < 2 ^ 64 → maskOf 64 (λ k. f (bit m k)) ≡ m
 mask-self m f e l = mask-same 64 (λ k. f (bit m k)) (bit m) (λ k _. e (bit m k)) ∙ sym (mask-bits 64 m l)
-
--- words that agree one by one
-pub words-same : {a b c d e f g h : ℕ} → a ≡ e → b ≡ f → c ≡ g → d ≡ h
-    → _≡_ {A = Words} (record { users = a; resources = b; ops = c; atoms = d }) (record { users = e; resources = f; ops = g; atoms = h })
-words-same p q r s = cc
 
 -- a group joined to itself
 pub joined-self : (W : Words) → Bounded W → joined W W ≡ W

@@ -1,8 +1,8 @@
 pub mod Pairing
 pub mod PairingLaws
 pub mod FitLaws
-pub mod JoinLaws
+pub mod MayJoinLaws
 pub mod ExactLaws
 pub mod LookedLaws
-pub mod Levels
-pub mod LevelLaws
+pub mod PairLevels
+pub mod PairLevelLaws

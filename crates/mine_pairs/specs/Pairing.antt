@@ -45,12 +45,12 @@ OthersSame links W X among who what us =
     (u : ℕ) → u < us → bit among u ≡ false → (r o : ℕ) → r < 64 → o < 64 → covered links W X who what u r o ≡ grouped links W X u r o
 
 -- they differ at none
-abbrev pub grantsJust : List ℕ → Words → Words → ℕ → ℕ → ℕ → ℕ → ℕ → Bool
-grantsJust links W X who what us rs os = isSame (differenceOf (firstBeyond links W X who what us rs os))
+abbrev pub coversJust : List ℕ → Words → Words → ℕ → ℕ → ℕ → ℕ → ℕ → Bool
+coversJust links W X who what us rs os = isSame (differenceOf (firstBeyond links W X who what us rs os))
 
 -- the covering rule would have just the triples of the two groups if nobody but their users and nothing but their resources passed
 unfoldable pub grantsExactly : List ℕ → Words → Words → ℕ → ℕ → ℕ → Bool
-grantsExactly links W X us rs os = grantsJust links W X (joined W X .users) (joined W X .resources) us rs os
+grantsExactly links W X us rs os = coversJust links W X (joined W X .users) (joined W X .resources) us rs os
 
 -- one set without the other
 abbrev pub less : ℕ → ℕ → ℕ

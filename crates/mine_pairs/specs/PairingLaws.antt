@@ -3,18 +3,17 @@
 use Prim.Native.Nat.{ℕ, _+_, _≤_, _<_}
 use borrow.Author.Tests.{eqb-true}
 use lib.Dec.{eqb}
-use mathlib.Core.Bool.{Bool, true, false, _&&_, _||_, not}
-use mathlib.Core.List.{List, [], _∷_, map, List·Memᴰ·head, List·Memᴰ·tail}
+use mathlib.Core.Bool.{Bool, true, false, _&&_, _||_, not, or-false}
+use mathlib.Core.List.{List, map}
 use mathlib.Core.Logic.{_⊎_, inl, inr}
-use mathlib.Core.Option.{none}
 use mathlib.Core.Path.{_≡_, refl, sym, ap, ap₂, _∙_}
 use native.Mathlib.Omega.{arith}
+use Rattle.files.specs.CallLaws.{first-none}
 use Rattle.files.specs.Calls.{first}
 use Rattle.grant_grids.specs.Grid.{tripleList, differAt, differenceOf}
 use Rattle.grant_grids.specs.GridLaws.{UsersPassed, ResourcesPassed, OperationsPassed, user-passed, found}
 use Rattle.grant_grids.specs.declared.Difference.the-variants.{Same, At}
 use Rattle.grant_links.specs.Linked.{rowOf}
-use Rattle.sets.specs.MaskLaws.{or-false}
 use Rattle.sets.specs.Sets.{bit, maskOf}
 use Rattle.sets.specs.SetLaws.{bit-none, bit-mask}
 use Rattle.sets.specs.Tests.{Is, iff, _isIn_, each, upTo}
@@ -64,11 +63,6 @@ module _ (mine theirs c a b : ℕ) where
 
 -- ---- the search
 
--- where no member passes there is no first
-first-never : {T : Type 0} (f : T → Bool) (l : List T) → ((x : T) → x isIn l → f x ≡ false) → first f l ≡ none
-first-never f [] h = refl
-first-never f (x ∷ xs) h = rw (h x (List·Memᴰ·head refl)) (first-never f xs (λ y m. h y (List·Memᴰ·tail m)))
-
 -- the words that the code has at a user: the operations and the atoms of the covering rule, its row c, and the rows a and b of the groups
 pub record RowsAt (links : List ℕ) (W X : Words) (who what u all atoms c a b : ℕ) : Type 0 where
   pub operations : all ≡ maskOf 64 (λ k. bit (W .ops) k || bit (X .ops) k)
@@ -98,7 +92,7 @@ module _ (links : List ℕ) (W X : Words) (who what : ℕ) where
   unfolding differAt
   user-same rs os n lr lo s h =
       user-passed (covered links W X who what) (grouped links W X) rs os n rs h
-      (first-never (differAt (covered links W X who what) (grouped links W X)) (each (λ r. map (λ o. (n, r, o)) (upTo os)) (upTo rs)) alike) refl
+      (first-none (differAt (covered links W X who what) (grouped links W X)) (each (λ r. map (λ o. (n, r, o)) (upTo os)) (upTo rs)) alike) refl
     where
       alike : (t : ℕ × ℕ × ℕ) → t isIn each (λ r. map (λ o. (n, r, o)) (upTo os)) (upTo rs) → differAt (covered links W X who what) (grouped links W X) t ≡ false
       alike t m =

@@ -5,18 +5,20 @@ ghost use mathlib.Core.Path.{_≡_};
 ghost use Prim.Native.Nat.{_^_, _≤_, _<_};
 ghost use lib.ListN.{getD};
 ghost use Rattle.grant_grids.specs.Grid.{differenceOf};
-ghost use Rattle.mine_matches.specs.Matches.{both, Met};
-ghost use Rattle.mine_pairs.specs.Levels.{levelWithin, withOwn, tablesFit, pairLevel, groupLevel};
-ghost use Rattle.mine_pairs.specs.Pairing.{wordsIn, rowsAgree, firstBeyond, OthersSame, grantsJust, grantsExactly, cornerFree, rimFree, reaches, cornersFree, mayJoin, changedUsers};
+ghost use Rattle.mine_matches.specs.Matches.{bothMembers, SidesMet};
+ghost use Rattle.mine_pairs.specs.PairLevels.{levelWithin, withOwn, tablesFit, pairLevel, groupLevel};
+ghost use Rattle.mine_pairs.specs.Pairing.{wordsIn, rowsAgree, firstBeyond, OthersSame, coversJust, grantsExactly, cornerFree, rimFree, reaches, cornersFree, mayJoin, changedUsers};
 ghost use Rattle.sets.specs.Sets.{bit};
 ghost use Rattle.sets.specs.Tests.{iff};
+ghost use Rattle.role_record.specs.Record.{WithinLimits};
 use grant_grids::Difference;
+use role_record::ByAttribute;
 use role_record::ByPlace;
 use role_record::ByPlaceMember;
 use role_record::CountBySide;
 use role_record::Links;
-use role_record::OfSide;
 use role_record::RoleFile;
+use role_record::Sizes;
 
 // In the place of a level where two groups fit none.
 pub const NO_LEVEL: usize = 4;
@@ -71,24 +73,21 @@ pub fn first_beyond(
     among: u64,
     who: u64,
     what: u64,
-    users: usize,
-    resources: usize,
-    operations: usize,
+    sizes: Sizes,
 ) -> Difference
     requires { ⌜
-        (users ≤ 64)
-        × (resources ≤ 64)
-        × (operations ≤ 64)
-        × OthersSame (now links) (wordsIn g) (wordsIn h) among who what users ⌝ }
+        WithinLimits sizes
+        × OthersSame (now links) (wordsIn g) (wordsIn h) among who what (sizes .users) ⌝ }
     ensures { λ d. ⌜
         d
         ≡ differenceOf
-        (firstBeyond (now (links .entry)) (wordsIn g) (wordsIn h) who what users resources operations) ⌝ }
+        (firstBeyond (now (links .entry)) (wordsIn g) (wordsIn h) who what (sizes .users) (sizes .resources)
+        (sizes .operations)) ⌝ }
 {
     let all = sets::union(g.operations, h.operations);
     let atoms = sets::meet(g.atoms, h.atoms);
     'triples: loop {
-        for u in 0..users {
+        for u in 0..sizes.users {
             // Any other user has the same triples on both sides.
             if !sets::has(among, u) {
                 continue;
@@ -100,8 +99,8 @@ pub fn first_beyond(
             if agree(g.operations, h.operations, c, a, b) {
                 continue;
             }
-            for r in 0..resources {
-                for o in 0..operations {
+            for r in 0..sizes.resources {
+                for o in 0..sizes.operations {
                     if differ_at(all, c, g.operations, a, h.operations, b, r, o) {
                         break 'triples Difference::At(u, r, o);
                     }
@@ -194,18 +193,17 @@ fn grants_just(
     among: u64,
     who: u64,
     what: u64,
-    users: usize,
-    resources: usize,
-    operations: usize,
+    sizes: Sizes,
 ) -> bool
     requires { ⌜
-        (users ≤ 64)
-        × (resources ≤ 64)
-        × (operations ≤ 64)
-        × OthersSame (now links) (wordsIn g) (wordsIn h) among who what users ⌝ }
-    ensures { λ s. ⌜ s ≡ grantsJust (now (links .entry)) (wordsIn g) (wordsIn h) who what users resources operations ⌝ }
+        WithinLimits sizes
+        × OthersSame (now links) (wordsIn g) (wordsIn h) among who what (sizes .users) ⌝ }
+    ensures { λ s. ⌜
+        s
+        ≡ coversJust (now (links .entry)) (wordsIn g) (wordsIn h) who what (sizes .users) (sizes .resources)
+        (sizes .operations) ⌝ }
 {
-    let difference = first_beyond(links, g, h, among, who, what, users, resources, operations);
+    let difference = first_beyond(links, g, h, among, who, what, sizes);
     match difference {
         Difference::Same => true,
         Difference::At(_, _, _) => false,
@@ -228,17 +226,13 @@ fn changed(g: Group, h: Group) -> u64
 
 // Whether two groups that may become one would be granted just what they have if nobody but their users and nothing but their resources
 // passed. No level has a part in that.
-fn grants_exactly(
-    links: &Links,
-    g: Group,
-    h: Group,
-    users: usize,
-    resources: usize,
-    operations: usize,
-) -> bool
+fn grants_exactly(links: &Links, g: Group, h: Group, sizes: Sizes) -> bool
     requires { ⌜
-        (users ≤ 64) × (resources ≤ 64) × (operations ≤ 64) × (mayJoin (now links) (wordsIn g) (wordsIn h) ≡ true) ⌝ }
-    ensures { λ s. ⌜ s ≡ grantsExactly (now (links .entry)) (wordsIn g) (wordsIn h) users resources operations ⌝ }
+        WithinLimits sizes × (mayJoin (now links) (wordsIn g) (wordsIn h) ≡ true) ⌝ }
+    ensures { λ s. ⌜
+        s
+        ≡ grantsExactly (now (links .entry)) (wordsIn g) (wordsIn h) (sizes .users) (sizes .resources)
+        (sizes .operations) ⌝ }
 {
     // Most pairs have the same atoms and need no comparison.
     if g.atoms == h.atoms {
@@ -251,9 +245,7 @@ fn grants_exactly(
         changed(g, h),
         sets::union(g.users, h.users),
         sets::union(g.resources, h.resources),
-        users,
-        resources,
-        operations,
+        sizes,
     )
 }
 
@@ -277,24 +269,25 @@ fn fits_with(
     exactly: bool,
     who: u64,
     what: u64,
-    users: usize,
-    resources: usize,
-    operations: usize,
+    sizes: Sizes,
 ) -> bool
     requires { ⌜
-        (users ≤ 64)
-        × (resources ≤ 64)
-        × (operations ≤ 64)
-        × (who < 2 ^ users)
-        × (what < 2 ^ resources)
-        × (exactly ≡ grantsExactly (now links) (wordsIn g) (wordsIn h) users resources operations) ⌝ }
-    ensures { λ s. ⌜ s ≡ grantsJust (now (links .entry)) (wordsIn g) (wordsIn h) who what users resources operations ⌝ }
+        WithinLimits sizes
+        × (who < 2 ^ sizes .users)
+        × (what < 2 ^ sizes .resources)
+        × (exactly
+        ≡ grantsExactly (now links) (wordsIn g) (wordsIn h) (sizes .users) (sizes .resources)
+        (sizes .operations)) ⌝ }
+    ensures { λ s. ⌜
+        s
+        ≡ coversJust (now (links .entry)) (wordsIn g) (wordsIn h) who what (sizes .users) (sizes .resources)
+        (sizes .operations) ⌝ }
 {
     let people = sets::union(g.users, h.users);
     let things = sets::union(g.resources, h.resources);
     let acts = sets::meet(
         sets::union(g.operations, h.operations),
-        sets::below(operations),
+        sets::below(sizes.operations),
     );
     if sets::within(people, who) & sets::within(things, what) & (acts != 0) {
         if exactly {
@@ -311,17 +304,7 @@ fn fits_with(
     }
     // A user of none of them has no triple.
     let anybody = sets::union(who, people);
-    grants_just(
-        links,
-        g,
-        h,
-        anybody,
-        who,
-        what,
-        users,
-        resources,
-        operations,
-    )
+    grants_just(links, g, h, anybody, who, what, sizes)
 }
 
 // Who passes with the 255 of a side, if that is asked for, of those who pass without.
@@ -342,49 +325,44 @@ fn with_own(matches: &ByPlaceMember, side: usize, own: bool, members: u64, passi
     passing
 }
 
-// The lowest level up to a limit that two groups together fit; 4 if there is none. Whether they would be granted exactly is handed in, and so
-// are the tables of who meets the values of both groups' users and of both groups' resources.
+// The lowest level up to a limit that two groups together fit; 4 if there is none. The table of who meets the values of both groups'
+// members is handed in.
 fn level_within<'a>(
     links: &'a Links,
     matches: &'a ByPlaceMember,
-    met_users: &'a OfSide,
-    met_resources: &'a OfSide,
-    known: &'a ByPlace,
+    met: &'a ByAttribute,
+    knowing: &'a ByPlace,
     attributes: &'a CountBySide,
-    users: usize,
-    resources: usize,
-    operations: usize,
+    sizes: Sizes,
     g: Group,
     h: Group,
-    exactly: bool,
     limit: usize,
 ) -> usize
     requires { ⌜
-        (users ≤ 64)
-        × (resources ≤ 64)
-        × (operations ≤ 64)
+        WithinLimits sizes
         × (getD (now attributes) 0 0 ≤ 6)
         × (getD (now attributes) 1 0 ≤ 6)
         × (limit ≤ 3)
-        × Met (now matches) 0 (both (g .users) (h .users)) (now «met_users»)
-        × Met (now matches) 1 (both (g .resources) (h .resources)) (now «met_resources»)
-        × (exactly ≡ grantsExactly (now links) (wordsIn g) (wordsIn h) users resources operations) ⌝ }
+        × SidesMet (now matches) (bothMembers (g .users) (h .users))
+        (bothMembers (g .resources) (h .resources)) (now met)
+        × (mayJoin (now links) (wordsIn g) (wordsIn h) ≡ true) ⌝ }
     ensures { λ l. ⌜
         l
         ≡ levelWithin
-        (tablesFit (now (links .entry)) (now (matches .entry)) (now (known .entry)) (now (attributes .entry))
-        users resources operations (wordsIn g) (wordsIn h))
+        (tablesFit (now (links .entry)) (now (matches .entry)) (now (knowing .entry)) (now (attributes .entry))
+        (sizes .users) (sizes .resources) (sizes .operations) (wordsIn g) (wordsIn h))
         limit ⌝ }
 {
+    let exactly = grants_exactly(links, g, h, sizes);
     let people = sets::union(g.users, h.users);
     let things = sets::union(g.resources, h.resources);
     // The levels differ in the 255s only.
-    let who = mine_matches::passing(met_users, known, attributes[0], 0, people, users);
-    let what = mine_matches::passing(met_resources, known, attributes[1], 1, things, resources);
+    let who = mine_matches::passing(met, knowing, attributes[0], 0, people, sizes.users);
+    let what = mine_matches::passing(met, knowing, attributes[1], 1, things, sizes.resources);
     for l in 0..limit + 1 {
         let w = with_own(matches, 0, (l == 1) | (l == 3), people, who);
         let v = with_own(matches, 1, (l == 2) | (l == 3), things, what);
-        if fits_with(links, g, h, exactly, w, v, users, resources, operations) {
+        if fits_with(links, g, h, exactly, w, v, sizes) {
             return l;
         }
     }
@@ -395,48 +373,29 @@ fn level_within<'a>(
 pub fn level_of_pair<'a>(
     links: &'a Links,
     matches: &'a ByPlaceMember,
-    met_users: &'a OfSide,
-    met_resources: &'a OfSide,
-    known: &'a ByPlace,
+    met: &'a ByAttribute,
+    knowing: &'a ByPlace,
     attributes: &'a CountBySide,
-    users: usize,
-    resources: usize,
-    operations: usize,
+    sizes: Sizes,
     g: Group,
     h: Group,
     limit: usize,
 ) -> usize
     requires { ⌜
-        (users ≤ 64)
-        × (resources ≤ 64)
-        × (operations ≤ 64)
+        WithinLimits sizes
         × (getD (now attributes) 0 0 ≤ 6)
         × (getD (now attributes) 1 0 ≤ 6)
         × (limit ≤ 3)
-        × Met (now matches) 0 (both (g .users) (h .users)) (now «met_users»)
-        × Met (now matches) 1 (both (g .resources) (h .resources)) (now «met_resources») ⌝ }
+        × SidesMet (now matches) (bothMembers (g .users) (h .users))
+        (bothMembers (g .resources) (h .resources)) (now met) ⌝ }
     ensures { λ l. ⌜
         l
-        ≡ pairLevel (now (links .entry)) (now (matches .entry)) (now (known .entry)) (now (attributes .entry)) users
-        resources operations (wordsIn g) (wordsIn h) limit ⌝ }
+        ≡ pairLevel (now (links .entry)) (now (matches .entry)) (now (knowing .entry)) (now (attributes .entry))
+        (sizes .users) (sizes .resources) (sizes .operations) (wordsIn g) (wordsIn h) limit ⌝ }
 {
     // Nearly all pairs are refused by a few words.
     if may_join(links, g, h) {
-        return level_within(
-            links,
-            matches,
-            met_users,
-            met_resources,
-            known,
-            attributes,
-            users,
-            resources,
-            operations,
-            g,
-            h,
-            grants_exactly(links, g, h, users, resources, operations),
-            limit,
-        );
+        return level_within(links, matches, met, knowing, attributes, sizes, g, h, limit);
     }
     NO_LEVEL
 }
@@ -445,44 +404,24 @@ pub fn level_of_pair<'a>(
 pub fn level_of_group<'a>(
     links: &'a Links,
     matches: &'a ByPlaceMember,
-    met_users: &'a OfSide,
-    met_resources: &'a OfSide,
-    known: &'a ByPlace,
+    met: &'a ByAttribute,
+    knowing: &'a ByPlace,
     attributes: &'a CountBySide,
-    users: usize,
-    resources: usize,
-    operations: usize,
+    sizes: Sizes,
     g: Group,
 ) -> usize
     requires { ⌜
-        (users ≤ 64)
-        × (resources ≤ 64)
-        × (operations ≤ 64)
+        WithinLimits sizes
         × (getD (now attributes) 0 0 ≤ 6)
         × (getD (now attributes) 1 0 ≤ 6)
-        × Met (now matches) 0 (g .users) (now «met_users»)
-        × Met (now matches) 1 (g .resources) (now «met_resources») ⌝ }
+        × SidesMet (now matches) (g .users) (g .resources) (now met) ⌝ }
     ensures { λ l. ⌜
         l
-        ≡ groupLevel (now (links .entry)) (now (matches .entry)) (now (known .entry)) (now (attributes .entry))
-        users resources operations (wordsIn g) ⌝ }
+        ≡ groupLevel (now (links .entry)) (now (matches .entry)) (now (knowing .entry)) (now (attributes .entry))
+        (sizes .users) (sizes .resources) (sizes .operations) (wordsIn g) ⌝ }
 {
-    // A group together with itself is granted exactly. What fits no lower level has level 3.
-    let level = level_within(
-        links,
-        matches,
-        met_users,
-        met_resources,
-        known,
-        attributes,
-        users,
-        resources,
-        operations,
-        g,
-        g,
-        true,
-        2,
-    );
+    // What fits no lower level has level 3.
+    let level = level_within(links, matches, met, knowing, attributes, sizes, g, g, 2);
     if level < 3 {
         return level;
     }

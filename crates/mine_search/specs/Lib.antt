@@ -1,3 +1,3 @@
-pub mod Search
-pub mod MetLaws
-pub mod SearchLaws
+pub mod PartnerSearch
+pub mod SearchMetLaws
+pub mod PartnerSearchLaws

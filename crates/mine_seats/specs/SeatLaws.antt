@@ -1,14 +1,16 @@
--- The laws of the words of scratch memory: what is packed into the last word of a seat, and what a store and a change of heads leave.
+-- The laws of the words of scratch memory: what is packed into the last word of a seat, its members by their side, and what a store and a change
+-- of heads leave.
 -- Assumes nothing.
 use Prim.Native.Nat.{ℕ, _+_, _*_, _/_, _^_, _<_}
 use lib.ListN.{length, getD, set, length-set}
 use lib.Seq.{getD-set-same, getD-set-other}
 use mathlib.Core.List.{List}
-use mathlib.Core.Path.{_≡_, _∙_}
+use mathlib.Core.Path.{_≡_, _∙_, ap}
 use native.Mathlib.Nat.{mod-lt}
 use native.Mathlib.Omega.{arith}
-use Rattle.mine_seats.specs.Seats.{usersAt, resourcesAt, operationsAt, restAt, atomsIn, levelIn, headIn, restOf, wordsAt, stored, lowIn, headTaken, Kept}
+use Rattle.mine_seats.specs.Seats.{usersAt, resourcesAt, operationsAt, restAt, atomsIn, levelIn, headIn, restOf, wordsAt, storedSeat, lowIn, headTaken, Kept, membersAt, scratchWords}
 use Rattle.mine_theory.specs.Words.Words.{Words}
+use Rattle.role_record.specs.Cells.{roleCells}
 
 -- ---- the last word of a seat
 
@@ -29,11 +31,22 @@ module _ (atoms level head : ℕ) (a : atoms < 2 ^ 36) (l : level < 4) where
 pub atoms-low : {W : Words} (t : List ℕ) (i : ℕ) → W ≡ wordsAt t i → W .atoms < 2 ^ 36
 atoms-low t i e = rw e (mod-lt (restAt t i) {m = 2 ^ 36} (omega arith))
 
+-- ---- its members by their side
+
+module _ (t : List ℕ) (i side : ℕ) where
+  -- the users on side 0
+  pub users-first : side ≡ 0 → membersAt t i side ≡ usersAt t i
+  users-first e = let n : 4 * i + side ≡ 4 * i = omega arith in ap (λ (k : ℕ). getD t k 0) n
+
+  -- the resources on side 1
+  pub resources-second : side ≡ 1 → membersAt t i side ≡ resourcesAt t i
+  resources-second e = ap (membersAt t i) e
+
 -- ---- four words stored in a seat
 
 module _ (t : List ℕ) (i a b c d : ℕ) where
   -- scratch is as long as it was
-  pub stored-long : length (stored t i a b c d) ≡ length t
+  pub stored-long : length (storedSeat t i a b c d) ≡ length t
   stored-long =
       length-set (set (set (set t (4 * i) a) (4 * i + 1) b) (4 * i + 2) c) (4 * i + 3) d
       ∙ length-set (set (set t (4 * i) a) (4 * i + 1) b) (4 * i + 2) c
@@ -41,21 +54,21 @@ module _ (t : List ℕ) (i a b c d : ℕ) where
       ∙ length-set t (4 * i) a
 
   -- the words of other seats are as they were
-  pub stored-other : (w : ℕ) → (w / 4 ≡ i → ⊥) → getD (stored t i a b c d) w 0 ≡ getD t w 0
+  pub stored-other : (w : ℕ) → (w / 4 ≡ i → ⊥) → getD (storedSeat t i a b c d) w 0 ≡ getD t w 0
   stored-other w n =
       getD-set-other (set (set (set t (4 * i) a) (4 * i + 1) b) (4 * i + 2) c) (4 * i + 3) w d 0 (λ e. n (omega arith))
       ∙ getD-set-other (set (set t (4 * i) a) (4 * i + 1) b) (4 * i + 2) w c 0 (λ e. n (omega arith))
       ∙ getD-set-other (set t (4 * i) a) (4 * i + 1) w b 0 (λ e. n (omega arith))
       ∙ getD-set-other t (4 * i) w a 0 (λ e. n (omega arith))
 
-  module _ (long : length t ≡ 2048) (l : i < 512) where
-    long-1 : length (set t (4 * i) a) ≡ 2048
+  module _ (long : length t ≡ scratchWords) (l : i < roleCells) where
+    long-1 : length (set t (4 * i) a) ≡ scratchWords
     long-1 = length-set t (4 * i) a ∙ long
 
-    long-2 : length (set (set t (4 * i) a) (4 * i + 1) b) ≡ 2048
+    long-2 : length (set (set t (4 * i) a) (4 * i + 1) b) ≡ scratchWords
     long-2 = length-set (set t (4 * i) a) (4 * i + 1) b ∙ long-1
 
-    long-3 : length (set (set (set t (4 * i) a) (4 * i + 1) b) (4 * i + 2) c) ≡ 2048
+    long-3 : length (set (set (set t (4 * i) a) (4 * i + 1) b) (4 * i + 2) c) ≡ scratchWords
     long-3 = length-set (set (set t (4 * i) a) (4 * i + 1) b) (4 * i + 2) c ∙ long-2
 
     -- the second store is within scratch
@@ -71,7 +84,7 @@ module _ (t : List ℕ) (i a b c d : ℕ) where
     room-4 = let n = long-3 in omega arith
 
     -- the seat has the words stored: users
-    pub stored-users : usersAt (stored t i a b c d) i ≡ a
+    pub stored-users : usersAt (storedSeat t i a b c d) i ≡ a
     stored-users =
         getD-set-other (set (set (set t (4 * i) a) (4 * i + 1) b) (4 * i + 2) c) (4 * i + 3) (4 * i) d 0 (λ e. omega arith)
         ∙ getD-set-other (set (set t (4 * i) a) (4 * i + 1) b) (4 * i + 2) (4 * i) c 0 (λ e. omega arith)
@@ -79,24 +92,24 @@ module _ (t : List ℕ) (i a b c d : ℕ) where
         ∙ getD-set-same t (4 * i) a 0 (omega arith)
 
     -- resources
-    pub stored-resources : resourcesAt (stored t i a b c d) i ≡ b
+    pub stored-resources : resourcesAt (storedSeat t i a b c d) i ≡ b
     stored-resources =
         getD-set-other (set (set (set t (4 * i) a) (4 * i + 1) b) (4 * i + 2) c) (4 * i + 3) (4 * i + 1) d 0 (λ e. omega arith)
         ∙ getD-set-other (set (set t (4 * i) a) (4 * i + 1) b) (4 * i + 2) (4 * i + 1) c 0 (λ e. omega arith)
         ∙ getD-set-same (set t (4 * i) a) (4 * i + 1) b 0 room-2
 
     -- operations
-    pub stored-operations : operationsAt (stored t i a b c d) i ≡ c
+    pub stored-operations : operationsAt (storedSeat t i a b c d) i ≡ c
     stored-operations =
         getD-set-other (set (set (set t (4 * i) a) (4 * i + 1) b) (4 * i + 2) c) (4 * i + 3) (4 * i + 2) d 0 (λ e. omega arith)
         ∙ getD-set-same (set (set t (4 * i) a) (4 * i + 1) b) (4 * i + 2) c 0 room-3
 
     -- and the rest
-    pub stored-rest : restAt (stored t i a b c d) i ≡ d
+    pub stored-rest : restAt (storedSeat t i a b c d) i ≡ d
     stored-rest = getD-set-same (set (set (set t (4 * i) a) (4 * i + 1) b) (4 * i + 2) c) (4 * i + 3) d 0 room-4
 
   -- another seat keeps its words
-  pub stored-kept : (k : ℕ) → (k ≡ i → ⊥) → Kept t (stored t i a b c d) k
+  pub stored-kept : (k : ℕ) → (k ≡ i → ⊥) → Kept t (storedSeat t i a b c d) k
   stored-kept k n = record {
     users = stored-other (4 * k) (λ e. n (omega arith));
     resources = stored-other (4 * k + 1) (λ e. n (omega arith));
@@ -104,7 +117,7 @@ module _ (t : List ℕ) (i a b c d : ℕ) where
   }
 
   -- and its last word
-  pub stored-kept-rest : (k : ℕ) → (k ≡ i → ⊥) → restAt (stored t i a b c d) k ≡ restAt t k
+  pub stored-kept-rest : (k : ℕ) → (k ≡ i → ⊥) → restAt (storedSeat t i a b c d) k ≡ restAt t k
   stored-kept-rest k n = stored-other (4 * k + 3) (λ e. n (omega arith))
 
 -- ---- the head that another seat names
@@ -129,7 +142,7 @@ module _ (t : List ℕ) (k p : ℕ) where
   pub taken-other : (n : ℕ) → (n ≡ k → ⊥) → restAt (headTaken t k p) n ≡ restAt t n
   taken-other n d = getD-set-other t (4 * k + 3) (4 * n + 3) word 0 (λ q. d (omega arith))
 
-  module _ (long : length t ≡ 2048) (l : k < 512) where
+  module _ (long : length t ≡ scratchWords) (l : k < roleCells) where
     taken-word : restAt (headTaken t k p) k ≡ word
     taken-word = getD-set-same t (4 * k + 3) word 0 (omega arith)
 

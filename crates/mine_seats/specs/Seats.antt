@@ -1,4 +1,4 @@
--- The layout of scratch memory: four words for each of the 512 seats of parts. No other file says where a word stands.
+-- The layout of scratch memory: four words for each seat of a part. No other file says where a word stands.
 -- Assumes nothing.
 use Prim.Native.Nat.{ℕ, _+_, _*_, _/_, _%_, _^_}
 use lib.Dec.{eqb}
@@ -7,8 +7,13 @@ use mathlib.Core.Bool.{Bool, _&&_, not}
 use mathlib.Core.List.{List}
 use mathlib.Core.Path.{_≡_}
 use Rattle.mine_theory.specs.Words.Words.{Words}
+use Rattle.role_record.specs.Cells.{roleCells}
 
 -- ---- the words of a seat
+
+-- the words of scratch memory: four a seat
+abbrev pub scratchWords : ℕ
+scratchWords = 4 * roleCells
 
 -- users, resources, operations; the last holds the atoms (36 bits), the level (2 bits) and the seat of the group's head
 abbrev pub usersAt : List ℕ → ℕ → ℕ
@@ -53,8 +58,8 @@ isHeadAt t i = isPartAt t i && eqb (headIn (restAt t i)) i
 -- ---- what is written
 
 -- four words stored in seat i
-abbrev pub stored : List ℕ → (i a b c d : ℕ) → List ℕ
-stored t i a b c d = set (set (set (set t (4 * i) a) (4 * i + 1) b) (4 * i + 2) c) (4 * i + 3) d
+abbrev pub storedSeat : List ℕ → (i a b c d : ℕ) → List ℕ
+storedSeat t i a b c d = set (set (set (set t (4 * i) a) (4 * i + 1) b) (4 * i + 2) c) (4 * i + 3) d
 
 -- the last word of a seat but for the head
 abbrev pub lowIn : ℕ → ℕ

@@ -1,11 +1,12 @@
-// The layout of scratch memory: four words for each of the 512 seats of parts. They are the users, resources and operations of the group
+// The layout of scratch memory: four words for each seat of a part. They are the users, resources and operations of the group
 // whose head the seat is, and a last one with its atoms (36 bits), its level (2 bits) and the seat of its head. No other crate's code says
 // where a word stands.
 ghost use lib.ListN.{length};
 ghost use mathlib.Core.Path.{_≡_};
 ghost use Prim.Native.Nat.{_+_, _*_, _^_, _<_};
 ghost use Rattle.mine_pairs.specs.Pairing.{wordsIn};
-ghost use Rattle.mine_seats.specs.Seats.{usersAt, resourcesAt, operationsAt, restAt, membersAt, levelIn, headIn, restOf, wordsAt, isPartAt, isHeadAt, stored, lowIn, headTaken};
+ghost use Rattle.role_record.specs.Cells.{roleCells};
+ghost use Rattle.mine_seats.specs.Seats.{usersAt, resourcesAt, operationsAt, restAt, membersAt, levelIn, headIn, restOf, wordsAt, isPartAt, isHeadAt, storedSeat, lowIn, headTaken, scratchWords};
 use mine_pairs::Group;
 
 // The words of a seat as they stand in scratch.
@@ -37,21 +38,21 @@ impl Seat {
 // ---- reading
 
 pub fn users_at(scratch: &[u64], i: usize) -> u64
-    requires { ⌜ (i < 512) × (length (now scratch) ≡ 2048) ⌝ }
+    requires { ⌜ (i < roleCells) × (length (now scratch) ≡ scratchWords) ⌝ }
     ensures { λ m. ⌜ m ≡ usersAt (now (scratch .entry)) i ⌝ }
 {
     scratch[Seat::WORDS * i]
 }
 
 pub fn resources_at(scratch: &[u64], i: usize) -> u64
-    requires { ⌜ (i < 512) × (length (now scratch) ≡ 2048) ⌝ }
+    requires { ⌜ (i < roleCells) × (length (now scratch) ≡ scratchWords) ⌝ }
     ensures { λ m. ⌜ m ≡ resourcesAt (now (scratch .entry)) i ⌝ }
 {
     scratch[Seat::WORDS * i + Seat::RESOURCES]
 }
 
 pub fn operations_at(scratch: &[u64], i: usize) -> u64
-    requires { ⌜ (i < 512) × (length (now scratch) ≡ 2048) ⌝ }
+    requires { ⌜ (i < roleCells) × (length (now scratch) ≡ scratchWords) ⌝ }
     ensures { λ m. ⌜ m ≡ operationsAt (now (scratch .entry)) i ⌝ }
 {
     scratch[Seat::WORDS * i + Seat::OPERATIONS]
@@ -59,7 +60,7 @@ pub fn operations_at(scratch: &[u64], i: usize) -> u64
 
 // The users on side 0, the resources on side 1: without a test of the side.
 pub fn members_at(scratch: &[u64], i: usize, side: usize) -> u64
-    requires { ⌜ (i < 512) × (side < 2) × (length (now scratch) ≡ 2048) ⌝ }
+    requires { ⌜ (i < roleCells) × (side < 2) × (length (now scratch) ≡ scratchWords) ⌝ }
     ensures { λ m. ⌜ m ≡ membersAt (now (scratch .entry)) i side ⌝ }
 {
     scratch[Seat::WORDS * i + side]
@@ -67,7 +68,7 @@ pub fn members_at(scratch: &[u64], i: usize, side: usize) -> u64
 
 // The group whose head the seat is.
 pub fn group_at(scratch: &[u64], i: usize) -> Group
-    requires { ⌜ (i < 512) × (length (now scratch) ≡ 2048) ⌝ }
+    requires { ⌜ (i < roleCells) × (length (now scratch) ≡ scratchWords) ⌝ }
     ensures { λ g. ⌜ wordsIn g ≡ wordsAt (now (scratch .entry)) i ⌝ }
 {
     Group {
@@ -80,7 +81,7 @@ pub fn group_at(scratch: &[u64], i: usize) -> Group
 
 // Its level.
 pub fn level_at(scratch: &[u64], i: usize) -> usize
-    requires { ⌜ (i < 512) × (length (now scratch) ≡ 2048) ⌝ }
+    requires { ⌜ (i < roleCells) × (length (now scratch) ≡ scratchWords) ⌝ }
     ensures { λ l. ⌜ l ≡ levelIn (restAt (now (scratch .entry)) i) ⌝ }
 {
     (scratch[Seat::WORDS * i + Seat::REST] / Seat::LEVEL % Seat::LEVELS) as usize
@@ -88,7 +89,7 @@ pub fn level_at(scratch: &[u64], i: usize) -> usize
 
 // The seat that the last word names as head.
 pub fn head_at(scratch: &[u64], i: usize) -> usize
-    requires { ⌜ (i < 512) × (length (now scratch) ≡ 2048) ⌝ }
+    requires { ⌜ (i < roleCells) × (length (now scratch) ≡ scratchWords) ⌝ }
     ensures { λ h. ⌜ h ≡ headIn (restAt (now (scratch .entry)) i) ⌝ }
 {
     (scratch[Seat::WORDS * i + Seat::REST] / Seat::HEAD) as usize
@@ -96,7 +97,7 @@ pub fn head_at(scratch: &[u64], i: usize) -> usize
 
 // Whether a part stands in the seat.
 pub fn is_part(scratch: &[u64], i: usize) -> bool
-    requires { ⌜ (i < 512) × (length (now scratch) ≡ 2048) ⌝ }
+    requires { ⌜ (i < roleCells) × (length (now scratch) ≡ scratchWords) ⌝ }
     ensures { λ b. ⌜ b ≡ isPartAt (now (scratch .entry)) i ⌝ }
 {
     scratch[Seat::WORDS * i] != 0
@@ -104,7 +105,7 @@ pub fn is_part(scratch: &[u64], i: usize) -> bool
 
 // Whether the seat is the head of a group.
 pub fn is_head(scratch: &[u64], i: usize) -> bool
-    requires { ⌜ (i < 512) × (length (now scratch) ≡ 2048) ⌝ }
+    requires { ⌜ (i < roleCells) × (length (now scratch) ≡ scratchWords) ⌝ }
     ensures { λ b. ⌜ b ≡ isHeadAt (now (scratch .entry)) i ⌝ }
 {
     // Both tests always: which seats are heads is not to be foreseen.
@@ -115,7 +116,7 @@ pub fn is_head(scratch: &[u64], i: usize) -> bool
 
 // The last word of a seat.
 pub fn pack(atoms: u64, level: usize, head: usize) -> u64
-    requires { ⌜ (atoms < 2 ^ 36) × (level < 4) × (head < 512) ⌝ }
+    requires { ⌜ (atoms < 2 ^ 36) × (level < 4) × (head < roleCells) ⌝ }
     ensures { λ w. ⌜ w ≡ restOf atoms level head ⌝ }
 {
     atoms + Seat::LEVEL * level as u64 + Seat::HEAD * head as u64
@@ -123,9 +124,10 @@ pub fn pack(atoms: u64, level: usize, head: usize) -> u64
 
 // Writes the words of a seat.
 pub fn store(scratch: &mut [u64], i: usize, s: Seat)
-    requires { ⌜ (i < 512) × (length (now scratch) ≡ 2048) ⌝ }
+    requires { ⌜ (i < roleCells) × (length (now scratch) ≡ scratchWords) ⌝ }
     ensures { λ _. ⌜
-        now (scratch .exit) ≡ stored (now (scratch .entry)) i (s .users) (s .resources) (s .operations) (s .rest) ⌝ }
+        now (scratch .exit)
+        ≡ storedSeat (now (scratch .entry)) i (s .users) (s .resources) (s .operations) (s .rest) ⌝ }
 {
     scratch[Seat::WORDS * i] = s.users;
     scratch[Seat::WORDS * i + Seat::RESOURCES] = s.resources;
@@ -142,7 +144,7 @@ fn headed_as(rest: u64, other: u64) -> u64
 
 // Seat k gets the head that seat p names.
 pub fn take_head(scratch: &mut [u64], k: usize, p: usize)
-    requires { ⌜ (k < 512) × (p < 512) × (length (now scratch) ≡ 2048) ⌝ }
+    requires { ⌜ (k < roleCells) × (p < roleCells) × (length (now scratch) ≡ scratchWords) ⌝ }
     ensures { λ _. ⌜ now (scratch .exit) ≡ headTaken (now (scratch .entry)) k p ⌝ }
 {
     scratch[Seat::WORDS * k + Seat::REST] = headed_as(

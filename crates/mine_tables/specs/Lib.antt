@@ -1,5 +1,3 @@
-pub mod Tables
-pub mod TurnLaws
-pub mod RelationLaws
-pub mod RankLaws
+pub mod Matching
+pub mod MatchingLaws
 pub mod TableLaws

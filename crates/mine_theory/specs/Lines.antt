@@ -1,4 +1,3 @@
-pub mod ListLaws
 pub mod RuleLines
 pub mod RuleLinesLaws
 pub mod PartLinesLaws

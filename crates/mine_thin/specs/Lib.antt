@@ -1,7 +1,7 @@
-pub mod Kept
+pub mod KeptPlaces
 pub mod Rows
 pub mod RowLaws
-pub mod SearchLaws
+pub mod FirstOtherLaws
 pub mod PlaceLaws
-pub mod KeptLaws
-pub mod VisitLaws
+pub mod KeptPlacesLaws
+pub mod PlaceVisitLaws

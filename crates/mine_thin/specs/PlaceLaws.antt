@@ -1,35 +1,28 @@
 -- The laws of the code's steps: shifted sets, and what is worked out place by place.
 -- Assumes nothing.
-use Prim.Native.Nat.{ℕ, zero, suc, _+_, _*_, _/_, _%_, _^_, _-_, _<_}
+use Prim.Native.Nat.{ℕ, zero, suc, _+_, _*_, _%_, _^_, _-_, _<_}
 use borrow.Author.Tests.{lt-ltb, ltb-true, ltb-false}
 use lib.Dec.{eqb, ltb}
 use lib.ListN.{length, getD}
 use lib.Pow.{shl-exact, shl-shr}
-use mathlib.Core.Bool.{Bool, true, false, cond, _&&_, _||_, not}
+use mathlib.Core.Bool.{Bool, true, false, cond, _&&_, _||_, not, or-false}
 use mathlib.Core.List.{List}
 use mathlib.Core.Path.{_≡_, refl, sym, ap, ap₂, _∙_, subst}
-use native.Mathlib.Nat.{zero-add, suc-add, pow-suc, pow-succ', div-one, div-div-eq-div-mul, mul-assoc, mul-mod-left, mul-div-cancel}
+use native.Mathlib.Nat.{pow-suc, mul-assoc, mul-mod-left, mul-div-cancel}
 use native.Mathlib.Numerals.{add-one}
 use native.Mathlib.Omega.{arith}
+use Rattle.role_record.specs.Places.{placeSide}
 use Rattle.role_record.specs.Record.{tableOf}
 use Rattle.mine_matches.specs.Matches.{metOf}
 use Rattle.sets.specs.LoopLaws.{table-unique}
-use Rattle.sets.specs.MaskLaws.{or-false, bit-out, bit-maskOf, mask-lt, mask-same, mask-wide}
+use Rattle.sets.specs.MaskLaws.{bit-out, bit-maskOf, mask-lt, mask-same, mask-wide}
 use Rattle.sets.specs.Sets.{bit, subset, maskOf, lessOne}
-use Rattle.sets.specs.SetLaws.{bit-zero, bit-suc, bit-none, bit-mask}
+use Rattle.sets.specs.SetLaws.{bit-zero, bit-suc, bit-none, bit-mask, bit-down}
 use Rattle.sets.specs.TestLaws.{test, same}
-use Rattle.mine_theory.specs.Words.Flags.{placeSide}
 use Rattle.mine_theory.specs.Words.Words.{Words, membersOf}
-use Rattle.mine_thin.specs.Kept.{metAt, metPlaces, allowedAt, conjunctAt, presentPlaces, grantsSame, thinBy, thinTo, keptIn}
+use Rattle.mine_thin.specs.KeptPlaces.{metAt, metPlaces, allowedAt, conjunctAt, presentPlaces, grantsSame, thinBy, thinTo, keptIn}
 
 -- ---- shifted sets
-
--- `m >> n`
-pub bit-down : (m n j : ℕ) → bit (m / 2 ^ n) j ≡ bit m (n + j)
-bit-down m zero j = ap₂ bit (div-one m) (sym (zero-add j))
-bit-down m (suc n) j =
-    ap (λ (x : ℕ). bit x j) (ap (λ (k : ℕ). m / k) (pow-succ' 2 n) ∙ sym (div-div-eq-div-mul m 2 (2 ^ n)))
-    ∙ bit-down (m / 2) n j ∙ sym (ap (bit m) (suc-add n j) ∙ bit-suc m (n + j))
 
 -- `m << n`, where nothing is lost
 bit-up : (m n j : ℕ) → bit (m * 2 ^ n) (n + j) ≡ bit m j

@@ -1,7 +1,7 @@
 -- The laws of a group's rows: where all members of the group meet a rule, the rows tell whether it grants the group's triples and no other.
 -- Assumes nothing.
 use Prim.Native.Nat.{ℕ, _+_, _*_, _/_, _^_, _≤_, _<_}
-use borrow.Author.Tests.{eqb-true, eqb-false, eq-eqb, ne-eqb, lt-ltb, ltb-true}
+use borrow.Author.Tests.{eqb-true, eqb-false, eq-eqb, ne-eqb, lt-ltb, ltb-true, not-true}
 use lib.Dec.{eqb, ltb}
 use lib.ListN.{length, getD}
 use mathlib.Core.Bool.{Bool, true, false, cond, _&&_, not, and-comm}
@@ -16,6 +16,7 @@ use Rattle.grant_grids.specs.Grid.{differAt, differenceOf, isSame}
 use Rattle.grant_grids.specs.GridLaws.{triples-same, same-means}
 use Rattle.role_record.specs.Record.{tableOf}
 use Rattle.role_record.specs.RecordLaws.{table-get}
+use Rattle.sets.specs.ListLaws.{all-ext}
 use Rattle.sets.specs.MemberLaws.{least-in}
 use Rattle.mine_pairs.specs.FitLaws.{row-bit}
 use Rattle.mine_pairs.specs.Pairing.{tableSpans, less}
@@ -27,13 +28,12 @@ use Rattle.sets.specs.Lowest.{lowestFrom}
 use Rattle.sets.specs.MaskLaws.{bit-maskOf, mask-lt, mask-none}
 use Rattle.sets.specs.SetLaws.{subset-out, bit-none, bit-mask}
 use Rattle.sets.specs.Tests.{Is, imp, all, upTo}
-use Rattle.sets.specs.TestLaws.{and-in, and-l, and-r, never, test, fails, same, imp-in, imp-out, all-out, all-in, upTo-in, upTo-out, not-in, not-out}
-use Rattle.mine_theory.specs.Words.WordLaws.{all-ext}
+use Rattle.sets.specs.TestLaws.{and-in, and-l, and-r, never, test, fails, same, imp-in, imp-out, all-out, all-in, upTo-in, upTo-out, not-in}
 use Rattle.mine_theory.specs.Words.Words.{Words}
-use Rattle.mine_thin.specs.Kept.{ruleOver, firstOther, grantsSame}
+use Rattle.mine_thin.specs.KeptPlaces.{ruleOver, firstOther, grantsSame}
 use Rattle.grant_links.specs.LinkedLaws.{narrow-turn, narrow-done, linked-begin}
 use Rattle.mine_thin.specs.Rows.{noOther, everything, shared, narrowedRows, joinedRows, freeCorner, freeCorners, rowIn, isFull, openUsers, addsNone, asksNoMore}
-use Rattle.mine_thin.specs.SearchLaws.{ruled}
+use Rattle.mine_thin.specs.FirstOtherLaws.{ruled}
 
 -- the laws of comparisons speak of a setting: one with nothing but sizes
 abbrev bare : ℕ → Side
@@ -169,7 +169,7 @@ module _ (rows : List ℕ) (W : Words) where
             let m = sym (less-bit what (rowIn rows W u) r lr) ∙ and-l (bit (less what (rowIn rows W u)) r) _ t in
             let w = subset-out what (W .resources) s r (and-l (bit what r) _ m) in
             never (ap (λ (b : Bool). bit (cond b (shared (getD rows u 0) (W .resources)) 0) r) here ∙ shared-bit (getD rows u 0) (W .resources) r lr ∙ and-in (subset-out (W .resources) (getD rows u 0) (and-r (bit (W .users) u) _ k) r w) w)
-            (not-out (bit (rowIn rows W u) r) (and-r (bit what r) _ m)))
+            (not-true (bit (rowIn rows W u) r) (and-r (bit what r) _ m)))
 
         there : Is (subset what (W .resources)) → Is (passed (less who full)) → Is (passed who)
         there s p = all-in (λ u. imp (bit who u) (alone u)) (upTo 64) λ u i. imp-in (bit who u) (alone u) λ a. test (bit full u)
@@ -236,14 +236,11 @@ module _ (links : List ℕ) (W : Words) (atoms who what us rs os : ℕ) where
     unfolding asksNoMore
     operation =
         let m = shared (W .ops) (maskOf 64 (λ k. ltb k os)) in
-        let some = eqb-false m 0 (not-out (eqb m 0) (and-l (not (eqb m 0)) _ h)) in
-        let t = least-in m (mask-lt 64 (λ k. bit (W .ops) k && bit (maskOf 64 (λ k. ltb k os)) k)) (lowestFrom (bit m) 0 64) refl (positive m some) in
+        let some = eqb-false m 0 (not-true (eqb m 0) (and-l (not (eqb m 0)) _ h)) in
+        let t = least-in m (mask-lt 64 (λ k. bit (W .ops) k && bit (maskOf 64 (λ k. ltb k os)) k)) (lowestFrom (bit m) 0 64) refl (omega arith) in
         let o = lowestFrom (bit m) 0 64 in
         let b = sym (shared-bit (W .ops) (maskOf 64 (λ k. ltb k os)) o (t .0)) ∙ t .1 in
         (o, ltb-true o os (sym (bit-mask 64 (λ k. ltb k os) o (t .0)) ∙ and-r (bit (W .ops) o) _ b), and-l (bit (W .ops) o) _ b)
-      where
-        positive : (m : ℕ) → (m ≡ 0 → ⊥) → 0 < m
-        positive m d = omega arith
 
     -- the rule has every pair of the group
     group-pair : (u r : ℕ) → Is (pair links (W .atoms) (W .users) (W .resources) u r) → Is (pair links atoms who what u r)
@@ -310,10 +307,10 @@ module _ (links : List ℕ) (W : Words) (atoms who what us rs os : ℕ) where
           back k = and-in
               (corner-in rows (W .users) (less what (W .resources)) λ u r lu lr p t j.
               let m = sym (less-bit what (W .resources) r lr) ∙ t in
-              never (and-l (bit (W .resources) r) _ (and-r (bit (W .users) u) _ (pair-of k u r lr (users-in u p) (and-l (bit what r) _ m) j))) (not-out (bit (W .resources) r) (and-r (bit what r) _ m)))
+              never (and-l (bit (W .resources) r) _ (and-r (bit (W .users) u) _ (pair-of k u r lr (users-in u p) (and-l (bit what r) _ m) j))) (not-true (bit (W .resources) r) (and-r (bit what r) _ m)))
               (corner-in rows (less who (W .users)) what λ u r lu lr p t j.
               let m = sym (less-bit who (W .users) u lu) ∙ p in
-              never (and-l (bit (W .users) u) _ (pair-of k u r lr (and-l (bit who u) _ m) t j)) (not-out (bit (W .users) u) (and-r (bit who u) _ m)))
+              never (and-l (bit (W .users) u) _ (pair-of k u r lr (and-l (bit who u) _ m) t j)) (not-true (bit (W .users) u) (and-r (bit who u) _ m)))
 
       row-in-bit : (u r : ℕ) → u < us → r < 64 → bit (rowIn rows W u) r ≡ pair links (W .atoms) (W .users) (W .resources) u r
       unfolding rowIn
@@ -347,7 +344,7 @@ module _ (links : List ℕ) (W : Words) (atoms who what us rs os : ℕ) where
           back k = all-in (λ u. imp (bit who u) (eqb (linkedWith links atoms u (others u)) 0)) (upTo 64) λ u i. imp-in (bit who u) (eqb (linkedWith links atoms u (others u)) 0) λ a.
               eq-eqb (linkedWith links atoms u (others u)) 0 (mask-none 64 (narrowed u) λ r l. fails (narrowed u r) λ t.
               let m = sym (less-bit what (rowIn rows W u) r l) ∙ and-l (bit (others u) r) _ t in
-              never (row-in-bit u r (mu u a) l ∙ pairs-out k u r (and-in a (and-in (and-l (bit what r) _ m) (and-r (bit (others u) r) _ t)))) (not-out (bit (rowIn rows W u) r) (and-r (bit what r) _ m)))
+              never (row-in-bit u r (mu u a) l ∙ pairs-out k u r (and-in a (and-in (and-l (bit what r) _ m) (and-r (bit (others u) r) _ t)))) (not-true (bit (rowIn rows W u) r) (and-r (bit what r) _ m)))
 
 -- ---- the rule with the conditions at some places
 

@@ -13,7 +13,7 @@ use Rattle.mine_pairs.specs.Pairing.{less}
 use Rattle.sets.specs.Sets.{bit, subset, maskOf}
 use Rattle.sets.specs.Tests.{imp, all, upTo}
 use Rattle.mine_theory.specs.Words.Words.{Words}
-use Rattle.mine_thin.specs.Kept.{firstOther}
+use Rattle.mine_thin.specs.KeptPlaces.{firstOther}
 
 -- no triple differs
 unfoldable pub noOther : List ℕ → Words → ℕ → ℕ → ℕ → ℕ → ℕ → ℕ → Bool

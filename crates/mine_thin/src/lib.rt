@@ -10,9 +10,9 @@ ghost use Rattle.mine_pairs.specs.Pairing.{wordsIn};
 ghost use Rattle.policy.specs.Rules.{ownAt};
 ghost use Rattle.sets.specs.Sets.{bit, maskOf};
 ghost use Rattle.sets.specs.Tests.{iff};
-ghost use Rattle.mine_thin.specs.Kept.{firstOther, metAt, metPlaces, allowedAt, conjunctAt, presentPlaces, grantsSame, thinBy, keptIn};
+ghost use Rattle.mine_thin.specs.KeptPlaces.{firstOther, metAt, metPlaces, allowedAt, conjunctAt, presentPlaces, grantsSame, thinBy, keptIn};
 ghost use Rattle.mine_thin.specs.Rows.{noOther, everything, narrowedRows, joinedRows, freeCorner, freeCorners, rowIn, isFull, openUsers, addsNone, asksNoMore};
-ghost use Rattle.mine_theory.specs.Words.Flags.{placeSide};
+ghost use Rattle.role_record.specs.Places.{placeSide};
 ghost use Rattle.mine_theory.specs.Words.Words.{membersOf};
 use grant_grids::Difference;
 use mine_pairs::Group;
@@ -22,6 +22,7 @@ use role_record::ByPlaceMember;
 use role_record::CountBySide;
 use role_record::Links;
 use role_record::RoleFile;
+use role_record::Sizes;
 
 // Whether the rows c of the rule and a of the group differ at a resource and an operation.
 fn differ_at(operations: u64, c: u64, a: u64, resource: usize, operation: usize) -> bool
@@ -40,24 +41,25 @@ pub fn first_other(
     atoms: u64,
     who: u64,
     what: u64,
-    users: usize,
-    resources: usize,
-    operations: usize,
+    sizes: Sizes,
 ) -> Difference
-    requires { ⌜ users ≤ 64 ⌝ }
+    requires { ⌜ sizes .users ≤ 64 ⌝ }
     ensures { λ d. ⌜
-        d ≡ differenceOf (firstOther (now (links .entry)) (wordsIn g) atoms who what users resources operations) ⌝ }
+        d
+        ≡ differenceOf
+        (firstOther (now (links .entry)) (wordsIn g) atoms who what (sizes .users) (sizes .resources)
+        (sizes .operations)) ⌝ }
 {
     'triples: loop {
-        for u in 0..users {
+        for u in 0..sizes.users {
             let c = grant_links::row(links, atoms, who, what, u);
             let a = grant_links::row(links, g.atoms, g.users, g.resources, u);
             // Most users need no look at their resources.
             if c == a {
                 continue;
             }
-            for r in 0..resources {
-                for o in 0..operations {
+            for r in 0..sizes.resources {
+                for o in 0..sizes.operations {
                     if differ_at(g.operations, c, a, r, o) {
                         break 'triples Difference::At(u, r, o);
                     }
@@ -130,28 +132,28 @@ fn allowed_at(attributes: &CountBySide, level: usize, place: usize) -> bool
 
 // Whether the covering rule of a group at a level has a conjunct at a place: the level allows it, and all members know the attribute.
 fn conjunct_at<'a>(
-    known: &'a ByPlace,
+    knowing: &'a ByPlace,
     attributes: &'a CountBySide,
     g: Group,
     level: usize,
     place: usize,
 ) -> bool
     requires { ⌜ place < 14 ⌝ }
-    ensures { λ r. ⌜ r ≡ conjunctAt (now (known .entry)) (now (attributes .entry)) (wordsIn g) level place ⌝ }
+    ensures { λ r. ⌜ r ≡ conjunctAt (now (knowing .entry)) (now (attributes .entry)) (wordsIn g) level place ⌝ }
 {
     if allowed_at(attributes, level, place) {
-        return sets::within(members_at(g, place), known[place]);
+        return sets::within(members_at(g, place), knowing[place]);
     }
     false
 }
 
 // The places where the covering rule of a group at a level has a condition.
-fn present<'a>(known: &'a ByPlace, attributes: &'a CountBySide, g: Group, level: usize) -> u64
-    ensures { λ r. ⌜ r ≡ presentPlaces (now (known .entry)) (now (attributes .entry)) (wordsIn g) level ⌝ }
+fn present<'a>(knowing: &'a ByPlace, attributes: &'a CountBySide, g: Group, level: usize) -> u64
+    ensures { λ r. ⌜ r ≡ presentPlaces (now (knowing .entry)) (now (attributes .entry)) (wordsIn g) level ⌝ }
 {
     let mut m: u64 = 0;
     for i in 0..RoleFile::PLACES {
-        if conjunct_at(known, attributes, g, level, i) {
+        if conjunct_at(knowing, attributes, g, level, i) {
             m = sets::with(m, i);
         }
     }
@@ -309,20 +311,14 @@ fn asks_no_more(g: Group, atoms: u64, who: u64, what: u64, operations: usize) ->
 }
 
 // Whether a rule with a group's operations grants the group's triples and no other, found triple by triple.
-fn no_other(
-    links: &Links,
-    g: Group,
-    atoms: u64,
-    who: u64,
-    what: u64,
-    users: usize,
-    resources: usize,
-    operations: usize,
-) -> bool
-    requires { ⌜ users ≤ 64 ⌝ }
-    ensures { λ r. ⌜ r ≡ noOther (now (links .entry)) (wordsIn g) atoms who what users resources operations ⌝ }
+fn no_other(links: &Links, g: Group, atoms: u64, who: u64, what: u64, sizes: Sizes) -> bool
+    requires { ⌜ sizes .users ≤ 64 ⌝ }
+    ensures { λ r. ⌜
+        r
+        ≡ noOther (now (links .entry)) (wordsIn g) atoms who what (sizes .users) (sizes .resources)
+        (sizes .operations) ⌝ }
 {
-    let difference = first_other(links, g, atoms, who, what, users, resources, operations);
+    let difference = first_other(links, g, atoms, who, what, sizes);
     match difference {
         Difference::Same => true,
         Difference::At(_, _, _) => false,
@@ -340,28 +336,28 @@ fn grants_same<'a>(
     g: Group,
     full: u64,
     places: u64,
-    users: usize,
-    resources: usize,
-    operations: usize,
+    sizes: Sizes,
 ) -> bool
     requires { ⌜
-        (users ≤ 64)
-        × (resources ≤ 64)
+        (sizes .users ≤ 64)
+        × (sizes .resources ≤ 64)
         × (now rows ≡ joinedRows (now links) (g .atoms))
         × (full ≡ maskOf 64 (isFull (now rows) (wordsIn g))) ⌝ }
     ensures { λ r. ⌜
-        r ≡ grantsSame (now (links .entry)) (now (met .entry)) users resources operations (wordsIn g) places ⌝ }
+        r
+        ≡ grantsSame (now (links .entry)) (now (met .entry)) (sizes .users) (sizes .resources) (sizes .operations)
+        (wordsIn g) places ⌝ }
 {
-    let who = rule_conjuncts::met_by_all(met, places, 0, users);
-    let what = rule_conjuncts::met_by_all(met, places, 1, resources);
+    let who = rule_conjuncts::met_by_all(met, places, 0, sizes.users);
+    let what = rule_conjuncts::met_by_all(met, places, 1, sizes.resources);
     let atoms = places >> RoleFile::PLACES;
-    if asks_no_more(g, atoms, who, what, operations) {
+    if asks_no_more(g, atoms, who, what, sizes.operations) {
         if sets::meet(g.atoms, sets::below(RoleFile::ATOMS)) == atoms {
             return corners_free(rows, g, who, what);
         }
         return adds_none(links, rows, g, full, atoms, who, what);
     }
-    no_other(links, g, atoms, who, what, users, resources, operations)
+    no_other(links, g, atoms, who, what, sizes)
 }
 
 // These places without one, if it is there and the grants stay the same without it; else all of them.
@@ -373,31 +369,21 @@ fn thinned<'a>(
     full: u64,
     places: u64,
     place: usize,
-    users: usize,
-    resources: usize,
-    operations: usize,
+    sizes: Sizes,
 ) -> u64
     requires { ⌜
-        (users ≤ 64)
-        × (resources ≤ 64)
+        (sizes .users ≤ 64)
+        × (sizes .resources ≤ 64)
         × (now rows ≡ joinedRows (now links) (g .atoms))
         × (full ≡ maskOf 64 (isFull (now rows) (wordsIn g))) ⌝ }
     ensures { λ r. ⌜
-        r ≡ thinBy (now (links .entry)) (now (met .entry)) users resources operations (wordsIn g) places place ⌝ }
+        r
+        ≡ thinBy (now (links .entry)) (now (met .entry)) (sizes .users) (sizes .resources) (sizes .operations)
+        (wordsIn g) places place ⌝ }
 {
     if sets::has(places, place) {
         let fewer = sets::without(places, sets::with(0, place));
-        if grants_same(
-            links,
-            met,
-            rows,
-            g,
-            full,
-            fewer,
-            users,
-            resources,
-            operations,
-        ) {
+        if grants_same(links, met, rows, g, full, fewer, sizes) {
             return fewer;
         }
     }
@@ -408,21 +394,19 @@ fn thinned<'a>(
 pub fn kept_places<'a>(
     links: &'a Links,
     matches: &'a ByPlaceMember,
-    known: &'a ByPlace,
+    knowing: &'a ByPlace,
     attributes: &'a CountBySide,
     g: Group,
     level: usize,
-    users: usize,
-    resources: usize,
-    operations: usize,
+    sizes: Sizes,
 ) -> u64
-    requires { ⌜ (users ≤ 64) × (resources ≤ 64) ⌝ }
+    requires { ⌜ (sizes .users ≤ 64) × (sizes .resources ≤ 64) ⌝ }
     ensures { λ r. ⌜
         r
-        ≡ keptIn (now (links .entry)) (now (matches .entry)) (now (known .entry)) (now (attributes .entry)) users
-        resources operations (wordsIn g) level ⌝ }
+        ≡ keptIn (now (links .entry)) (now (matches .entry)) (now (knowing .entry)) (now (attributes .entry))
+        (sizes .users) (sizes .resources) (sizes .operations) (wordsIn g) level ⌝ }
 {
-    let mut kept = present(known, attributes, g, level);
+    let mut kept = present(knowing, attributes, g, level);
     let mut met = [0u64; RoleFile::PLACES];
     met_places(matches, g, kept, &mut met);
     let mut rows = [0u64; RoleFile::MEMBERS];
@@ -431,18 +415,7 @@ pub fn kept_places<'a>(
     // No place comes in, so those without a condition need no turn.
     let mut rest = kept;
     while 0 < rest {
-        kept = thinned(
-            links,
-            &met,
-            &rows,
-            g,
-            full,
-            kept,
-            sets::least(rest),
-            users,
-            resources,
-            operations,
-        );
+        kept = thinned(links, &met, &rows, g, full, kept, sets::least(rest), sizes);
         rest = sets::without_least(rest);
     }
     kept

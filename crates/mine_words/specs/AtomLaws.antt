@@ -4,14 +4,14 @@ use Prim.Native.Nat.{ℕ, zero, suc, _+_, _*_, _/_, _%_, _^_, _≤_, _<_}
 use borrow.Author.Tests.{eqb-true, ltb-true, ltb-false, lt-ltb}
 use lib.Dec.{eqb, ltb}
 use lib.ListN.{getD}
-use mathlib.Core.Bool.{Bool, true, false, _&&_, _||_, and-false, and-assoc}
+use mathlib.Core.Bool.{Bool, true, false, _&&_, _||_, and-false, and-assoc, and-true, or-false}
 use mathlib.Core.List.{List}
 use mathlib.Core.Path.{_≡_, refl, sym, ap, ap₂, _∙_}
 use native.Mathlib.Omega.{arith}
 use Rattle.mine_words.specs.PartWords.{trueOfAll, isAtomOf, atomsOf, atMostSix, declaredAtoms, trueOfUser}
 use Rattle.sets.specs.MemberLaws.{least-in, bit-less, all-turn, all-left, all-done}
 use Rattle.sets.specs.Lowest.{lowestFrom}
-use Rattle.sets.specs.MaskLaws.{and-true, or-false, bit-out, bit-maskOf, mask-lt, mask-unique, mask-same, mask-wide}
+use Rattle.sets.specs.MaskLaws.{bit-out, bit-maskOf, mask-lt, mask-unique, mask-same, mask-wide}
 use Rattle.sets.specs.Sets.{bit, subset, maskOf, lessOne}
 use Rattle.sets.specs.SetLaws.{bit-none, bit-mask}
 use Rattle.sets.specs.Tests.{Is}

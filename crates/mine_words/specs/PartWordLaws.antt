@@ -4,12 +4,14 @@ use Prim.Native.Nat.{ℕ, _+_, _*_, _/_, _%_, _≤_, _<_}
 use borrow.Author.Tests.{ltb-true, lt-ltb}
 use lib.Dec.{ltb}
 use lib.ListN.{getD}
-use mathlib.Core.Bool.{Bool, true, false, _&&_}
+use mathlib.Core.Bool.{Bool, _&&_}
 use mathlib.Core.Path.{_≡_, refl, sym, ap, ap₂, _∙_}
 use native.Mathlib.Omega.{arith}
+use Rattle.role_record.specs.Cells.{rowCells, cellAt}
 use Rattle.role_record.specs.Record.{Sized, attributeTable, recordWith, recordOf}
-use Rattle.role_admit.specs.TableLaws.{permittedOn, row-shown, holders-shown, holder-within}
-use Rattle.grant_parts.specs.PartLaws.{part-role, part-lead, class-shown}
+use Rattle.role_record.specs.RecordLaws.{side-room}
+use Rattle.role_admit.specs.RoleTableLaws.{permittedOn, row-shown, holders-shown, holder-within}
+use Rattle.grant_parts.specs.PartTableLaws.{part-role, part-lead, class-shown}
 use Rattle.grant_grids.specs.LinkLaws.{link-means}
 use Rattle.grant_grids.specs.Links.{linksOf}
 use Rattle.mine_words.specs.PartWords.{trueOfAll, isAtomOf, atomsOf}
@@ -21,23 +23,18 @@ use Rattle.sets.specs.MaskLaws.{bit-maskOf, mask-same, mask-wide}
 use Rattle.sets.specs.Sets.{bit, subset, maskOf}
 use Rattle.sets.specs.SetLaws.{subset-out, subset-in, bit-mask}
 use Rattle.sets.specs.Tests.{Is, imp, _isIn_, all, upTo}
-use Rattle.sets.specs.TestLaws.{and-in, and-l, and-r, same, imp-in, imp-out, all-out, all-in, upTo-in, upTo-out}
-use Rattle.mine_theory.specs.Words.WordLaws.{part-words}
-use Rattle.mine_theory.specs.Words.Words.{Words, Roomy, wordsOf, partAtom}
+use Rattle.sets.specs.TestLaws.{and-in, and-l, and-r, same, imp-in, imp-out, all-out, all-in, upTo-in, upTo-out, and-third}
+use Rattle.mine_theory.specs.Words.WordLaws.{part-words, words-same}
+use Rattle.mine_theory.specs.Words.Words.{Words, wordsOf, partAtom}
 
 -- the words that the tables give for a part
 abbrev pub tableWords : Policy → Part → Words
 tableWords F p = record {
   users = getD (recordOf F .holders) (p .role) 0;
-  resources = getD (recordOf F .permissions) (16 * p .role + p .lead) 0;
+  resources = getD (recordOf F .permissions) (cellAt (p .role) (p .lead)) 0;
   ops = classRow (recordOf F .permissions) (p .role) (recordOf F .operations) (p .lead);
-  atoms = atomsOf (linksOf F) (recordOf F .attributes) (getD (recordOf F .holders) (p .role) 0) (getD (recordOf F .permissions) (16 * p .role + p .lead) 0);
+  atoms = atomsOf (linksOf F) (recordOf F .attributes) (getD (recordOf F .holders) (p .role) 0) (getD (recordOf F .permissions) (cellAt (p .role) (p .lead)) 0);
 }
-
--- words that agree one by one
-words-same : {a b c d e f g h : ℕ} → a ≡ e → b ≡ f → c ≡ g → d ≡ h
-    → _≡_ {A = Words} (record { users = a; resources = b; ops = c; atoms = d }) (record { users = e; resources = f; ops = g; atoms = h })
-words-same p q r s = cc
 
 -- a set of 64 that has only numbers below n
 narrower : (n : ℕ) (f : ℕ → Bool) → n ≤ 64 → ((x : ℕ) → Is (f x) → x < n) → maskOf 64 f ≡ maskOf n f
@@ -67,15 +64,6 @@ pairs-joined n m f g row h l e = same (all (λ u. imp (bit (maskOf n f) u) (subs
         e u r lu lr ∙ imp-out (h u r) (all-out (λ r. imp (f u && g r) (h u r)) (all-out (λ u. all (λ r. imp (f u && g r) (h u r)) (upTo m)) q (upTo-in lu)) (upTo-in lr)) (and-in (and-r (ltb u n) (f u) bu) (and-r (ltb r m) (g r) br))
 
 module _ (F : Policy) (Z : Sized F) where
-  user-room : settingOf F .side user .count ≤ 64
-  unfolding settingOf sideOf
-  user-room = Z .many user
-
-  -- the tables have room for a policy that was accepted
-  pub roomy : Roomy (settingOf F)
-  unfolding settingOf sideOf
-  roomy = record { many = Z .many; attributes = Z .declared; operable = let n = Z .operable in omega arith }
-
   -- how many attributes are declared
   user-attributes : getD (recordOf F .attributes) 0 0 ≡ settingOf F .side user .attrs
   unfolding recordOf recordWith attributeTable settingOf sideOf
@@ -91,7 +79,7 @@ module _ (F : Policy) (Z : Sized F) where
   holders-word k h = holders-shown F Z k h ∙ narrower (F .table user .count) (held F k) (Z .many user) (holder-within F Z k)
 
   -- its resources
-  pub resources-word : (k o : ℕ) → k < 32 → o < 16 → getD (recordOf F .permissions) (16 * k + o) 0 ≡ maskOf (settingOf F .side resource .count) (λ r. rolesIn F .gives k r o)
+  pub resources-word : (k o : ℕ) → k < 32 → o < rowCells → getD (recordOf F .permissions) (cellAt k o) 0 ≡ maskOf (settingOf F .side resource .count) (λ r. rolesIn F .gives k r o)
   unfolding recordOf recordWith permittedOn settingOf sideOf rolesIn
   resources-word k o hk ho = row-shown F Z k o hk ho ∙ narrower (F .table resource .count) (λ r. F .permitted k r o) (Z .many resource) (λ r p. Z .permits k r o p .1)
 
@@ -112,8 +100,8 @@ module _ (F : Policy) (Z : Sized F) where
   atoms-shown p =
       mask-same 36 (isAtomOf (linksOf F) (recordOf F .attributes) users resources) (λ i. partAtom (settingOf F) (rolesIn F) p (i / 6) (i % 6))
       (λ i hi. ap₂ (λ (n m : ℕ). ltb (i / 6) n && (ltb (i % 6) m && trueOfAll (linksOf F) i users resources)) (user-attributes) (resource-attributes)
-      ∙ both-declared (ltb (i / 6) (settingOf F .side user .attrs)) (ltb (i % 6) (settingOf F .side resource .attrs)) _ _
-      (λ a b. pairs-joined (settingOf F .side user .count) (settingOf F .side resource .count) (rolesIn F .held (p .role)) (λ r. rolesIn F .gives (p .role) r (p .lead)) (λ u. getD (linksOf F) (64 * i + u) 0) (holds (settingOf F) (atom (i / 6) (i % 6))) user-room
+      ∙ and-third (ltb (i / 6) (settingOf F .side user .attrs)) (ltb (i % 6) (settingOf F .side resource .attrs)) _ _
+      (λ a b. pairs-joined (settingOf F .side user .count) (settingOf F .side resource .count) (rolesIn F .held (p .role)) (λ r. rolesIn F .gives (p .role) r (p .lead)) (λ u. getD (linksOf F) (64 * i + u) 0) (holds (settingOf F) (atom (i / 6) (i % 6))) (side-room F Z user)
       (λ u r. link-shown i u r (ltb-true (i / 6) (settingOf F .side user .attrs) a) (ltb-true (i % 6) (settingOf F .side resource .attrs) b))))
     where
       users : ℕ
@@ -122,14 +110,9 @@ module _ (F : Policy) (Z : Sized F) where
       resources : ℕ
       resources = maskOf (settingOf F .side resource .count) (λ r. rolesIn F .gives (p .role) r (p .lead))
 
-      both-declared : (a b c d : Bool) → (Is a → Is b → c ≡ d) → (a && (b && c)) ≡ (a && (b && d))
-      both-declared true true c d h = h refl refl
-      both-declared true false c d h = refl
-      both-declared false b c d h = refl
-
   -- the atoms true of all its holders and resources
-  pub atoms-word : (p : Part) → p .role < 32 → p .lead < 16
-      → atomsOf (linksOf F) (recordOf F .attributes) (getD (recordOf F .holders) (p .role) 0) (getD (recordOf F .permissions) (16 * p .role + p .lead) 0) ≡ maskOf 36 (λ i. partAtom (settingOf F) (rolesIn F) p (i / 6) (i % 6))
+  pub atoms-word : (p : Part) → p .role < 32 → p .lead < rowCells
+      → atomsOf (linksOf F) (recordOf F .attributes) (getD (recordOf F .holders) (p .role) 0) (getD (recordOf F .permissions) (cellAt (p .role) (p .lead)) 0) ≡ maskOf 36 (λ i. partAtom (settingOf F) (rolesIn F) p (i / 6) (i % 6))
   atoms-word p hk ho = ap₂ (atomsOf (linksOf F) (recordOf F .attributes)) (holders-word (p .role) hk) (resources-word (p .role) (p .lead) hk ho) ∙ atoms-shown p
 
   -- THE LAW of the words of a part

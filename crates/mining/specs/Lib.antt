@@ -1,4 +1,4 @@
-pub mod Mined
+pub mod MinedNumbers
 pub mod Stages
 pub mod MineLaws
 pub mod AssemblyLaws

@@ -13,7 +13,7 @@ use Rattle.files.specs.CallLaws.{third-demand}
 use Rattle.files.specs.Calls.{Counts, countValues, minedBytes, minedCounts, mayMine, mineAnswer, mineOutput}
 use Rattle.files.specs.Demand3.{Demand3}
 use Rattle.files.specs.RoleFile.{readRoles}
-use Rattle.mining.specs.Mined.{minedNumbers}
+use Rattle.mining.specs.MinedNumbers.{minedNumbers}
 use Rattle.mining.specs.Stages.{bytesFor, neededBytes, Outcome}
 use Rattle.policy.specs.Policy.{Policy, settingOf, rolesIn}
 use Rattle.role_file.specs.Reading.{refusal, loadedOf}

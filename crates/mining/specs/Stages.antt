@@ -6,15 +6,18 @@ use lib.ListN.{length}
 use mathlib.Core.Bool.{cond}
 use mathlib.Core.List.{List}
 use mathlib.Core.Path.{_≡_}
-use Rattle.mine_distinct.specs.Distinct.{distinctTable, havingTable, insideTable}
+use Rattle.mine_distinct.specs.InsideValues.{distinctIn, havingIn, insideIn}
 use Rattle.files.specs.Answer.{Answer, told, refused, accepted}
 use Rattle.files.specs.Calls.{countValues, minedBytes, mineAnswer, mineOutput}
 use Rattle.files.specs.RoleFile.{readRoles}
 use Rattle.role_record.specs.Record.{recordOf}
-use Rattle.mine_merge.specs.Steps.{Tables}
-use Rattle.mining.specs.Mined.{minedNumbers}
+use Rattle.mining.specs.MinedNumbers.{minedNumbers}
 use Rattle.policy.specs.Policy.{Policy}
 use Rattle.mining.specs.declared.Mined.{Mined}
+use Rattle.grant_grids.specs.Links.{linksOf}
+use Rattle.mine_groups.specs.Scratch.{Merged}
+use Rattle.mine_matches.specs.Matches.{knownIn, matchesIn}
+use Rattle.write_file.specs.FileTable.{keptTable}
 
 -- how long the rule file is: 0 where the role file is refused
 abbrev pub bytesFor : Answer Policy → ℕ
@@ -26,7 +29,7 @@ unfoldable pub neededBytes : List ℕ → ℕ → ℕ
 neededBytes file scratch = cond (leb 4096 scratch) (bytesFor (readRoles 2 file)) 0
 
 -- the tables and numbers are those of the policy's record
-pub record Stored (F : Policy) (known values kinds attributes holders permissions : List ℕ) (users resources operations roles : ℕ) : Type 0 where
+pub record OfRecord (F : Policy) (known values kinds attributes holders permissions : List ℕ) (users resources operations roles : ℕ) : Type 0 where
   pub of-known : known ≡ recordOf F .known
   pub of-values : values ≡ recordOf F .values
   pub of-kinds : kinds ≡ recordOf F .kinds
@@ -38,13 +41,34 @@ pub record Stored (F : Policy) (known values kinds attributes holders permission
   pub of-operations : operations ≡ recordOf F .operations
   pub of-roles : roles ≡ recordOf F .roles
 
--- the tables by which parts are merged and rules written are those of the policy
-pub record Tabled (F : Policy) (links matches known attributes holders permissions kinds distinct having inside : List ℕ) (users resources operations roles : ℕ) : Type 0 where
-  pub merging-by : Tables F links matches known attributes holders permissions users resources operations roles
+-- parts are merged by tables of the policy's record and by those of its distinct values
+pub record MergedBy (F : Policy) (known kinds attributes holders permissions distinct having : List ℕ) (users resources operations roles : ℕ) : Type 0 where
+  pub of-known : known ≡ recordOf F .known
   pub of-kinds : kinds ≡ recordOf F .kinds
-  pub of-distinct : distinct ≡ distinctTable (recordOf F .values) (recordOf F .holders) (recordOf F .kinds) (recordOf F .roles)
-  pub of-having : having ≡ havingTable (recordOf F .values) (recordOf F .holders) (recordOf F .kinds) (recordOf F .roles)
-  pub of-inside : inside ≡ insideTable (recordOf F .values) (recordOf F .holders) (recordOf F .kinds) (recordOf F .roles)
+  pub of-attributes : attributes ≡ recordOf F .attributes
+  pub of-holders : holders ≡ recordOf F .holders
+  pub of-permissions : permissions ≡ recordOf F .permissions
+  pub of-distinct : distinct ≡ distinctIn F
+  pub of-having : having ≡ havingIn F
+  pub of-users : users ≡ recordOf F .users
+  pub of-resources : resources ≡ recordOf F .resources
+  pub of-operations : operations ≡ recordOf F .operations
+  pub of-roles : roles ≡ recordOf F .roles
+
+-- the places that the rule of each group in scratch memory keeps
+abbrev pub keptFor : Policy → List ℕ → List ℕ
+keptFor F = keptTable (linksOf F) (matchesIn F) (knownIn F) (recordOf F .attributes) (recordOf F .users) (recordOf F .resources) (recordOf F .operations)
+
+-- rules are written by what they keep of the merged groups, and by tables of the policy
+pub record WrittenBy (F : Policy) (kept distinct having inside kinds permissions : List ℕ) (operations : ℕ) (t : List ℕ) : Type 0 where
+  pub merged : Merged F t
+  pub of-kept : kept ≡ keptFor F t
+  pub of-distinct : distinct ≡ distinctIn F
+  pub of-having : having ≡ havingIn F
+  pub of-inside : inside ≡ insideIn F
+  pub of-kinds : kinds ≡ recordOf F .kinds
+  pub of-permissions : permissions ≡ recordOf F .permissions
+  pub of-operations : operations ≡ recordOf F .operations
 
 -- the answer and the output, from the file, the words of scratch and the former output
 abbrev pub Outcome : List ℕ → ℕ → List ℕ → Mined → List ℕ → Type 0

@@ -1,7 +1,7 @@
 -- A part is known by its role and class: no two parts share both.
 -- Assumes nothing.
 use Prim.Native.Nat.{ℕ, zero, suc, _+_, _*_, _^_, _<_}
-use borrow.Author.Tests.{ltb-true, ltb-false}
+use borrow.Author.Tests.{ltb-true, ltb-false, not-true}
 use lib.Dec.{ltb}
 use lib.ListN.{length, getD}
 use mathlib.Core.Bool.{false}
@@ -20,7 +20,7 @@ use Rattle.sets.specs.SetLaws.{bit-mask}
 use Rattle.sets.specs.Sorted.{Ascending, none-left, and-then}
 use Rattle.sets.specs.SortedLaws.{each-rising, only-rising, from-rising}
 use Rattle.sets.specs.Tests.{Is, _isIn_, any, each, only, upTo}
-use Rattle.sets.specs.TestLaws.{and-l, and-r, never, test, fails, any-in, any-out, each-out, only-out, upTo-in, upTo-out, getD-in, not-out}
+use Rattle.sets.specs.TestLaws.{and-l, and-r, never, test, fails, any-in, any-out, each-out, only-out, upTo-in, upTo-out, getD-in}
 
 -- in an ascending list a later place has a higher number
 pub asc-places : {A : Type 0} (key : A → ℕ) {l : List A} (d : A) → Ascending key l → (i j : ℕ) → i < j → j < length l → key (getD l i d) < key (getD l j d)
@@ -76,7 +76,7 @@ module _ (P : Setting) (R : Roles) where
       let tp = parts-out P R mp in
       let tq = parts-out P R mq in
       let lq = and-r (any (λ u. R .held (q .role) u) (upTo (P .side user .count))) _ (tq .2) in
-      let none-lower = not-out (any (λ o. alike P R (q .role) o (q .lead)) (upTo (q .lead))) (and-r (any (λ r. R .gives (q .role) r (q .lead)) (upTo (P .side resource .count))) _ lq) in
+      let none-lower = not-true (any (λ o. alike P R (q .role) o (q .lead)) (upTo (q .lead))) (and-r (any (λ r. R .gives (q .role) r (q .lead)) (upTo (P .side resource .count))) _ lq) in
       let same-class : Is (bit (maskOf (P .slots) (alike P R (p .role) (p .lead))) (q .lead)) =
       ap (λ (m : ℕ). bit m (q .lead)) ec ∙ bit-mask (P .slots) (alike P R (q .role) (q .lead)) (q .lead) (tq .1) ∙ alike-in P R (q .role) (q .lead) (q .lead) (λ r l. refl) in
       let likes : Is (alike P R (q .role) (p .lead) (q .lead)) = rw (← er) (sym (bit-mask (P .slots) (alike P R (p .role) (p .lead)) (q .lead) (tq .1)) ∙ same-class) in
@@ -118,7 +118,7 @@ module _ (P : Setting) (R : Roles) where
       let hu = any-out (λ u. R .held (p .role) u) (upTo (P .side user .count)) (and-l (any (λ u. R .held (p .role) u) (upTo (P .side user .count))) _ (t .2)) in
       let hl = and-r (any (λ u. R .held (p .role) u) (upTo (P .side user .count))) _ (t .2) in
       let hr = any-out (λ r. R .gives (p .role) r (p .lead)) (upTo (P .side resource .count)) (and-l (any (λ r. R .gives (p .role) r (p .lead)) (upTo (P .side resource .count))) _ hl) in
-      let none-lower = not-out (any (λ o. alike P R (p .role) o (p .lead)) (upTo (p .lead))) (and-r (any (λ r. R .gives (p .role) r (p .lead)) (upTo (P .side resource .count))) _ hl) in
+      let none-lower = not-true (any (λ o. alike P R (p .role) o (p .lead)) (upTo (p .lead))) (and-r (any (λ r. R .gives (p .role) r (p .lead)) (upTo (P .side resource .count))) _ hl) in
       record {
         in-roles = t .0;
         in-slots = t .1;

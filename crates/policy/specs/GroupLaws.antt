@@ -4,7 +4,7 @@ use Prim.Native.Nat.{ℕ, zero, suc, _+_, _≤_, _<_, min, max}
 use borrow.Author.Tests.{eqb-true, eqb-false, eq-eqb, ne-eqb}
 use lib.Dec.{eqb}
 use lib.ListN.{length, getD}
-use mathlib.Core.Bool.{Bool, true, false, cond, _||_, or-assoc, or-comm}
+use mathlib.Core.Bool.{Bool, true, false, cond, _||_, or-assoc, or-comm, or-false}
 use mathlib.Core.List.{List, [], _∷_, _++_, List·Memᴰ·head, List·Memᴰ·tail, List·Memᴰ·not-nil, List·Memᴰ·append-cases}
 use mathlib.Core.Logic.{_⊎_, inl, inr}
 use mathlib.Core.Path.{_≡_, refl, sym, ap, ap₂, _∙_, fun-ext}
@@ -19,7 +19,6 @@ use Rattle.policy.specs.Rules.{Setting, Rule, Block, grants, at, ruleLev
 use Rattle.policy.specs.ThinLaws.{written-exact, fits-same, written-level}
 use Rattle.policy.specs.Thinning.{written}
 use Rattle.sets.specs.LowestLaws.{lowest-most, lowest-passes, lowest-some}
-use Rattle.sets.specs.MaskLaws.{or-false}
 use Rattle.sets.specs.Sorted.{Ascending, none-left, and-then}
 use Rattle.sets.specs.TestLaws.{or-l, never, test, same, any-in, any-out, from-out, upTo-in, upTo-out, map-out, getD-in}
 use Rattle.sets.specs.Tests.{Is, _isIn_, any, from, upTo}

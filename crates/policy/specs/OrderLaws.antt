@@ -18,6 +18,11 @@ use Rattle.sets.specs.SortedLaws.{Before, keep-rising, append-rising, each-risi
 use Rattle.sets.specs.Tests.{Is, _isIn_, each, only, from, upTo}
 use Rattle.sets.specs.TestLaws.{each-out, only-out, from-out, upTo-out, map-out}
 
+-- the conditions of a side stand at 0 or 256 and further
+pub side-base : (w : Which) → by w 0 256 ≤ 256
+side-base user = omega arith
+side-base resource = omega arith
+
 -- ---- ascending lists
 
 module _ {A : Type 0} (key : A → ℕ) where
@@ -117,12 +122,8 @@ module _ (P : Setting) (N : (w : Which) → Numbered (P .side w)) where
           let a = attrs-below (P .side w) (N w) (ownAt w l) (s .1) in
           let p = ap key (s .3) in
           let q = ap key (t .5) in
-          let b = base w in
+          let b = side-base w in
           omega arith
-        where
-          base : (w : Which) → by w 0 256 ≤ 256
-          base user = omega arith
-          base resource = omega arith
 
       last : (x y : Cond) → (x isIn conjuncts P B l user) ⊎ (x isIn conjuncts P B l resource) → y isIn atomConds P B → key x < key y
       last x y (inl m) k = before user x y m k

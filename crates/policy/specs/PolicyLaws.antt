@@ -3,19 +3,21 @@
 use Prim.Native.Nat.{ℕ, _^_, _<_}
 use borrow.Author.Tests.{eqb-true, eq-eqb}
 use lib.Dec.{eqb}
-use mathlib.Core.Bool.{Bool, true, false, _&&_}
+use lib.ListN.{length}
+use mathlib.Core.Bool.{Bool, true, false, _&&_, or-false}
+use mathlib.Core.Logic.{_⊎_, inl, inr, ⊎-elim}
 use mathlib.Core.Path.{_≡_, refl, sym, _∙_}
 use Rattle.policy.specs.MinedLaws.{MinedRules, mined-rules}
 use Rattle.policy.specs.PartLaws.{alike-out, roles-grant, Own}
 use Rattle.policy.specs.Policy.{Policy, meetsValue, senior, held, rolesOf, isSetAt, valueAt, sideOf, settingOf, rolesIn}
 use Rattle.policy.specs.Roles.{Part, blockOf, rolesGrant, someRoleGives}
 use Rattle.policy.specs.RuleLaws.{Lawful}
-use Rattle.policy.specs.Rules.{Which, meets, Triple, user, resource}
-use Rattle.sets.specs.MaskLaws.{or-false}
+use Rattle.policy.specs.Rules.{Which, meets, Triple, user, resource, own, attrsOf}
+use Rattle.policy.specs.SideLaws.{attribute-cases, declared-in}
 use Rattle.sets.specs.Sets.{subset}
 use Rattle.sets.specs.SetLaws.{subset-self, subset-chain, one-subset, bit-mask}
-use Rattle.sets.specs.Tests.{Is, any, upTo}
-use Rattle.sets.specs.TestLaws.{and-in, and-l, and-r, or-r, same, any-in, upTo-in, any-ext}
+use Rattle.sets.specs.Tests.{Is, any, upTo, _isIn_}
+use Rattle.sets.specs.TestLaws.{and-in, and-l, and-r, or-r, any-in, upTo-in, any-ext, eqb-turned}
 
 value-self : (w : Which) (set : Bool) (x : ℕ) → Is (meetsValue w set x x)
 value-self user true x = subset-self x
@@ -40,7 +42,7 @@ module _ (F : Policy) where
   owned = record {
     one-role = λ k. 2 ^ k;
     users = λ k u lk lu. or-false (subset (2 ^ k) (rolesOf F u)) ∙ one-subset k (rolesOf F u) ∙ bit-mask (F .roles) (λ k. held F k u) k lk;
-    resources = λ vs r lr. any-ext (λ v. eqb v r) (eqb r) vs (λ v m. same (eqb v r) (eqb r v) (λ p. eq-eqb r v (sym (eqb-true v r p))) (λ p. eq-eqb v r (sym (eqb-true r v p))));
+    resources = λ vs r lr. any-ext (λ v. eqb v r) (eqb r) vs (λ v m. eqb-turned v r);
   }
 
   -- the third demand, of the rules of every policy
@@ -63,3 +65,12 @@ module _ (F : Policy) where
   pub holders-inherit : (k s u : ℕ) → s < F .roles → Is (senior F k s) → Is (F .assigned s u) → Is (held F k u)
   unfolding held
   holders-inherit k s u l p q = or-r (F .assigned k u) (any-in (λ s. senior F k s && F .assigned s u) (upTo-in l) (and-in p q))
+
+  -- the attributes that a rule may use are those declared and the 255
+  pub attributes-of : (w : Which) (a : ℕ) → a isIn attrsOf (settingOf F .side w) true → (a < length (F .table w .kinds)) ⊎ (a ≡ own)
+  unfolding settingOf sideOf
+  attributes-of w a m = ⊎-elim (λ l. inl l) (λ q. inr (q .1)) (attribute-cases (settingOf F .side w) true a m)
+
+  pub attribute-of : (w : Which) (a : ℕ) → a < length (F .table w .kinds) → a isIn attrsOf (settingOf F .side w) true
+  unfolding settingOf sideOf
+  attribute-of w a l = declared-in (settingOf F .side w) true a l

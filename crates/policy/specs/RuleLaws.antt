@@ -1,11 +1,16 @@
 -- A policy's two sides, rules, and what a rule grants.
 -- Assumes nothing.
-use Prim.Native.Nat.{ℕ}
-use Rattle.policy.specs.Rules.{Which, Setting, Cond, Rule, Block, holds, grants, Same, sameBlock, user, resource}
+use Prim.Native.Nat.{ℕ, _^_, _<_}
+use borrow.Author.Tests.{ltb-false}
+use lib.Dec.{eqb, ltb}
+use mathlib.Core.Bool.{Bool, true, false, _&&_}
+use mathlib.Core.Path.{_≡_, refl, sym, ap, _∙_}
+use Rattle.policy.specs.Rules.{Which, Setting, Cond, Rule, Block, holds, grants, Same, sameBlock, user, resource, formOf, linked}
 use Rattle.policy.specs.SideLaws.{Ordered}
-use Rattle.sets.specs.Sets.{bit}
+use Rattle.sets.specs.MaskLaws.{bit-out}
+use Rattle.sets.specs.Sets.{bit, subset}
 use Rattle.sets.specs.Tests.{Is, iff, _isIn_, all, upTo}
-use Rattle.sets.specs.TestLaws.{and-in, and-l, and-r, iff-in, iff-out, all-out, all-in, upTo-in, upTo-out}
+use Rattle.sets.specs.TestLaws.{and-in, and-l, and-r, iff-in, iff-out, all-out, all-in, upTo-in, upTo-out, test}
 
 -- what the theory asks of both sides
 abbrev pub Lawful : Setting → Type 0
@@ -35,3 +40,25 @@ module _ (P : Setting) where
   same-out A B h u r o t =
       iff-out (A u r o) (B u r o)
       (all-out (λ o. iff (A u r o) (B u r o)) (all-out (λ r. all (λ o. iff (A u r o) (B u r o)) (upTo (P .slots))) (all-out (λ u. all (λ r. all (λ o. iff (A u r o) (B u r o)) (upTo (P .slots))) (upTo (P .side resource .count))) h (upTo-in (t .user))) (upTo-in (t .resource))) (upTo-in (t .op)))
+
+-- ---- one pair of values, by the kinds of their attributes
+
+module _ (p q : Bool) (x y : ℕ) where
+  pub set-in-set : {d : Bool} → p ≡ true → q ≡ true → d ≡ subset y x → d ≡ linked (formOf p q) x y
+  set-in-set e f h = rw (e, f) h
+
+  -- "a value above 63 never is contained"
+  pub single-in-set : {d : Bool} → p ≡ true → q ≡ false → x < 2 ^ 64 → d ≡ bit x y → d ≡ linked (formOf p q) x y
+  single-in-set e f l h = rw (e, f) (h ∙ small)
+    where
+      small : bit x y ≡ (ltb y 64 && bit x y)
+      small =
+          test (ltb y 64)
+          (λ t. sym (ap (λ (b : Bool). b && bit x y) t))
+          (λ t. bit-out 64 x y l (ltb-false y 64 t) ∙ sym (ap (λ (b : Bool). b && bit x y) t))
+
+  pub no-form : p ≡ false → q ≡ true → false ≡ linked (formOf p q) x y
+  no-form e f = rw (e, f) refl
+
+  pub single-is-single : {d : Bool} → p ≡ false → q ≡ false → d ≡ eqb x y → d ≡ linked (formOf p q) x y
+  single-is-single e f h = rw (e, f) h

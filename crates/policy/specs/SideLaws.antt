@@ -3,15 +3,16 @@
 use Prim.Native.Nat.{ℕ, _<_}
 use lib.Dec.{ltb}
 use mathlib.Core.Bool.{Bool, false≢true}
-use mathlib.Core.List.{List, List·Memᴰ·head, List·Memᴰ·tail, List·Memᴰ·not-nil}
+use mathlib.Core.List.{List, List·Memᴰ·head, List·Memᴰ·tail, List·Memᴰ·not-nil, List·Memᴰ·append-cases, Memᴰ·append-left, Memᴰ·append-right}
+use mathlib.Core.Logic.{_⊎_, inl, inr, ⊎-elim}
 use mathlib.Core.Option.{Option, none, some}
 use mathlib.Core.Path.{_≡_, refl, sym, ap}
 use Rattle.policy.specs.Covering.{known, allKnow, valuesOf}
-use Rattle.policy.specs.Rules.{Side, admits, meets}
+use Rattle.policy.specs.Rules.{Side, admits, meets, own, attrsOf}
 use Rattle.sets.specs.Sorted.{Rising}
 use Rattle.sets.specs.SortedLaws.{Before, sort-in, sort-out, sort-rising, numbers}
-use Rattle.sets.specs.Tests.{Is, _isIn_, keep, each, upTo, isSome}
-use Rattle.sets.specs.TestLaws.{all-out, all-in, any-in, any-out, keep-in, keep-out, each-in, each-out, upTo-in, upTo-out, isSome-out}
+use Rattle.sets.specs.Tests.{Is, _isIn_, keep, each, upTo, isSome, only}
+use Rattle.sets.specs.TestLaws.{all-out, all-in, any-in, any-out, keep-in, keep-out, each-in, each-out, upTo-in, upTo-out, isSome-out, only-in, only-out}
 
 -- what the theory asks of `below`
 pub record Ordered (S : Side) : Type 0 where
@@ -79,3 +80,19 @@ module _ (S : Side) where
       where
         same-value : {o : Option ℕ} {x y v : ℕ} → o ≡ some x → o ≡ some y → Is (S .below a v x) → Is (S .below a v y)
         same-value {x = x} {y = y} p q r = let e : x ≡ y = cc in rw e at r
+
+-- ---- the attributes that a rule may use
+
+module _ (S : Side) (b : Bool) where
+  -- they are those declared, and the 255 where it may be used
+  pub attribute-cases : (a : ℕ) → a isIn attrsOf S b → (a < S .attrs) ⊎ (Is b × (a ≡ own))
+  unfolding attrsOf
+  attribute-cases a m = ⊎-elim (λ k. inl (upTo-out (S .attrs) k)) (λ k. inr (only-out b k)) (List·Memᴰ·append-cases (upTo (S .attrs)) m)
+
+  pub declared-in : (a : ℕ) → a < S .attrs → a isIn attrsOf S b
+  unfolding attrsOf
+  declared-in a l = Memᴰ·append-left (only b own) (upTo-in l)
+
+  pub own-in : Is b → own isIn attrsOf S b
+  unfolding attrsOf
+  own-in h = Memᴰ·append-right (upTo (S .attrs)) (only-in own h)

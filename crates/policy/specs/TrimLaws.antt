@@ -1,10 +1,11 @@
 -- Of a list of values, those that lie strictly above no other; over any order that is reflexive and transitive.
 -- Assumes nothing.
 use Prim.Native.Nat.{ℕ}
-use mathlib.Core.Bool.{Bool, true, false, not}
+use borrow.Author.Tests.{not-true}
+use mathlib.Core.Bool.{Bool, false, not}
 use mathlib.Core.List.{List, [], _∷_, List·Memᴰ·head, List·Memᴰ·tail, List·Memᴰ·not-nil}
 use mathlib.Core.Logic.{_⊎_, inl, inr}
-use mathlib.Core.Path.{_≡_, refl, sym}
+use mathlib.Core.Path.{_≡_, refl}
 use Rattle.policy.specs.Thinning.{strictly, trim}
 use Rattle.sets.specs.Tests.{Is, _isIn_, any}
 use Rattle.sets.specs.TestLaws.{and-l, and-r, never, test, fails, any-out, keep-in, keep-out}
@@ -16,11 +17,7 @@ module _ (le : ℕ → ℕ → Bool) where
 
   module _ (self : (x : ℕ) → Is (le x x)) (chain : (x y z : ℕ) → Is (le x y) → Is (le y z) → Is (le x z)) where
     not-strictly : (w m : ℕ) → Is (le m w) → strictly le w m ≡ false
-    not-strictly w m h = fails (strictly le w m) λ p. never h (not-is (le m w) (and-r (le w m) _ p))
-      where
-        not-is : (b : Bool) → Is (not b) → b ≡ false
-        not-is true h = sym h
-        not-is false h = refl
+    not-strictly w m h = fails (strictly le w m) λ p. never h (not-true (le m w) (and-r (le w m) _ p))
 
     -- below each value lies one that no member of the list lies strictly below
     record Bottom (s : List ℕ) (x : ℕ) : Type 0 where

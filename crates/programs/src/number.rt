@@ -1,68 +1,12 @@
-// A number that an argument gives in decimal digits.
-ghost use mathlib.Core.Path.{_≡_};
-ghost use Prim.Native.Nat.{_+_, _-_, _*_, _≤_, min};
-ghost use Rattle.programs.specs.Numbers.{isWithin, numberIn, most};
+// A number that an argument gives.
 use crate::argument::complain_of;
-
-pub enum Number {
-    Given(usize),
-    Wrong,
-}
-
-// Far beyond every size that a role file can declare. A larger number is taken for this one, so that any number of digits can be read.
-const MOST: usize = 1000000;
-
-// Whether a number lies between two others, or is one of them.
-pub fn within(n: usize, low: usize, high: usize) -> bool
-    ensures { λ r. ⌜ r ≡ isWithin n low high ⌝ }
-{
-    if n < low {
-        return false;
-    }
-    n <= high
-}
-
-// The bytes of the digits.
-fn is_digit(c: u8) -> bool
-    ensures { λ r. ⌜ r ≡ isWithin c 48 57 ⌝ }
-{
-    within(c as usize, 48, 57)
-}
-
-// The number with one digit more behind it.
-fn with_digit(n: usize, c: u8) -> usize
-    requires { ⌜ (n ≤ most) × (48 ≤ c) ⌝ }
-    ensures { λ r. ⌜ r ≡ min (10 * n + (c - 48)) most ⌝ }
-{
-    let more = 10 * n + (c - 48) as usize;
-    if more < MOST { more } else { MOST }
-}
-
-// One digit or more, and nothing else.
-pub fn number_in(text: &[u8]) -> Number
-    ensures { λ r. ⌜ r ≡ numberIn (now (text .entry)) ⌝ }
-{
-    if text.len() == 0 {
-        return Number::Wrong;
-    }
-    let mut n: usize = 0;
-    let mut at: usize = 0;
-    while at < text.len() {
-        let c = text[at];
-        if !is_digit(c) {
-            return Number::Wrong;
-        }
-        n = with_digit(n, c);
-        at = at + 1;
-    }
-    Number::Given(n)
-}
+use digits::Number;
 
 // The number that argument i gives. One that is too long to be read whole is none. Where it gives none, a line on standard error says so.
 pub fn number_named(program: &[u8], i: usize, wrong: &[u8]) -> Number {
     let mut text = io::buffer();
     let n = os::arg(i, &mut text);
-    let given = number_in(&text[..n]);
+    let given = digits::number_in(&text[..n]);
     match given {
         Number::Given(k) => Number::Given(k),
         Number::Wrong => {

@@ -1,6 +1,6 @@
 // Lines of words and numbers. An answer goes to standard output: each function that begins with `say` says whether all was printed so far,
 // and prints nothing behind a failure. Everything else goes to standard error, behind the name of the program.
-use crate::words::refusal_words;
+use answer_words::refusal_words;
 
 pub fn say(printed: bool, text: &[u8]) -> bool {
     if printed {

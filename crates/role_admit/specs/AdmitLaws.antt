@@ -1,20 +1,21 @@
 -- What the code admits is what the definitions obey.
 -- Assumes nothing.
 use Prim.Native.Nat.{ℕ, zero, suc, _+_, _*_, _%_, _<_}
-use borrow.Author.Tests.{ltb-true, lt-ltb, le-ltb, le-leb, leb-true}
+use borrow.Author.Tests.{ltb-true, lt-ltb, le-leb, leb-true}
 use lib.Dec.{eqb, ltb, leb}
 use lib.ListN.{length, getD, set}
 use mathlib.Core.Bool.{Bool, true, false, cond, _&&_, not}
 use mathlib.Core.Path.{_≡_, refl, sym, ap, ap₂, _∙_}
 use native.Mathlib.Omega.{arith}
-use Rattle.role_admit.specs.Admit.{belowOf, firstOf, declaringOf, laterOf, kindCode, valueCode, admitOf}
+use Rattle.role_admit.specs.Admit.{belowOf, firstOf, declaringOf, laterOf, sizesCode, kindCode, sizeOf, valueCode, permissionCode, admitOf}
 use Rattle.role_commands.specs.DecodeLaws.{meaning}
 use Rattle.role_commands.specs.declared.Command.{Command}
 use Rattle.role_commands.specs.declared.Command.the-variants.{Sizes, Declare, Give, Assign, Permit, Line, End}
 use Rattle.files.specs.Answer.{Refusal, numberOf, Answer, unless, andThen, outOfPlace, beyond, wrongKind, refused, accepted}
 use Rattle.files.specs.RoleFile.{Phase, Loading, blank, sideBy, withKind, withValue, withAssigned, withPermitted, withLine, isNothing, isDeclaring, enter, takeKind, takeValue, takeAssignment, takePermission, takeLine, takeSizes, obeyRole, nothing, declaring, telling}
+use Rattle.role_record.specs.declared.Sizes.{Sizes as Counts}
 use Rattle.role_record.specs.Record.{columnSide, knownTable, attributeTable, kindTable, Sized}
-use Rattle.role_record.specs.RecordLaws.{table-get}
+use Rattle.role_record.specs.RecordLaws.{table-get, column-side}
 use Rattle.policy.specs.Policy.{Policy, kindOf}
 use Rattle.policy.specs.Rules.{Which, user, resource}
 use Rattle.sets.specs.SetLaws.{bit-mask}
@@ -31,6 +32,10 @@ abbrev pub phaseCode : Phase → ℕ
 phaseCode nothing = 0
 phaseCode declaring = 1
 phaseCode telling = 2
+
+-- how many a policy has of each
+abbrev pub sizesIn : Policy → Counts
+sizesIn F = record { users = F .table user .count; resources = F .table resource .count; operations = F .operations; roles = F .roles }
 
 -- ---- codes of answers
 
@@ -92,16 +97,10 @@ side-kinds F zero h = refl
 side-kinds F (suc zero) h = refl
 side-kinds F (suc (suc n)) h = absurd (omega arith)
 
-side-count : (F : Policy) (side : ℕ) → side < 2 → cond (eqb side 0) (F .table user .count) (F .table resource .count) ≡ F .table (sideBy side) .count
+side-count : (F : Policy) (side : ℕ) → side < 2 → sizeOf side (sizesIn F) ≡ F .table (sideBy side) .count
 side-count F zero h = refl
 side-count F (suc zero) h = refl
 side-count F (suc (suc n)) h = absurd (omega arith)
-
--- the side of a column
-pub column-side : (side a : ℕ) → side < 2 → a < 6 → columnSide (6 * side + a) ≡ sideBy side
-column-side zero a h ha = rw (lt-ltb (6 * 0 + a) 6 (omega arith)) refl
-column-side (suc zero) a h ha = rw (le-ltb (6 * 1 + a) 6 (omega arith)) refl
-column-side (suc (suc n)) a h ha = absurd (omega arith)
 
 pub column-known : (F : Policy) (side a x : ℕ) → side < 2 → a < 6 → x < 64 → bit (getD (knownTable F) (6 * side + a) 0) x ≡ isSome (F .table (sideBy side) .value a x)
 unfolding knownTable
@@ -110,8 +109,8 @@ column-known F side a x hs ha hx =
     ∙ bit-mask 64 (λ y. isSome (F .table (columnSide (6 * side + a)) .value ((6 * side + a) % 6) y)) x hx
     ∙ ap₂ (λ (w : Which) (b : ℕ). isSome (F .table w .value b x)) (column-side side a hs ha) (let e : (6 * side + a) % 6 ≡ a = omega arith in e)
 
-sizes-code : (u r o k : ℕ) → codeOf (takeSizes 2 u r o k) ≡ belowOf u 65 (belowOf r 65 (belowOf o 17 (belowOf k 33 0)))
-unfolding takeSizes belowOf
+sizes-code : (u r o k : ℕ) → codeOf (takeSizes 2 u r o k) ≡ sizesCode u r o k
+unfolding takeSizes sizesCode belowOf
 sizes-code u r o k =
     unless-code (leb u 64 && leb r 64 && leb o 16 && leb k 32) beyond (accepted (blank u r o k))
     ∙ both-tests (leb u 64 && leb r 64 && leb o 16) (leb k 32) 0 5
@@ -127,12 +126,12 @@ kind-code F side kind =
     ∙ both-tests (ltb side 2) (ltb kind 2) (cond (ltb (length (F .table (sideBy side) .kinds)) 6) 0 5) 5
     ∙ test (ltb side 2) (λ h. rw (h, side-attributes F side (ltb-true side 2 h)) refl) (λ h. rw h refl)
 
-value-code : (F : Policy) → Sized F → (set : Bool) (side a x v : ℕ) → codeOf (takeValue F set side a x v) ≡ valueCode set side a x (F .table user .count) (F .table resource .count) (attributeTable F) (kindTable F) (knownTable F)
+value-code : (F : Policy) → Sized F → (set : Bool) (side a x v : ℕ) → codeOf (takeValue F set side a x v) ≡ valueCode set side a x (sizesIn F) (attributeTable F) (kindTable F) (knownTable F)
 unfolding takeValue valueCode
 value-code F Z set side a x v =
     test (ltb side 2) there (λ h. rw h refl)
   where
-    there : ltb side 2 ≡ true → codeOf (takeValue F set side a x v) ≡ valueCode set side a x (F .table user .count) (F .table resource .count) (attributeTable F) (kindTable F) (knownTable F)
+    there : ltb side 2 ≡ true → codeOf (takeValue F set side a x v) ≡ valueCode set side a x (sizesIn F) (attributeTable F) (kindTable F) (knownTable F)
     there h =
         let s = ltb-true side 2 h in
         rw (h, side-attributes F side s, side-count F side s)
@@ -163,8 +162,8 @@ three-code false b c G = refl
 -- ---- THE LAW: a command is admitted where it is obeyed, and refused by the same number
 
 pub admit-means : (L : Loading) (c : Command) → Sized (L .policy)
-    → admitOf c (phaseCode (L .phase)) (L .policy .table user .count) (L .policy .table resource .count) (L .policy .operations) (L .policy .roles) (attributeTable (L .policy)) (kindTable (L .policy)) (knownTable (L .policy)) ≡ codeOf (obeyRole 2 L (meaning c))
-unfolding admitOf obeyRole takeAssignment takePermission takeLine belowOf
+    → admitOf c (phaseCode (L .phase)) (sizesIn (L .policy)) (attributeTable (L .policy)) (kindTable (L .policy)) (knownTable (L .policy)) ≡ codeOf (obeyRole 2 L (meaning c))
+unfolding admitOf obeyRole takeAssignment takePermission takeLine permissionCode belowOf
 admit-means L (Sizes u r o k) Z = sym (first-place (L .phase) declaring (takeSizes 2 u r o k) ∙ ap (firstOf (phaseCode (L .phase))) (sizes-code u r o k))
 admit-means L (Declare side kind) Z = sym (declaring-place (L .phase) declaring (takeKind (L .policy) side kind) ∙ ap (declaringOf (phaseCode (L .phase))) (kind-code (L .policy) side kind))
 admit-means L (Give set side a x v) Z = sym (later-place (L .phase) telling (takeValue (L .policy) set side a x v) ∙ ap (laterOf (phaseCode (L .phase))) (value-code (L .policy) Z set side a x v))

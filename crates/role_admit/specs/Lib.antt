@@ -1,3 +1,3 @@
 pub mod Admit
 pub mod AdmitLaws
-pub mod TableLaws
+pub mod RoleTableLaws

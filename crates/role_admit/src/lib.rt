@@ -1,17 +1,20 @@
 // Whether a command of a role file may stand where it does and say what it says.
 ghost use mathlib.Core.Path.{_≡_};
-ghost use mathlib.Core.Bool.{cond, not};
+ghost use mathlib.Core.Bool.{not};
 ghost use Prim.Native.Nat.{_+_, _*_, _≤_, _<_};
-ghost use lib.Dec.{eqb};
 ghost use lib.ListN.{getD};
 ghost use Rattle.sets.specs.Tests.{iff};
-ghost use Rattle.role_admit.specs.Admit.{belowOf, firstOf, declaringOf, laterOf, kindCode, valueCode, admitOf};
+ghost use Rattle.role_admit.specs.Admit.{belowOf, firstOf, declaringOf, laterOf, sizesCode, kindCode, sizeOf, valueCode, permissionCode, admitOf};
+
+pub mod phase;
+
 use files::refusal;
 use role_commands::Command;
 use role_record::ByAttribute;
 use role_record::BySide;
 use role_record::CountBySide;
 use role_record::RoleFile;
+use role_record::Sizes;
 
 // The verdict v where x is below the limit, else 5.
 fn below(x: usize, limit: usize, v: usize) -> usize
@@ -24,21 +27,42 @@ fn below(x: usize, limit: usize, v: usize) -> usize
 fn first(phase: usize, v: usize) -> usize
     ensures { λ r. ⌜ r ≡ firstOf phase v ⌝ }
 {
-    if phase == 0 { v } else { refusal::OUT_OF_PLACE }
+    if phase == phase::NOTHING {
+        v
+    } else {
+        refusal::OUT_OF_PLACE
+    }
 }
 
 // The verdict v where only 01 and 02 were read before, else 4.
 fn declaring(phase: usize, v: usize) -> usize
     ensures { λ r. ⌜ r ≡ declaringOf phase v ⌝ }
 {
-    if phase == 1 { v } else { refusal::OUT_OF_PLACE }
+    if phase == phase::DECLARING {
+        v
+    } else {
+        refusal::OUT_OF_PLACE
+    }
 }
 
 // The verdict v where 01 was read before, else 4.
 fn later(phase: usize, v: usize) -> usize
     ensures { λ r. ⌜ r ≡ laterOf phase v ⌝ }
 {
-    if phase == 0 { refusal::OUT_OF_PLACE } else { v }
+    if phase == phase::NOTHING {
+        return refusal::OUT_OF_PLACE;
+    }
+    v
+}
+
+// 5 where a size is beyond its limit, else 0.
+fn admit_sizes(users: usize, resources: usize, operations: usize, roles: usize) -> usize
+    ensures { λ r. ⌜ r ≡ sizesCode users resources operations roles ⌝ }
+{
+    let v1 = below(roles, RoleFile::ROLES + 1, 0);
+    let v2 = below(operations, RoleFile::OPERATIONS + 1, v1);
+    let v3 = below(resources, RoleFile::RESOURCES + 1, v2);
+    below(users, RoleFile::USERS + 1, v3)
 }
 
 // 5 where an attribute cannot be declared, else 0.
@@ -58,10 +82,14 @@ fn admit_kind(side: usize, kind: usize, attributes: &CountBySide) -> usize
 }
 
 // The size of a side.
-fn size_of(side: usize, users: usize, resources: usize) -> usize
-    ensures { λ r. ⌜ r ≡ cond (eqb side 0) users resources ⌝ }
+fn size_of(side: usize, sizes: Sizes) -> usize
+    ensures { λ r. ⌜ r ≡ sizeOf side sizes ⌝ }
 {
-    if side == 0 { users } else { resources }
+    if side == 0 {
+        sizes.users
+    } else {
+        sizes.resources
+    }
 }
 
 fn differ(a: bool, b: bool) -> bool
@@ -76,8 +104,7 @@ fn admit_value<'a>(
     side: usize,
     attribute: usize,
     who: usize,
-    users: usize,
-    resources: usize,
+    sizes: Sizes,
     attributes: &'a CountBySide,
     kinds: &'a BySide,
     known: &'a ByAttribute,
@@ -85,8 +112,7 @@ fn admit_value<'a>(
     requires { ⌜ (getD (now attributes) 0 0 ≤ 6) × (getD (now attributes) 1 0 ≤ 6) ⌝ }
     ensures { λ r. ⌜
         r
-        ≡ valueCode set side attribute who users resources (now (attributes .entry)) (now (kinds .entry))
-        (now (known .entry)) ⌝ }
+        ≡ valueCode set side attribute who sizes (now (attributes .entry)) (now (kinds .entry)) (now (known .entry)) ⌝ }
 {
     if RoleFile::SIDES <= side {
         return refusal::BEYOND;
@@ -94,7 +120,7 @@ fn admit_value<'a>(
     if attributes[side] <= attribute {
         return refusal::BEYOND;
     }
-    if size_of(side, users, resources) <= who {
+    if size_of(side, sizes) <= who {
         return refusal::BEYOND;
     }
     if differ(sets::has(kinds[side], attribute), set) {
@@ -107,36 +133,34 @@ fn admit_value<'a>(
     0
 }
 
+// 5 where a permission cannot be given, else 0.
+fn admit_permission(role: usize, resource: usize, operation: usize, sizes: Sizes) -> usize
+    ensures { λ r. ⌜ r ≡ permissionCode role resource operation sizes ⌝ }
+{
+    let v = below(operation, sizes.operations, 0);
+    below(role, sizes.roles, below(resource, sizes.resources, v))
+}
+
 // 0 where the command may stand here and says what it may; else the refusal.
 pub fn admit<'a>(
     c: Command,
     phase: usize,
-    users: usize,
-    resources: usize,
-    operations: usize,
-    roles: usize,
+    sizes: Sizes,
     attributes: &'a CountBySide,
     kinds: &'a BySide,
     known: &'a ByAttribute,
 ) -> usize
     requires { ⌜ (getD (now attributes) 0 0 ≤ 6) × (getD (now attributes) 1 0 ≤ 6) ⌝ }
     ensures { λ r. ⌜
-        r
-        ≡ admitOf c phase users resources operations roles (now (attributes .entry)) (now (kinds .entry))
-        (now (known .entry)) ⌝ }
+        r ≡ admitOf c phase sizes (now (attributes .entry)) (now (kinds .entry)) (now (known .entry)) ⌝ }
 {
     match c {
         Command::Sizes {
-            users: u,
-            resources: r,
-            operations: o,
-            roles: k,
-        } => {
-            let v1 = below(k, RoleFile::ROLES + 1, 0);
-            let v2 = below(o, RoleFile::OPERATIONS + 1, v1);
-            let v3 = below(r, RoleFile::RESOURCES + 1, v2);
-            first(phase, below(u, RoleFile::USERS + 1, v3))
-        }
+            users,
+            resources,
+            operations,
+            roles,
+        } => first(phase, admit_sizes(users, resources, operations, roles)),
         Command::Declare { side, kind } => declaring(phase, admit_kind(side, kind, attributes)),
         Command::Give {
             set,
@@ -145,30 +169,20 @@ pub fn admit<'a>(
             who,
             value: _,
         } => {
-            let v = admit_value(
-                set,
-                side,
-                attribute,
-                who,
-                users,
-                resources,
-                attributes,
-                kinds,
-                known,
-            );
+            let v = admit_value(set, side, attribute, who, sizes, attributes, kinds, known);
             later(phase, v)
         }
-        Command::Assign { role, user } => later(phase, below(role, roles, below(user, users, 0))),
+        Command::Assign { role, user } => {
+            later(phase, below(role, sizes.roles, below(user, sizes.users, 0)))
+        }
         Command::Permit {
             role,
             resource,
             operation,
-        } => {
-            let v1 = below(operation, operations, 0);
-            later(phase, below(role, roles, below(resource, resources, v1)))
-        }
+        } => later(phase, admit_permission(role, resource, operation, sizes)),
         Command::Line { junior, senior } => {
-            later(phase, below(junior, roles, below(senior, roles, 0)))
+            let v = below(senior, sizes.roles, 0);
+            later(phase, below(junior, sizes.roles, v))
         }
         Command::End => later(phase, 0),
     }

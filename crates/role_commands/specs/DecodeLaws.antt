@@ -4,6 +4,7 @@ use Prim.Native.Nat.{ℕ, zero, suc, _+_, _*_, _≤_, _<_}
 use borrow.Author.Tests.{eqb-true, eqb-false, ne-eqb, ltb-true, ltb-false, leb-true, leb-false}
 use lib.Dec.{eqb, ltb, leb}
 use lib.ListN.{length, getD, drop, set, drop-of-length-le}
+use lib.Seq.{drop-cons}
 use mathlib.Core.Bool.{Bool, true, false, cond}
 use mathlib.Core.List.{List, [], _∷_}
 use mathlib.Core.Option.{Option, none, some, Option·map}
@@ -23,15 +24,10 @@ use Rattle.sets.specs.TestLaws.{test}
 
 -- ---- numbers and operands by place
 
-drop-cons : (i : ℕ) (l : List ℕ) → i < length l → drop i l ≡ getD l i 0 ∷ drop (suc i) l
-drop-cons i [] h = absurd (omega arith)
-drop-cons zero (x ∷ xs) h = refl
-drop-cons (suc i) (x ∷ xs) h = drop-cons i xs (omega arith)
-
 number-at : (w i : ℕ) (l : List ℕ) → i + w ≤ length l → number w (drop i l) ≡ some (numberAt w l i, drop (i + w) l)
 number-at zero i l h = let e : i ≡ i + 0 = omega arith in ap (λ (k : ℕ). some (0, drop k l)) e
 number-at (suc w) i l h =
-    ap (number (suc w)) (drop-cons i l (omega arith))
+    ap (number (suc w)) (drop-cons l i 0 (omega arith))
     ∙ ap (Option·map (λ (p : ℕ × List ℕ). (getD l i 0 + 256 * p .0, p .1))) (number-at w (suc i) l (omega arith))
     ∙ (let e : suc i + w ≡ i + suc w = omega arith in ap (λ (k : ℕ). some (getD l i 0 + 256 * numberAt w l (suc i), drop k l)) e)
 
@@ -40,7 +36,7 @@ number-short zero i l h k = absurd (omega arith)
 number-short (suc w) i l h k =
     test (ltb i (length l))
     (λ e. let p = ltb-true i (length l) e in
-    ap (number (suc w)) (drop-cons i l p) ∙ ap (Option·map (λ (p : ℕ × List ℕ). (getD l i 0 + 256 * p .0, p .1))) (number-short w (suc i) l (omega arith) (omega arith)))
+    ap (number (suc w)) (drop-cons l i 0 p) ∙ ap (Option·map (λ (p : ℕ × List ℕ). (getD l i 0 + 256 * p .0, p .1))) (number-short w (suc i) l (omega arith) (omega arith)))
     (λ e. ap (number (suc w)) (drop-of-length-le l {i = i} (ltb-false i (length l) e)))
 
 pub operands-at : (ws : List ℕ) (i : ℕ) (l : List ℕ) → i + totalOf ws ≤ length l → operands ws (drop i l) ≡ some (numbersAt ws l i, drop (i + totalOf ws) l)
@@ -205,8 +201,4 @@ module _ (n : ℕ) (s : Loading) where
           let le = ltb-false (suc (length bs)) (widthOf b) q in
           let ec : commandBy b (b ∷ bs) ≡ c = cc in
           let ew : widthOf b ≡ w = cc in
-          found (commandBy b (b ∷ bs)) (widthOf b) ec ew (positive (widthOf b) nz) le (read-whole b bs nz le)
-        where
-          positive : (v : ℕ) → (v ≡ 0 → ⊥) → 0 < v
-          positive zero h = absurd (h refl)
-          positive (suc v) h = omega arith
+          found (commandBy b (b ∷ bs)) (widthOf b) ec ew (omega arith) le (read-whole b bs nz le)

@@ -1,5 +1,7 @@
 pub mod Reading
 pub mod ReadLaws
-pub mod StateLaws
+pub mod StoreLaws
+pub mod TakenLaws
+pub mod RoleStateLaws
 pub mod SettleLaws
 pub mod SizedLaws

@@ -3,7 +3,7 @@
 use Prim.Native.Nat.{ℕ, zero, suc, _≤_, _<_}
 use borrow.Author.Tests.{eqb-true, ltb-true, leb-true}
 use lib.Dec.{eqb, ltb, leb}
-use lib.ListN.{length, getD}
+use lib.ListN.{length}
 use mathlib.Core.Bool.{Bool, true, false, cond, _&&_, _||_, false≢true, not}
 use mathlib.Core.List.{List, [], _∷_, _++_}
 use mathlib.Core.Logic.{_⊎_, inl, inr}
@@ -11,50 +11,39 @@ use mathlib.Core.Option.{some}
 use mathlib.Core.Path.{_≡_, refl, sym, ap, ap₂, _∙_, subst}
 use native.Mathlib.Omega.{arith}
 use Rattle.role_admit.specs.AdmitLaws.{phaseCode, side-attributes}
+use Rattle.role_record.specs.Cells.{rowCells}
 use Rattle.role_record.specs.Record.{Sized, knownTable, valueTable, assignedTable, lineTable, permissionTable, attributeTable, kindTable, recordWith, recordSoFar, setKinds, setValues, setAssigned, setLines, setPermissions}
 use Rattle.role_commands.specs.DecodeLaws.{meaning}
 use Rattle.files.specs.Answer.{Answer, unless, andThen, outOfPlace, beyond, wrongKind, accepted}
 use Rattle.files.specs.BytesLaws.{Carries, unless-carries, then-carries}
 use Rattle.files.specs.LineLaws.{same-side}
-use Rattle.files.specs.RoleFile.{Phase, Loading, blank, sideBy, sameSide, withTable, withKind, withValue, withAssigned, withPermitted, withLine, isNothing, isDeclaring, enter, takeKind, takeValue, takeAssignment, takePermission, takeLine, takeSizes, obeyRole, nothing, declaring, telling}
+use Rattle.files.specs.RoleFile.{Phase, Loading, blank, sideBy, sameSide, withTable, withKind, withValue, withAssigned, withPermitted, withLine, isNothing, isDeclaring, enter, takeKind, takeValue, takeAssignment, takePermission, takeLine, takeSizes, obeyRole, nothing, declaring, telling, isEnd}
 use Rattle.files.specs.RuleFile.{value}
 use Rattle.role_record.specs.RecordLaws.{assigned-marked, line-marked, permission-marked, known-marked, value-stored, kind-marked, attribute-counted, kind-values}
 use Rattle.policy.specs.Policy.{Table, Policy, kindOf}
 use Rattle.policy.specs.Rules.{Which, by, user, resource}
-use Rattle.role_file.specs.Reading.{applied, phaseAfter}
+use Rattle.role_file.specs.Reading.{applied, phaseAfter, Bounded, storedBy}
+use Rattle.sets.specs.ListLaws.{length-last}
 use Rattle.sets.specs.Tests.{Is, iff, isSome}
-use Rattle.sets.specs.TestLaws.{and-l, and-r, or-out}
-use Rattle.role_record.specs.declared.RoleFile.{RoleFile}
+use Rattle.sets.specs.TestLaws.{and-l, and-r, or-out, and-three}
 use Rattle.role_commands.specs.declared.Command.{Command}
 use Rattle.role_commands.specs.declared.Command.the-variants.{Sizes, Declare, Give, Assign, Permit, Line, End}
 
 -- ---- what an obeyed command leaves
 
--- the operands of an admitted command lie within the record's tables
-unfoldable pub Bounded : RoleFile → Command → Type 0
-Bounded f (Sizes u r o k) = Unit {0}
-Bounded f (Declare side kind) = (side < 2) × (getD (f .attributes) side 0 < 6)
-Bounded f (Give kind side a x v) = (side < 2) × (a < 6) × (x < 64)
-Bounded f (Assign k u) = k < 32
-Bounded f (Permit k r o) = (k < 32) × (o < 16)
-Bounded f (Line j k) = j < 32
-Bounded f End = Unit {0}
-
 pub record After (L : Loading) (c : Command) (M : Loading) : Type 0 where
-  pub bounded : Bounded (recordSoFar (L .policy)) c
+  pub bounded : Bounded (recordSoFar (L .policy) .attributes) c
   pub shows : applied (recordSoFar (L .policy)) c ≡ recordSoFar (M .policy)
   pub sized : Sized (M .policy)
-  pub phased : phaseCode (M .phase) ≡ phaseAfter c
+  pub phased : isEnd (meaning c) ≡ false → phaseCode (M .phase) ≡ phaseAfter c
+  pub begun : M .phase ≡ nothing → ⊥
 
-entered : (L : Loading) (c : Command) (place : Bool) (ph : Phase) (r : Answer Policy) → phaseCode ph ≡ phaseAfter c
-    → (Is place → Carries (λ F. (Bounded (recordSoFar (L .policy)) c) × (applied (recordSoFar (L .policy)) c ≡ recordSoFar F) × Sized F) r) → Carries (After L c) (enter place ph r)
-entered L c place ph r e h =
+entered : (L : Loading) (c : Command) (place : Bool) (ph : Phase) (r : Answer Policy) → (isEnd (meaning c) ≡ false → phaseCode ph ≡ phaseAfter c) → (phaseCode ph ≡ 0 → ⊥)
+    → (Is place → Carries (λ F. (Bounded (recordSoFar (L .policy) .attributes) c) × (applied (recordSoFar (L .policy)) c ≡ recordSoFar F) × Sized F) r) → Carries (After L c) (enter place ph r)
+entered L c place ph r e b h =
     unless-carries (After L c) place outOfPlace (andThen r (λ F. accepted (record { phase = ph; policy = F }))) λ p.
-    then-carries (λ F. (Bounded (recordSoFar (L .policy)) c) × (applied (recordSoFar (L .policy)) c ≡ recordSoFar F) × Sized F) (After L c) r (λ F. accepted (record { phase = ph; policy = F })) (h p)
-    (λ F k. record { bounded = k .0; shows = k .1; sized = k .2; phased = e })
-
-three : (a b c : Bool) → Is (a && b && c) → Is a × Is b × Is c
-three a b c h = let p = and-l (a && b) c h in (and-l a b p, and-r a b p, and-r (a && b) c h)
+    then-carries (λ F. (Bounded (recordSoFar (L .policy) .attributes) c) × (applied (recordSoFar (L .policy)) c ≡ recordSoFar F) × Sized F) (After L c) r (λ F. accepted (record { phase = ph; policy = F })) (h p)
+    (λ F k. record { bounded = k .0; shows = k .1; sized = k .2; phased = e; begun = λ z. b (ap phaseCode z) })
 
 nothing-yet : (ph : Phase) → Is (isNothing ph) → ph ≡ nothing
 nothing-yet nothing h = refl
@@ -62,7 +51,7 @@ nothing-yet declaring h = absurd (false≢true h)
 nothing-yet telling h = absurd (false≢true h)
 
 blank-shows : (u r o k : ℕ) → applied (recordSoFar (blank 0 0 0 0)) (Sizes u r o k) ≡ recordSoFar (blank u r o k)
-unfolding applied recordSoFar recordWith attributeTable kindTable knownTable valueTable assignedTable lineTable permissionTable blank
+unfolding applied storedBy recordSoFar recordWith attributeTable kindTable knownTable valueTable assignedTable lineTable permissionTable blank
 blank-shows u r o k = refl
 
 pub blank-sized : (u r o k : ℕ) → u ≤ 64 → r ≤ 64 → o ≤ 16 → k ≤ 32 → Sized (blank u r o k)
@@ -125,60 +114,56 @@ line-else F j s = refl
 
 module _ (F : Policy) where
   declare-shows : (side kind : ℕ) → side < 2 → applied (recordSoFar F) (Declare side kind) ≡ recordSoFar (withKind F (sideBy side) (eqb kind 1))
-  unfolding applied recordSoFar recordWith
+  unfolding applied storedBy recordSoFar recordWith
   declare-shows side kind h =
       ap₂ (λ (a k : List ℕ). setKinds (recordSoFar F) a k) (attribute-counted F side (eqb kind 1) h) (kind-marked F side (eqb kind 1) h)
       ∙ ap₂ (λ (k v : List ℕ). setValues (setKinds (recordSoFar F) (attributeTable (withKind F (sideBy side) (eqb kind 1))) (kindTable (withKind F (sideBy side) (eqb kind 1)))) k v) (sym (kind-values F side (eqb kind 1) .0)) (sym (kind-values F side (eqb kind 1) .1))
       ∙ declared-else F side (eqb kind 1) h
 
   give-shows : (kind : Bool) (side a x v : ℕ) → side < 2 → a < 6 → x < 64 → applied (recordSoFar F) (Give kind side a x v) ≡ recordSoFar (withValue F (sideBy side) a x v)
-  unfolding applied recordSoFar recordWith
+  unfolding applied storedBy recordSoFar recordWith
   give-shows kind side a x v hs ha hx =
       ap₂ (λ (k w : List ℕ). setValues (recordSoFar F) k w) (known-marked F side a x v hs ha) (value-stored F side a x v hs ha hx) ∙ given-else F side a x v hs
 
   assign-shows : (k u : ℕ) → k < 32 → applied (recordSoFar F) (Assign k u) ≡ recordSoFar (withAssigned F k u)
-  unfolding applied recordSoFar recordWith
+  unfolding applied storedBy recordSoFar recordWith
   assign-shows k u h = ap (λ (l : List ℕ). setAssigned (recordSoFar F) l) (assigned-marked F k u h) ∙ assigned-else F k u
 
-  permit-shows : (k r o : ℕ) → k < 32 → o < 16 → applied (recordSoFar F) (Permit k r o) ≡ recordSoFar (withPermitted F k r o)
-  unfolding applied recordSoFar recordWith
+  permit-shows : (k r o : ℕ) → k < 32 → o < rowCells → applied (recordSoFar F) (Permit k r o) ≡ recordSoFar (withPermitted F k r o)
+  unfolding applied storedBy recordSoFar recordWith
   permit-shows k r o h l = ap (λ (t : List ℕ). setPermissions (recordSoFar F) t) (permission-marked F k r o h l) ∙ permitted-else F k r o
 
   line-shows : (j s : ℕ) → j < 32 → applied (recordSoFar F) (Line j s) ≡ recordSoFar (withLine F j s)
-  unfolding applied recordSoFar recordWith
+  unfolding applied storedBy recordSoFar recordWith
   line-shows j s h = ap (λ (l : List ℕ). setLines (recordSoFar F) l) (line-marked F j s h) ∙ line-else F j s
 
 -- what a command leaves of the policy F
 abbrev Leaves : Policy → Command → Policy → Type 0
-Leaves F c G = (Bounded (recordSoFar F) c) × (applied (recordSoFar F) c ≡ recordSoFar G) × Sized G
+Leaves F c G = (Bounded (recordSoFar F .attributes) c) × (applied (recordSoFar F) c ≡ recordSoFar G) × Sized G
 
 sizes-leave : (F : Policy) → F ≡ blank 0 0 0 0 → (u r o k : ℕ) → Carries (Leaves F (Sizes u r o k)) (takeSizes 2 u r o k)
 unfolding takeSizes Bounded
 sizes-leave F e u r o k =
     unless-carries (Leaves F (Sizes u r o k)) (leb u 64 && leb r 64 && leb o 16 && leb k 32) beyond (accepted (blank u r o k)) λ q.
-    let a = three (leb u 64) (leb r 64) (leb o 16) (and-l (leb u 64 && leb r 64 && leb o 16) (leb k 32) q) in
+    let a = and-three (leb u 64) (leb r 64) (leb o 16) (and-l (leb u 64 && leb r 64 && leb o 16) (leb k 32) q) in
     (tt, ap (λ (G : Policy). applied (recordSoFar G) (Sizes u r o k)) e ∙ blank-shows u r o k, blank-sized u r o k (leb-true u 64 (a .0)) (leb-true r 64 (a .1)) (leb-true o 16 (a .2)) (leb-true k 32 (and-r (leb u 64 && leb r 64 && leb o 16) (leb k 32) q)))
-
-length-one : (l : List Bool) (k : Bool) → length (l ++ (k ∷ [])) ≡ suc (length l)
-length-one [] k = refl
-length-one (x ∷ xs) k = ap suc (length-one xs k)
 
 module _ (F : Policy) (Z : Sized F) where
   kind-leaves : (side kind : ℕ) → Carries (Leaves F (Declare side kind)) (takeKind F side kind)
   unfolding takeKind Bounded recordSoFar recordWith withKind
   kind-leaves side kind =
       unless-carries (Leaves F (Declare side kind)) (ltb side 2 && ltb kind 2 && ltb (length (F .table (sideBy side) .kinds)) 6) beyond (accepted (withKind F (sideBy side) (eqb kind 1))) λ q.
-      let a = three (ltb side 2) (ltb kind 2) (ltb (length (F .table (sideBy side) .kinds)) 6) q in
+      let a = and-three (ltb side 2) (ltb kind 2) (ltb (length (F .table (sideBy side) .kinds)) 6) q in
       let h = ltb-true side 2 (a .0) in
       let n = ltb-true (length (F .table (sideBy side) .kinds)) 6 (a .2) in
-      ((h, subst (λ (x : ℕ). x < 6) (sym (side-attributes F side h)) n), declare-shows F side kind h, table-sized F (sideBy side) (record { count = F .table (sideBy side) .count; kinds = F .table (sideBy side) .kinds ++ (eqb kind 1 ∷ []); value = F .table (sideBy side) .value }) Z refl (let e = length-one (F .table (sideBy side) .kinds) (eqb kind 1) in omega arith))
+      ((h, subst (λ (x : ℕ). x < 6) (sym (side-attributes F side h)) n), declare-shows F side kind h, table-sized F (sideBy side) (record { count = F .table (sideBy side) .count; kinds = F .table (sideBy side) .kinds ++ (eqb kind 1 ∷ []); value = F .table (sideBy side) .value }) Z refl (let e = length-last (F .table (sideBy side) .kinds) (eqb kind 1) in omega arith))
 
   value-leaves : (kind : Bool) (side a x v : ℕ) → Carries (Leaves F (Give kind side a x v)) (takeValue F kind side a x v)
   unfolding takeValue Bounded withValue
   value-leaves kind side a x v =
       unless-carries (Leaves F (Give kind side a x v)) (ltb side 2 && ltb a (length (F .table (sideBy side) .kinds)) && ltb x (F .table (sideBy side) .count)) beyond (unless (iff (kindOf (F .table (sideBy side)) a) kind && not (isSome (F .table (sideBy side) .value a x))) wrongKind (accepted (withValue F (sideBy side) a x v))) λ p.
       unless-carries (Leaves F (Give kind side a x v)) (iff (kindOf (F .table (sideBy side)) a) kind && not (isSome (F .table (sideBy side) .value a x))) wrongKind (accepted (withValue F (sideBy side) a x v)) λ q.
-      let k = three (ltb side 2) (ltb a (length (F .table (sideBy side) .kinds))) (ltb x (F .table (sideBy side) .count)) p in
+      let k = and-three (ltb side 2) (ltb a (length (F .table (sideBy side) .kinds))) (ltb x (F .table (sideBy side) .count)) p in
       let hs = ltb-true side 2 (k .0) in
       let la = ltb-true a (length (F .table (sideBy side) .kinds)) (k .1) in
       let lx = ltb-true x (F .table (sideBy side) .count) (k .2) in
@@ -209,13 +194,13 @@ module _ (F : Policy) (Z : Sized F) where
   unfolding takePermission Bounded withPermitted
   permission-leaves k r o =
       unless-carries (Leaves F (Permit k r o)) (ltb k (F .roles) && ltb r (F .table resource .count) && ltb o (F .operations)) beyond (accepted (withPermitted F k r o)) λ p.
-      let a = three (ltb k (F .roles)) (ltb r (F .table resource .count)) (ltb o (F .operations)) p in
+      let a = and-three (ltb k (F .roles)) (ltb r (F .table resource .count)) (ltb o (F .operations)) p in
       let n = Z .few in
       let m = Z .operable in
       let lk = ltb-true k (F .roles) (a .0) in
       let lo = ltb-true o (F .operations) (a .2) in
       let hk : k < 32 = omega arith in
-      let ho : o < 16 = omega arith in
+      let ho : o < rowCells = omega arith in
       ((hk, ho), permit-shows F k r o hk ho, record { many = Z .many; declared = Z .declared; operable = Z .operable; few = Z .few; lined = Z .lined; assigned-to = Z .assigned-to; permits = more k r o lk (ltb-true r (F .table resource .count) (a .1)) lo })
     where
       more : (k r o : ℕ) → k < F .roles → r < F .table resource .count → o < F .operations → (j q v : ℕ) → Is ((eqb j k && (eqb q r && eqb v o)) || F .permitted j q v) → (j < F .roles) × (q < F .table resource .count) × (v < F .operations)
@@ -249,11 +234,11 @@ module _ (F : Policy) (Z : Sized F) where
 
 -- an obeyed command: its operands, the record after it, the phase
 pub obeyed : (L : Loading) (c : Command) → Sized (L .policy) → (L .phase ≡ nothing → L .policy ≡ blank 0 0 0 0) → Carries (After L c) (obeyRole 2 L (meaning c))
-unfolding obeyRole Bounded applied
-obeyed L (Sizes u r o k) Z f = entered L (Sizes u r o k) (isNothing (L .phase)) declaring (takeSizes 2 u r o k) refl (λ p. sizes-leave (L .policy) (f (nothing-yet (L .phase) p)) u r o k)
-obeyed L (Declare side kind) Z f = entered L (Declare side kind) (isDeclaring (L .phase)) declaring (takeKind (L .policy) side kind) refl (λ p. kind-leaves (L .policy) Z side kind)
-obeyed L (Give kind side a x v) Z f = entered L (Give kind side a x v) (not (isNothing (L .phase))) telling (takeValue (L .policy) kind side a x v) refl (λ p. value-leaves (L .policy) Z kind side a x v)
-obeyed L (Assign k u) Z f = entered L (Assign k u) (not (isNothing (L .phase))) telling (takeAssignment (L .policy) k u) refl (λ p. assignment-leaves (L .policy) Z k u)
-obeyed L (Permit k r o) Z f = entered L (Permit k r o) (not (isNothing (L .phase))) telling (takePermission (L .policy) k r o) refl (λ p. permission-leaves (L .policy) Z k r o)
-obeyed L (Line j s) Z f = entered L (Line j s) (not (isNothing (L .phase))) telling (takeLine (L .policy) j s) refl (λ p. line-leaves (L .policy) Z j s)
-obeyed L End Z f = entered L End (not (isNothing (L .phase))) telling (accepted (L .policy)) refl (λ p. (tt, refl, Z))
+unfolding obeyRole Bounded applied recordSoFar storedBy
+obeyed L (Sizes u r o k) Z f = entered L (Sizes u r o k) (isNothing (L .phase)) declaring (takeSizes 2 u r o k) (λ q. refl) (λ z. omega arith) (λ p. sizes-leave (L .policy) (f (nothing-yet (L .phase) p)) u r o k)
+obeyed L (Declare side kind) Z f = entered L (Declare side kind) (isDeclaring (L .phase)) declaring (takeKind (L .policy) side kind) (λ q. refl) (λ z. omega arith) (λ p. kind-leaves (L .policy) Z side kind)
+obeyed L (Give kind side a x v) Z f = entered L (Give kind side a x v) (not (isNothing (L .phase))) telling (takeValue (L .policy) kind side a x v) (λ q. refl) (λ z. omega arith) (λ p. value-leaves (L .policy) Z kind side a x v)
+obeyed L (Assign k u) Z f = entered L (Assign k u) (not (isNothing (L .phase))) telling (takeAssignment (L .policy) k u) (λ q. refl) (λ z. omega arith) (λ p. assignment-leaves (L .policy) Z k u)
+obeyed L (Permit k r o) Z f = entered L (Permit k r o) (not (isNothing (L .phase))) telling (takePermission (L .policy) k r o) (λ q. refl) (λ z. omega arith) (λ p. permission-leaves (L .policy) Z k r o)
+obeyed L (Line j s) Z f = entered L (Line j s) (not (isNothing (L .phase))) telling (takeLine (L .policy) j s) (λ q. refl) (λ z. omega arith) (λ p. line-leaves (L .policy) Z j s)
+obeyed L End Z f = entered L End (not (isNothing (L .phase))) telling (accepted (L .policy)) (λ q. absurd (false≢true (sym q))) (λ z. omega arith) (λ p. (tt, refl, Z))

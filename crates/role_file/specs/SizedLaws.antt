@@ -7,17 +7,17 @@ use mathlib.Core.Bool.{not, false}
 use mathlib.Core.List.{List}
 use mathlib.Core.Path.{_≡_, refl, sym, ap, _∙_, subst}
 use native.Mathlib.Omega.{arith}
-use Rattle.role_admit.specs.AdmitLaws.{phaseCode}
-use Rattle.role_record.specs.Record.{Sized}
+use Rattle.role_record.specs.Record.{Sized, recordOf}
 use Rattle.role_commands.specs.DecodeLaws.{meaning}
 use Rattle.files.specs.Answer.{Answer, andThen, tooLong, ownSenior, refused, accepted}
 use Rattle.files.specs.Bytes.{readOn, read}
-use Rattle.files.specs.BytesLaws.{Carries, unless-carries, then-carries, read-carries}
+use Rattle.files.specs.BytesLaws.{Carries, unless-carries, then-carries, read-carries, number-positive}
 use Rattle.files.specs.RoleFile.{RoleCommand, Loading, blank, fresh, settle, obeyRole, roleFormat, readRoles, sizes, declare, give, assign, permit, line, end, nothing}
-use Rattle.policy.specs.Policy.{circular}
+use Rattle.policy.specs.Policy.{circular, Policy}
 use Rattle.role_file.specs.ReadLaws.{After, blank-sized, obeyed}
-use Rattle.role_file.specs.Reading.{phaseAfter}
+use Rattle.role_file.specs.Reading.{refusal, loadedOf}
 use Rattle.role_commands.specs.declared.Command.{Command}
+use Rattle.role_file.specs.declared.Loaded.{Loaded}
 use Rattle.role_commands.specs.declared.Command.the-variants.{Sizes, Declare, Give, Assign, Permit, Line, End}
 
 -- every command of the definitions is one of the code
@@ -44,21 +44,12 @@ record Kept (L : Loading) : Type 0 where
   sized : Sized (L .policy)
   unread : L .phase ≡ nothing → L .policy ≡ blank 0 0 0 0
 
-started : (c : Command) → phaseAfter c ≡ 0 → ⊥
-started (Sizes u r o k) z = omega arith
-started (Declare side kind) z = omega arith
-started (Give kind side a x v) z = omega arith
-started (Assign k u) z = omega arith
-started (Permit k r o) z = omega arith
-started (Line j k) z = omega arith
-started End z = omega arith
-
 kept : (L : Loading) (c : RoleCommand) → Kept L → Carries Kept (obeyRole 2 L c)
 kept L c K = go (obeyRole 2 L c) (subst (λ (d : RoleCommand). Carries (After L (codeFor c)) (obeyRole 2 L d)) (same-command c) (obeyed L (codeFor c) (K .sized) (K .unread)))
   where
     go : (r : Answer Loading) → Carries (After L (codeFor c)) r → Carries Kept r
     go (refused e) a = tt
-    go (accepted M) a = record { sized = a .sized; unread = λ y. absurd (started (codeFor c) (sym (a .phased) ∙ ap phaseCode y)) }
+    go (accepted M) a = record { sized = a .sized; unread = λ y. absurd (a .begun y) }
 
 -- reading keeps what every command keeps
 read-kept : (n : ℕ) (L : Loading) (bs : List ℕ) → Kept L → Carries Kept (readOn (roleFormat 2) n false L bs)
@@ -75,3 +66,12 @@ accepted-sized bytes =
   where
     begun : Kept fresh
     begun = record { sized = blank-sized 0 0 0 0 (omega arith) (omega arith) (omega arith) (omega arith); unread = λ e. refl }
+
+-- a role file that was read: its policy, and the record of it
+pub loaded-policy : (file : List ℕ) (l : Loaded) → l ≡ loadedOf (readRoles 2 file) → l .code ≡ 0 → (F : Policy) × Sized F × (readRoles 2 file ≡ accepted F) × (l .file ≡ recordOf F)
+unfolding loadedOf refusal
+loaded-policy file l e h = go (readRoles 2 file) refl (accepted-sized file) e
+  where
+    go : (r : Answer Policy) → readRoles 2 file ≡ r → Carries Sized r → l ≡ loadedOf r → (F : Policy) × Sized F × (readRoles 2 file ≡ accepted F) × (l .file ≡ recordOf F)
+    go (refused d) q z p = absurd (number-positive d (ap (λ (m : Loaded). m .code) (sym p) ∙ h))
+    go (accepted F) q z p = (F, z, q, ap (λ (m : Loaded). m .file) p)

@@ -1,10 +1,11 @@
 // The role question: whether the roles of a role file grant a user an operation on a resource.
 ghost use mathlib.Core.Path.{_≡_};
 ghost use mathlib.Core.Bool.{_&&_};
-ghost use Prim.Native.Nat.{_+_, _*_, _≤_, _<_};
+ghost use Prim.Native.Nat.{_≤_, _<_};
 ghost use lib.ListN.{getD};
 ghost use Rattle.files.specs.Answer.{told};
 ghost use Rattle.files.specs.Calls.{yesNo, roleQuestion};
+ghost use Rattle.role_record.specs.Cells.{rowCells, cellAt};
 ghost use Rattle.sets.specs.Sets.{bit};
 ghost use Rattle.sets.specs.Tests.{any, upTo};
 ghost use Rattle.role_question.specs.Reply.{replyNumbers};
@@ -38,13 +39,13 @@ fn granted<'a>(
     resource: usize,
     operation: usize,
 ) -> bool
-    requires { ⌜ (roles ≤ 32) × (operation < 16) ⌝ }
+    requires { ⌜ (roles ≤ 32) × (operation < rowCells) ⌝ }
     ensures { λ r. ⌜
         r
         ≡ any
         (λ k.
         bit (getD (now (holders .entry)) k 0) user
-        && bit (getD (now (permissions .entry)) (16 * k + operation) 0) resource)
+        && bit (getD (now (permissions .entry)) (cellAt k operation) 0) resource)
         (upTo roles) ⌝ }
 {
     for k in 0..roles {

@@ -1,2 +1,5 @@
+pub mod Cells
+pub mod CellsLaws
 pub mod Record
+pub mod Places
 pub mod RecordLaws

@@ -1,20 +1,22 @@
 -- How each command changes the record's tables.
 -- Assumes nothing.
 use Prim.Native.Nat.{ℕ, zero, suc, _+_, _*_, _/_, _%_, _≤_, _<_}
-use borrow.Author.Tests.{eqb-true, eqb-false, eq-eqb, ne-eqb, ltb-true, ltb-false}
+use borrow.Author.Tests.{eqb-true, eqb-false, eq-eqb, ne-eqb, ltb-true, ltb-false, lt-ltb, le-ltb}
 use lib.Dec.{eqb, ltb}
-use lib.ListN.{length, getD, set, replicate, List·getD-eq-default}
-use mathlib.Core.Bool.{Bool, true, false, cond, _&&_, _||_, or-comm, and-false}
+use lib.ListN.{length, getD, set, replicate, List·getD-eq-default, length-append}
+use mathlib.Core.Bool.{Bool, true, false, cond, _&&_, _||_, or-comm, and-false, and-true, and-assoc}
 use mathlib.Core.List.{List, [], _∷_, _++_, map}
 use mathlib.Core.Option.{Option, some}
 use mathlib.Core.Path.{_≡_, refl, sym, ap, ap₂, _∙_, subst}
 use native.Mathlib.Omega.{arith}
 use Rattle.files.specs.RoleFile.{sideBy, sameSide, withTable, withKind, withValue, withAssigned, withPermitted, withLine}
-use Rattle.role_record.specs.Record.{tableOf, columnSide, numberOr, marked, markedIf, knownTable, valueTable, assignedTable, lineTable, permissionTable, attributeTable, kindTable}
-use Rattle.policy.specs.Policy.{Table, Policy, kindOf, one}
+use Rattle.role_record.specs.Cells.{rowCells, cellAt, cellRow, cellOperation, roleCells}
+use Rattle.role_record.specs.CellsLaws.{cell-same}
+use Rattle.role_record.specs.Record.{tableOf, columnSide, numberOr, marked, markedIf, knownTable, valueTable, assignedTable, lineTable, permissionTable, attributeTable, kindTable, Sized}
+use Rattle.policy.specs.Policy.{Table, Policy, kindOf, one, settingOf, sideOf}
 use Rattle.policy.specs.Rules.{Which, user, resource}
 use Rattle.sets.specs.LoopLaws.{table-long, table-at, table-same}
-use Rattle.sets.specs.MaskLaws.{and-true, bit-maskOf, mask-same}
+use Rattle.sets.specs.MaskLaws.{bit-maskOf, mask-same}
 use Rattle.sets.specs.Sets.{bit, maskOf}
 use Rattle.sets.specs.SetLaws.{bit-none, bit-mask}
 use Rattle.sets.specs.Tests.{Is, from, isSome}
@@ -105,19 +107,13 @@ module _ (F : Policy) where
   unfolding lineTable withLine
   line-marked j s h = table-mark 32 (F .line) j s h
 
-  place-permission : (i k o : ℕ) → o < 16 → eqb i (16 * k + o) ≡ (eqb (i / 16) k && eqb (i % 16) o)
-  place-permission i k o h =
-      same (eqb i (16 * k + o)) (eqb (i / 16) k && eqb (i % 16) o)
-      (λ e. let d = eqb-true i (16 * k + o) e in and-in (eq-eqb (i / 16) k (omega arith)) (eq-eqb (i % 16) o (omega arith)))
-      (λ e. let a = eqb-true (i / 16) k (and-l (eqb (i / 16) k) (eqb (i % 16) o) e) in let b = eqb-true (i % 16) o (and-r (eqb (i / 16) k) (eqb (i % 16) o) e) in eq-eqb i (16 * k + o) (omega arith))
-
-  pub permission-marked : (k r o : ℕ) → k < 32 → o < 16 → set (permissionTable F) (16 * k + o) (marked (getD (permissionTable F) (16 * k + o) 0) r) ≡ permissionTable (withPermitted F k r o)
+  pub permission-marked : (k r o : ℕ) → k < 32 → o < rowCells → set (permissionTable F) (cellAt k o) (marked (getD (permissionTable F) (cellAt k o) 0) r) ≡ permissionTable (withPermitted F k r o)
   unfolding permissionTable withPermitted
   permission-marked k r o hk ho =
-      table-mark 512 (λ i q. F .permitted (i / 16) q (i % 16)) (16 * k + o) r (omega arith)
-      ∙ table-ext 512 (λ i. maskOf 64 (λ v. (eqb i (16 * k + o) && eqb v r) || F .permitted (i / 16) v (i % 16))) (λ i. maskOf 64 (λ q. (eqb (i / 16) k && (eqb q r && eqb (i % 16) o)) || F .permitted (i / 16) q (i % 16)))
-      (λ i l. mask-same 64 (λ v. (eqb i (16 * k + o) && eqb v r) || F .permitted (i / 16) v (i % 16)) (λ q. (eqb (i / 16) k && (eqb q r && eqb (i % 16) o)) || F .permitted (i / 16) q (i % 16))
-      (λ q m. ap (λ (b : Bool). b || F .permitted (i / 16) q (i % 16)) (ap (λ (b : Bool). b && eqb q r) (place-permission i k o ho) ∙ shuffled (eqb (i / 16) k) (eqb (i % 16) o) (eqb q r))))
+      table-mark roleCells (λ i q. F .permitted (cellRow i) q (cellOperation i)) (cellAt k o) r (omega arith)
+      ∙ table-ext roleCells (λ i. maskOf 64 (λ v. (eqb i (cellAt k o) && eqb v r) || F .permitted (cellRow i) v (cellOperation i))) (λ i. maskOf 64 (λ q. (eqb (cellRow i) k && (eqb q r && eqb (cellOperation i) o)) || F .permitted (cellRow i) q (cellOperation i)))
+      (λ i l. mask-same 64 (λ v. (eqb i (cellAt k o) && eqb v r) || F .permitted (cellRow i) v (cellOperation i)) (λ q. (eqb (cellRow i) k && (eqb q r && eqb (cellOperation i) o)) || F .permitted (cellRow i) q (cellOperation i))
+      (λ q m. ap (λ (b : Bool). b || F .permitted (cellRow i) q (cellOperation i)) (ap (λ (b : Bool). b && eqb q r) (cell-same i k o ho) ∙ shuffled (eqb (cellRow i) k) (eqb (cellOperation i) o) (eqb q r))))
     where
       shuffled : (a b c : Bool) → (a && b && c) ≡ (a && (c && b))
       shuffled true true true = refl
@@ -162,10 +158,6 @@ module _ (F : Policy) where
   number-cond true v o = refl
   number-cond false v o = refl
 
-  and-assoc-three : (a b c : Bool) → (a && (b && c)) ≡ (a && b && c)
-  and-assoc-three true b c = refl
-  and-assoc-three false b c = refl
-
   pub known-marked : (side a x v : ℕ) → side < 2 → a < 6 → set (knownTable F) (6 * side + a) (marked (getD (knownTable F) (6 * side + a) 0) x) ≡ knownTable (withValue F (sideBy side) a x v)
   unfolding knownTable
   known-marked side a x v hs ha =
@@ -173,7 +165,7 @@ module _ (F : Policy) where
       ∙ table-ext 12 (λ s. maskOf 64 (λ y. (eqb s (6 * side + a) && eqb y x) || isSome (F .table (columnSide s) .value (s % 6) y))) (λ s. maskOf 64 (λ y. isSome (withValue F (sideBy side) a x v .table (columnSide s) .value (s % 6) y)))
       (λ s l. mask-same 64 (λ y. (eqb s (6 * side + a) && eqb y x) || isSome (F .table (columnSide s) .value (s % 6) y)) (λ y. isSome (withValue F (sideBy side) a x v .table (columnSide s) .value (s % 6) y))
       (λ y m. ap (λ (b : Bool). (b && eqb y x) || isSome (F .table (columnSide s) .value (s % 6) y)) (column-of s side a l hs ha)
-      ∙ ap (λ (b : Bool). b || isSome (F .table (columnSide s) .value (s % 6) y)) (sym (and-assoc-three (sameSide (columnSide s) (sideBy side)) (eqb (s % 6) a) (eqb y x)))
+      ∙ ap (λ (b : Bool). b || isSome (F .table (columnSide s) .value (s % 6) y)) (and-assoc (sameSide (columnSide s) (sideBy side)) (eqb (s % 6) a) (eqb y x))
       ∙ sym (ap isSome (value-given (columnSide s) (sideBy side) (s % 6) y a x v) ∙ some-cond (sameSide (columnSide s) (sideBy side) && (eqb (s % 6) a && eqb y x)) v (F .table (columnSide s) .value (s % 6) y))))
 
   pub value-stored : (side a x v : ℕ) → side < 2 → a < 6 → x < 64 → set (valueTable F) (64 * (6 * side + a) + x) v ≡ valueTable (withValue F (sideBy side) a x v)
@@ -187,7 +179,7 @@ module _ (F : Policy) where
       before i = numberOr (F .table (columnSide (i / 64)) .value (i / 64 % 6) (i % 64))
 
       at-column : (i : ℕ) → i < 768 → (sameSide (columnSide (i / 64)) (sideBy side) && (eqb (i / 64 % 6) a && eqb (i % 64) x)) ≡ (eqb (i / 64) (6 * side + a) && eqb (i % 64) x)
-      at-column i l = and-assoc-three (sameSide (columnSide (i / 64)) (sideBy side)) (eqb (i / 64 % 6) a) (eqb (i % 64) x) ∙ ap (λ (b : Bool). b && eqb (i % 64) x) (sym (column-of (i / 64) side a (omega arith) hs ha))
+      at-column i l = sym (and-assoc (sameSide (columnSide (i / 64)) (sideBy side)) (eqb (i / 64 % 6) a) (eqb (i % 64) x)) ∙ ap (λ (b : Bool). b && eqb (i % 64) x) (sym (column-of (i / 64) side a (omega arith) hs ha))
 
       after : (i : ℕ) → i < 768 → numberOr (withValue F (sideBy side) a x v .table (columnSide (i / 64)) .value (i / 64 % 6) (i % 64)) ≡ cond (eqb (i / 64) (6 * side + a) && eqb (i % 64) x) v (before i)
       after i l =
@@ -205,10 +197,6 @@ module _ (F : Policy) where
           d (omega arith)
 
   -- ---- one attribute more
-
-  length-more : (l : List Bool) (k : Bool) → length (l ++ (k ∷ [])) ≡ length l + 1
-  length-more [] k = refl
-  length-more (x ∷ xs) k = let e = length-more xs k in omega arith
 
   -- the kind of the attribute declared last, and those before it
   kind-more : (l : List Bool) (k : Bool) (a : ℕ) → getD (l ++ (k ∷ [])) a false ≡ ((eqb a (length l) && k) || getD l a false)
@@ -229,8 +217,8 @@ module _ (F : Policy) where
 
   pub attribute-counted : (side : ℕ) (k : Bool) → side < 2 → set (attributeTable F) side (getD (attributeTable F) side 0 + 1) ≡ attributeTable (withKind F (sideBy side) k)
   unfolding attributeTable withKind withTable
-  attribute-counted zero k h = ap (λ (n : ℕ). n ∷ length (F .table resource .kinds) ∷ []) (sym (length-more (F .table user .kinds) k))
-  attribute-counted (suc zero) k h = ap (λ (n : ℕ). length (F .table user .kinds) ∷ n ∷ []) (sym (length-more (F .table resource .kinds) k))
+  attribute-counted zero k h = ap (λ (n : ℕ). n ∷ length (F .table resource .kinds) ∷ []) (sym (length-append (F .table user .kinds) (k ∷ [])))
+  attribute-counted (suc zero) k h = ap (λ (n : ℕ). length (F .table user .kinds) ∷ n ∷ []) (sym (length-append (F .table resource .kinds) (k ∷ [])))
   attribute-counted (suc (suc n)) k h = absurd (omega arith)
 
   -- declaring an attribute changes no value
@@ -248,3 +236,29 @@ module _ (F : Policy) where
       value-kept user resource = refl
       value-kept resource user = refl
       value-kept resource resource = refl
+
+-- ---- what the tables show
+
+-- the side of a column
+pub column-side : (side a : ℕ) → side < 2 → a < 6 → columnSide (6 * side + a) ≡ sideBy side
+column-side zero a h ha = rw (lt-ltb (6 * 0 + a) 6 (omega arith)) refl
+column-side (suc zero) a h ha = rw (le-ltb (6 * 1 + a) 6 (omega arith)) refl
+column-side (suc (suc n)) a h ha = absurd (omega arith)
+
+module _ (F : Policy) where
+  -- a value
+  pub value-shown : (side a x : ℕ) → side < 2 → a < 6 → x < 64 → getD (valueTable F) (64 * (6 * side + a) + x) 0 ≡ numberOr (F .table (sideBy side) .value a x)
+  unfolding valueTable
+  value-shown side a x hs ha hx =
+      table-get 768 (λ i. numberOr (F .table (columnSide (i / 64)) .value (i / 64 % 6) (i % 64))) (64 * (6 * side + a) + x) (omega arith)
+      ∙ ap₂ (λ (s y : ℕ). numberOr (F .table (columnSide s) .value (s % 6) y)) (let e : (64 * (6 * side + a) + x) / 64 ≡ 6 * side + a = omega arith in e) (let e : (64 * (6 * side + a) + x) % 64 ≡ x = omega arith in e)
+      ∙ ap₂ (λ (w : Which) (b : ℕ). numberOr (F .table w .value b x)) (column-side side a hs ha) (let e : (6 * side + a) % 6 ≡ a = omega arith in e)
+
+  -- how many there are of what an accepted policy has two of
+  pub side-room : Sized F → (w : Which) → settingOf F .side w .count ≤ 64
+  unfolding settingOf sideOf
+  side-room Z w = Z .many w
+
+  pub attributes-room : Sized F → (w : Which) → settingOf F .side w .attrs ≤ 6
+  unfolding settingOf sideOf
+  attributes-room Z w = Z .declared w

@@ -4,7 +4,7 @@ ghost use lib.Dec.{eqb};
 ghost use lib.ListN.{getD};
 ghost use mathlib.Core.Path.{_≡_};
 ghost use Prim.Native.Nat.{_+_, _*_, _<_};
-ghost use Rattle.sets.specs.Sets.{bit, subset, maskOf};
+ghost use Rattle.sets.specs.Sets.{subset, maskOf};
 use role_record::RoleFile;
 use role_record::Values;
 
@@ -20,36 +20,6 @@ pub fn containing(values: &Values, column: usize, v: u64) -> u64
     for x in 0..RoleFile::MEMBERS {
         m = m << 1;
         if sets::within(v, values[RoleFile::MEMBERS * column + (LAST - x)]) {
-            m = m | 1;
-        }
-    }
-    m
-}
-
-// Whose values are contained in a set.
-pub fn contained(values: &Values, column: usize, v: u64) -> u64
-    requires { ⌜ column < 12 ⌝ }
-    ensures { λ m. ⌜ m ≡ maskOf 64 (λ x. subset (getD (now (values .entry)) (64 * column + x) 0) v) ⌝ }
-{
-    let mut m: u64 = 0;
-    for x in 0..RoleFile::MEMBERS {
-        m = m << 1;
-        if sets::within(values[RoleFile::MEMBERS * column + (LAST - x)], v) {
-            m = m | 1;
-        }
-    }
-    m
-}
-
-// Whose values are numbers in a set.
-pub fn elements(values: &Values, column: usize, v: u64) -> u64
-    requires { ⌜ column < 12 ⌝ }
-    ensures { λ m. ⌜ m ≡ maskOf 64 (λ x. bit v (getD (now (values .entry)) (64 * column + x) 0)) ⌝ }
-{
-    let mut m: u64 = 0;
-    for x in 0..RoleFile::MEMBERS {
-        m = m << 1;
-        if sets::has(v, values[RoleFile::MEMBERS * column + (LAST - x)] as usize) {
             m = m | 1;
         }
     }

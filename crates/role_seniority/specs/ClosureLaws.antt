@@ -2,7 +2,7 @@
 -- Assumes nothing.
 use Prim.Native.Nat.{ℕ, zero, suc, _+_, _^_, _≤_, _<_}
 use lib.ListN.{length, getD}
-use mathlib.Core.Bool.{Bool, true, false, _&&_, _||_}
+use mathlib.Core.Bool.{Bool, true, false, _&&_, _||_, or-false}
 use mathlib.Core.List.{List}
 use mathlib.Core.Path.{_≡_, sym, ap, ap₂, _∙_}
 use native.Mathlib.Numerals.{add-one}
@@ -10,7 +10,7 @@ use native.Mathlib.Omega.{arith}
 use Rattle.policy.specs.Policy.{Policy, reach, senior, circular, held}
 use Rattle.role_seniority.specs.Closure.{among, closed, passedBy, passed, heldBy, heldTable}
 use Rattle.sets.specs.LoopLaws.{table-long, table-at, table-unique, table-same}
-use Rattle.sets.specs.MaskLaws.{or-false, mask-unique, mask-same, mask-bits}
+use Rattle.sets.specs.MaskLaws.{mask-unique, mask-same, mask-bits}
 use Rattle.sets.specs.Sets.{bit, maskOf}
 use Rattle.sets.specs.SetLaws.{bit-mask}
 use Rattle.sets.specs.Tests.{any, upTo}

@@ -1,3 +1,3 @@
 pub mod Raw
 pub mod RawLaws
-pub mod OrderLaws
+pub mod CommandOrderLaws

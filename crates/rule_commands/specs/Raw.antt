@@ -1,21 +1,21 @@
 -- The next command of a rule file as numbers, and what the numbers and the code's commands stand for. 01, section "The rule file".
 -- Assumes nothing.
-use Prim.Native.Nat.{ℕ, suc, _≤_}
+use Prim.Native.Nat.{ℕ, suc, _≤_, _<_}
 use lib.Dec.{eqb, ltb}
 use lib.ListN.{length, getD}
-use mathlib.Core.Bool.{Bool, true, false, cond, _&&_, _||_}
+use mathlib.Core.Bool.{Bool, cond, _&&_, _||_}
 use mathlib.Core.List.{List, [], _∷_}
 use mathlib.Core.Option.{Option, none, some}
 use mathlib.Core.Path.{_≡_}
 use Rattle.role_commands.specs.Decode.{numberAt, totalOf, numbersAt}
 use Rattle.files.specs.RuleFile.{RuleCommand as Command, ruleCommand, ruleWidths, opens, value, operations, link, part, ends, precedes, Lines}
-use Rattle.policy.specs.Rules.{user, resource}
+use Rattle.files.specs.RoleFile.{sideBy}
 use Rattle.rule_commands.specs.declared.Atom.{Atom}
 use Rattle.rule_commands.specs.declared.Atom.the-variants.{SetContainsSet, SetContainsSingle, SingleEqualsSingle}
 use Rattle.rule_commands.specs.declared.Raw.{Raw}
 use Rattle.rule_commands.specs.declared.Raw.the-variants.{Whole, Unknown, Short}
 use Rattle.rule_commands.specs.declared.RuleCommand.{RuleCommand}
-use Rattle.rule_commands.specs.declared.RuleCommand.the-variants.{Opens, UserSingle, UserSet, ResourceSingle, ResourceSet, Operations, Link, Part, Ends}
+use Rattle.rule_commands.specs.declared.RuleCommand.the-variants.{Opens, Value, Operations, Link, Part, Ends}
 use Rattle.sets.specs.Tests.{all}
 
 -- ---- the next command, as numbers
@@ -52,14 +52,20 @@ linkMeaning (SingleEqualsSingle a b) = link a b
 -- a command of the code, as the definitions have it
 abbrev pub ruleMeaning : RuleCommand → Command
 ruleMeaning Opens = opens
-ruleMeaning (UserSingle a v) = value user false a v
-ruleMeaning (UserSet a v) = value user true a v
-ruleMeaning (ResourceSingle a v) = value resource false a v
-ruleMeaning (ResourceSet a v) = value resource true a v
+ruleMeaning (Value v) = value (sideBy (v .side)) (v .set) (v .attribute) (v .value)
 ruleMeaning (Operations m) = operations m
 ruleMeaning (Link t) = linkMeaning t
 ruleMeaning (Part k m) = part k m
 ruleMeaning Ends = ends
+
+-- a listed value's side is one of the two
+unfoldable pub Sided : RuleCommand → Type 0
+Sided Opens = Unit {0}
+Sided (Value v) = v .side < 2
+Sided (Operations m) = Unit {0}
+Sided (Link t) = Unit {0}
+Sided (Part k m) = Unit {0}
+Sided Ends = Unit {0}
 
 -- the byte of a known command, its first and its second operand: 0 where it has none
 pub data Shape : ℕ → ℕ → ℕ → Type 0 where

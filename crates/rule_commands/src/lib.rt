@@ -12,12 +12,17 @@ pub enum Atom {
     SingleEqualsSingle(usize, usize),
 }
 
+// A value that a rule lists for a conjunct, of a user's attribute (side 0) or a resource's (side 1): a set or a single value.
+pub struct ListedValue {
+    pub side: usize,
+    pub set: bool,
+    pub attribute: usize,
+    pub value: u64,
+}
+
 pub enum RuleCommand {
     Opens,
-    UserSingle { attribute: usize, value: u64 },
-    UserSet { attribute: usize, set: u64 },
-    ResourceSingle { attribute: usize, value: u64 },
-    ResourceSet { attribute: usize, set: u64 },
+    Value(ListedValue),
     Operations(u64),
     Link(Atom),
     Part { role: usize, operations: u64 },

@@ -1,3 +1,3 @@
 pub mod Summary
 pub mod SummaryLaws
-pub mod LineLaws
+pub mod SummaryLineLaws

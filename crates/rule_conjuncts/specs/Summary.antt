@@ -1,26 +1,16 @@
 -- A rule's lines summed up: what is kept of an open rule while it is read, as a function of its lines.
 -- Assumes nothing.
-use Prim.Native.Nat.{ℕ, _+_, _*_, _%_}
+use Prim.Native.Nat.{ℕ, _+_, _*_}
 use lib.Dec.{eqb, ltb}
 use lib.ListN.{length, getD, set}
-use mathlib.Core.Bool.{Bool, false, cond}
+use mathlib.Core.Bool.{Bool, false}
 use mathlib.Core.List.{List}
 use Rattle.files.specs.RuleFile.{RuleCommand, Lines, valuesIn, opens, value, operations, link, part, ends}
+use Rattle.role_record.specs.Places.{placeSide, placeAttribute}
 use Rattle.role_record.specs.Record.{tableOf}
-use Rattle.policy.specs.Rules.{own, Which, Setting, meets, user, resource}
+use Rattle.policy.specs.Rules.{Setting, meets}
 use Rattle.sets.specs.Sets.{narrowing, bit, maskOf}
 use Rattle.sets.specs.Tests.{any}
-
--- the attributes of both sides in one row of 14 places: the six of a side, and behind them its 255
-abbrev pub placeSide : ℕ → Which
-placeSide i = cond (ltb i 7) user resource
-
-abbrev pub placeAttribute : ℕ → ℕ
-placeAttribute i = cond (eqb (i % 7) 6) own (i % 7)
-
--- the place of an attribute of side 0 or 1
-abbrev pub placeOf : ℕ → ℕ → ℕ
-placeOf side a = 7 * side + cond (eqb a own) 6 a
 
 module _ (P : Setting) (ls : Lines) where
   -- the values listed for the attribute of a place

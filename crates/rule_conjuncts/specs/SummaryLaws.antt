@@ -3,18 +3,13 @@
 use Prim.Native.Nat.{ℕ}
 use lib.Dec.{ltb}
 use lib.ListN.{length}
-use mathlib.Core.Bool.{Bool, true, false, _&&_, and-assoc}
-use mathlib.Core.List.{List, [], _∷_, _++_, List·Memᴰ·head, List·Memᴰ·tail}
-use mathlib.Core.Path.{_≡_, refl, sym, ap, ap₂, _∙_}
+use mathlib.Core.Bool.{Bool, true, false, _&&_, and-true}
+use mathlib.Core.List.{List, [], _∷_, List·Memᴰ·head, List·Memᴰ·tail}
+use mathlib.Core.Path.{_≡_, refl, ap₂, _∙_}
 use Rattle.files.specs.RuleFile.{Lines, valuesIn, conjunctsIn}
 use Rattle.policy.specs.Rules.{Which, by, Setting, meets, attrsOf, holds, conjunct}
-use Rattle.sets.specs.MaskLaws.{and-true}
+use Rattle.sets.specs.ListLaws.{all-append}
 use Rattle.sets.specs.Tests.{imp, _isIn_, all, each, only}
-
--- tests of the members of a list, by its parts
-pub all-append : {A : Type 0} (f : A → Bool) (s t : List A) → all f (s ++ t) ≡ (all f s && all f t)
-all-append f [] t = refl
-all-append f (x ∷ xs) t = ap (λ (b : Bool). f x && b) (all-append f xs t) ∙ sym (and-assoc (f x) (all f xs) (all f t))
 
 all-only : {A : Type 0} (f : A → Bool) (b : Bool) (x : A) → all f (only b x) ≡ imp b (f x)
 all-only f true x = and-true (f x)
@@ -23,10 +18,6 @@ all-only f false x = refl
 all-each : {A : Type 0} (f : A → Bool) (g : ℕ → List A) (h : ℕ → Bool) (l : List ℕ) → ((a : ℕ) → a isIn l → all f (g a) ≡ h a) → all f (each g l) ≡ all h l
 all-each f g h [] e = refl
 all-each f g h (x ∷ xs) e = all-append f (g x) (each g xs) ∙ ap₂ _&&_ (e x (List·Memᴰ·head refl)) (all-each f g h xs (λ a m. e a (List·Memᴰ·tail m)))
-
-pub all-same : (f g : ℕ → Bool) (l : List ℕ) → ((a : ℕ) → a isIn l → f a ≡ g a) → all f l ≡ all g l
-all-same f g [] h = refl
-all-same f g (x ∷ xs) h = ap₂ _&&_ (h x (List·Memᴰ·head refl)) (all-same f g xs (λ a m. h a (List·Memᴰ·tail m)))
 
 module _ (P : Setting) (ls : Lines) where
   -- somebody meets every conjunct of a side

@@ -9,6 +9,7 @@ use Rattle.files.specs.Calls.{firstStrayRule}
 use Rattle.files.specs.RuleFile.{Lines}
 use Rattle.grant_grids.specs.Grid.{gridOf}
 use Rattle.rule_listings.specs.Listed.{seenTable, againTable}
+use Rattle.role_record.specs.Cells.{userCells}
 use Rattle.role_record.specs.Record.{emptyRecord, numberOr, recordOf}
 use Rattle.policy.specs.Policy.{Policy, settingOf, rolesIn}
 use Rattle.rule_steps.specs.Shows.{grantedWithin}
@@ -17,7 +18,7 @@ use Rattle.rule_file.specs.declared.BothFiles.{BothFiles}
 
 -- a refusal returns only its number
 unfoldable pub nothingRead : ℕ → BothFiles
-nothingRead n = record { code = n; file = emptyRecord; rules = 0; grid = replicate 1024 0; strays = false; stray = 0; seen = replicate 32 0; again = replicate 32 0 }
+nothingRead n = record { code = n; file = emptyRecord; rules = 0; grid = replicate userCells 0; strays = false; stray = 0; seen = replicate 32 0; again = replicate 32 0 }
 
 unfoldable pub bothOf : Answer (Policy × List Lines) → BothFiles
 bothOf (refused e) = nothingRead (numberOf e)

@@ -19,7 +19,7 @@ use Rattle.policy.specs.Roles.{Roles}
 use Rattle.policy.specs.Rules.{Setting, user, resource}
 use Rattle.role_file.specs.SizedLaws.{accepted-sized}
 use Rattle.rule_file.specs.BothFiles.{nothingRead, bothOf}
-use Rattle.rule_file.specs.StateLaws.{openLines, start}
+use Rattle.rule_file.specs.RuleStateLaws.{openLines, start}
 use Rattle.rule_satisfaction.specs.Satisfaction.{Legal}
 use Rattle.sets.specs.Tests.{Is, _isIn_}
 use Rattle.sets.specs.TestLaws.{only-out}

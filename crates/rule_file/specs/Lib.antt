@@ -1,4 +1,6 @@
 pub mod BothFiles
 pub mod LegalLaws
 pub mod ReadsLaws
-pub mod StateLaws
+pub mod RuleStateLaws
+pub mod TurnLaws
+pub mod Turns

@@ -3,208 +3,172 @@
 use Prim.Native.Nat.{ℕ, _+_, _≤_, _<_, _-_}
 use borrow.Author.Tests.{ne-eqb}
 use lib.Dec.{eqb}
-use lib.ListN.{length, drop, replicate}
-use mathlib.Core.Bool.{true, false, _||_}
+use lib.ListN.{length, drop, replicate, length-drop}
+use mathlib.Core.Bool.{true, false}
 use mathlib.Core.List.{List}
 use mathlib.Core.Path.{_≡_, refl, sym, ap, ap₂, _∙_, subst}
-use Rattle.role_record.specs.Record.{Sized, emptyRecord, recordWith, recordOf}
+use Rattle.role_record.specs.Cells.{userCells}
+use Rattle.role_record.specs.Record.{emptyRecord, recordWith, recordOf, WithinLimits}
 use Rattle.files.specs.Answer.{Answer, andThen, refused, accepted}
-use Rattle.files.specs.BytesLaws.{Carries, number-positive}
 use Rattle.files.specs.Calls.{readBoth}
 use Rattle.files.specs.RoleFile.{readRoles}
-use Rattle.files.specs.RuleFile.{Lines, readRules}
+use Rattle.files.specs.RuleFile.{ruleFormat}
 use Rattle.grant_grids.specs.Grid.{gridOf}
 use Rattle.grant_grids.specs.Links.{linkTable, linksOf}
 use Rattle.rule_operands.specs.Checked.{checkedOf, checkedBeside}
 use Rattle.policy.specs.Policy.{Policy, settingOf, rolesIn}
 use Rattle.policy.specs.Rules.{user, resource}
 use Rattle.role_file.specs.Reading.{refusal, loadedOf}
-use Rattle.role_file.specs.SizedLaws.{accepted-sized}
-use Rattle.rule_commands.specs.Raw.{rawOf}
+use Rattle.role_file.specs.SizedLaws.{loaded-policy}
+use Rattle.rule_commands.specs.Raw.{rawOf, Sided}
 use Rattle.rule_file.specs.BothFiles.{nothingRead, bothOf}
-use Rattle.rule_file.specs.StateLaws.{State, outcome-both, begin, turn-cut, turn-strange, some-bytes, not-past, close-refused, opened, ended-late, ended, line-refused, line-illegal, line-legal, line-added}
-use Rattle.rule_steps.specs.Kept.{begunWith, openedWith, finishedWith, finishedGrid, mayClose, followsWith}
-use Rattle.rule_steps.specs.Lines.{notedWith, metAfter, PartWithin, listedAfter, seenBy, againBy}
+use Rattle.rule_file.specs.RuleStateLaws.{State, begin, turn-cut, turn-strange, some-bytes, not-past, close-refused, opened, ended-late, ended, line-refused, line-illegal, line-legal, line-added, start, outcome, outcome-beside, line-sided}
+use Rattle.rule_steps.specs.Tally.{begunWith, openedWith, finishedWith, finishedGrid}
+use Rattle.rule_steps.specs.LineSteps.{notedWith, metAfter, PartWithin, listedAfter, seenBy, againBy}
 use Rattle.rule_steps.specs.ShowsLaws.{part-within}
 use Rattle.role_record.specs.declared.RoleFile.{RoleFile}
-use Rattle.rule_operands.specs.declared.Checked.{Checked}
-use Rattle.rule_operands.specs.declared.Checked.the-variants.{Legal, Illegal}
 use Rattle.role_file.specs.declared.Loaded.{Loaded}
-use Rattle.rule_commands.specs.declared.Raw.the-variants.{Whole, Unknown, Short}
 use Rattle.rule_commands.specs.declared.RuleCommand.{RuleCommand}
-use Rattle.rule_steps.specs.declared.Kept.{Kept}
-
--- the role file was accepted, its record and links are those of its policy, and the rule file is read so far
-pub record Reads (file rules : List ℕ) (f : RoleFile) (links : List ℕ) (k : Kept) (met listed grid seen again : List ℕ) (at : ℕ) : Type 0 where
-  pub policy : Policy
-  pub sized : Sized policy
-  pub read : readRoles 2 file ≡ accepted policy
-  pub shown : f ≡ recordOf policy
-  pub linked : links ≡ linksOf policy
-  pub state : State policy rules k met listed grid seen again at
+use Rattle.rule_steps.specs.declared.Tally.{Tally}
+use native.Mathlib.Omega.{arith}
+use Rattle.files.specs.Bytes.{read}
+use Rattle.rule_file.specs.TurnLaws.{Refuses, cut, strange, unfinished, late, misplaced, illegal, Closing, Lining}
+use Rattle.rule_file.specs.Turns.{closesRule, sizesOf, Beside, bothWith, readBeside}
+use Rattle.role_record.specs.declared.Sizes.{Sizes}
+use Rattle.rule_commands.specs.declared.Raw.the-variants.{Whole}
 
 -- ---- small steps of the code
 
-pub closes-opening : (b : ℕ) → b ≡ 0x21 → true ≡ (eqb b 0x21 || eqb b 0x2F)
+pub closes-opening : (b : ℕ) → b ≡ 0x21 → true ≡ closesRule b
 closes-opening b e = rw e refl
 
-pub closes-other : (b : ℕ) → (b ≡ 0x21 → ⊥) → eqb b 0x2F ≡ (eqb b 0x21 || eqb b 0x2F)
+pub closes-other : (b : ℕ) → (b ≡ 0x21 → ⊥) → eqb b 0x2F ≡ closesRule b
 closes-other b e = rw (ne-eqb b 0x21 e) refl
 
-pub refused-with : (n : ℕ) (f : RoleFile) → f ≡ emptyRecord → record { code = n; file = f; rules = 0; grid = replicate 1024 0; strays = false; stray = 0; seen = replicate 32 0; again = replicate 32 0 } ≡ nothingRead n
+pub refused-with : (n : ℕ) (f : RoleFile) → f ≡ emptyRecord → record { code = n; file = f; rules = 0; grid = replicate userCells 0; strays = false; stray = 0; seen = replicate 32 0; again = replicate 32 0 } ≡ nothingRead n
 unfolding nothingRead
-refused-with n f e = ap (λ (g : RoleFile). record { code = n; file = g; rules = 0; grid = replicate 1024 0; strays = false; stray = 0; seen = replicate 32 0; again = replicate 32 0 }) e
+refused-with n f e = ap (λ (g : RoleFile). record { code = n; file = g; rules = 0; grid = replicate userCells 0; strays = false; stray = 0; seen = replicate 32 0; again = replicate 32 0 }) e
 
 -- ---- the role file
-
--- reading the rule file, as reading both does it
-abbrev beside : List ℕ → Policy → Answer (Policy × List Lines)
-beside rules F = andThen (readRules 2 (settingOf F) (rolesIn F) rules) (λ ls. accepted (F, ls))
 
 module _ (file rules : List ℕ) (l : Loaded) (e : l ≡ loadedOf (readRoles 2 file)) where
   -- it was refused
   pub roles-refused : (l .code ≡ 0 → ⊥) → nothingRead (l .code) ≡ bothOf (readBoth 2 file rules)
-  unfolding readBoth bothOf loadedOf refusal
+  unfolding readBoth readBeside bothOf loadedOf refusal
   roles-refused h = go (readRoles 2 file) e
     where
-      go : (r : Answer Policy) → l ≡ loadedOf r → nothingRead (l .code) ≡ bothOf (andThen r (beside rules))
+      go : (r : Answer Policy) → l ≡ loadedOf r → nothingRead (l .code) ≡ bothOf (andThen r (λ F. readBeside F rules))
       go (refused d) q = ap (λ (m : Loaded). nothingRead (m .code)) q
       go (accepted F) q = absurd (h (ap (λ (m : Loaded). m .code) q))
 
-  pub roles-read : l .code ≡ 0 → (F : Policy) × Sized F × (readRoles 2 file ≡ accepted F) × (l .file ≡ recordOf F)
-  unfolding loadedOf refusal
-  roles-read h = go (readRoles 2 file) refl (accepted-sized file) e
-    where
-      go : (r : Answer Policy) → readRoles 2 file ≡ r → Carries Sized r → l ≡ loadedOf r → (F : Policy) × Sized F × (readRoles 2 file ≡ accepted F) × (l .file ≡ recordOf F)
-      go (refused d) q z p = absurd (number-positive d (ap (λ (m : Loaded). m .code) (sym p) ∙ h))
-      go (accepted F) q z p = (F, z, q, ap (λ (m : Loaded). m .file) p)
-
-  pub roles-resources : l .code ≡ 0 → l .file .resources ≤ 64
-  unfolding recordOf recordWith
-  roles-resources h = let r = roles-read h in subst (λ (f : RoleFile). f .resources ≤ 64) (sym (r .3)) (r .1 .many resource)
-
-  -- the beginning
-  pub reads-begun : (c : l .code ≡ 0) (k : Kept) (links : List ℕ) → k ≡ begunWith → links ≡ linkTable (l .file .known) (l .file .values) (l .file .kinds) (l .file .resources)
-      → Reads file rules (l .file) links k (replicate 14 0) (replicate 1024 0) (replicate 1024 0) (replicate 32 0) (replicate 32 0) 0
-  reads-begun c k links p q =
-      let r = roles-read c in
-      record {
-        policy = r .0;
-        sized = r .1;
-        read = r .2;
-        shown = r .3;
-        linked = q ∙ ap (λ (f : RoleFile). linkTable (f .known) (f .values) (f .kinds) (f .resources)) (r .3);
-        state = subst (λ (n : Kept). State (r .0) rules n (replicate 14 0) (replicate 1024 0) (replicate 1024 0) (replicate 32 0) (replicate 32 0) 0) (sym p) (begin (r .0) rules);
-      }
-
-moved : {file rules : List ℕ} {f : RoleFile} {links : List ℕ} {grid : List ℕ} {at : ℕ} (m k : Kept) (met₁ met listed₁ listed seen₁ seen again₁ again : List ℕ) → m ≡ k → met₁ ≡ met → listed₁ ≡ listed → seen₁ ≡ seen → again₁ ≡ again
-    → Reads file rules f links k met listed grid seen again at → Reads file rules f links m met₁ listed₁ grid seen₁ again₁ at
-moved {file} {rules} {f} {links} {grid} {at} m k met₁ met listed₁ listed seen₁ seen again₁ again p q r s t v =
-    subst (λ (n : Kept). Reads file rules f links n met₁ listed₁ grid seen₁ again₁ at) (sym p)
-    (subst (λ (l : List ℕ). Reads file rules f links k l listed₁ grid seen₁ again₁ at) (sym q)
-    (subst (λ (l : List ℕ). Reads file rules f links k met l grid seen₁ again₁ at) (sym r)
-    (subst (λ (l : List ℕ). Reads file rules f links k met listed grid l again₁ at) (sym s)
-    (subst (λ (l : List ℕ). Reads file rules f links k met listed grid seen l at) (sym t) v))))
-
-module _ (file rules : List ℕ) (f : RoleFile) (links : List ℕ) (k : Kept) (met listed grid seen again : List ℕ) (at : ℕ) (v : Reads file rules f links k met listed grid seen again at) where
-  -- what holds for the record and the links of the policy holds for those of the code
-  at-record : (Q : RoleFile → List ℕ → Type 0) → Q (recordOf (v .policy)) (linksOf (v .policy)) → Q f links
-  at-record Q q = subst (λ (g : RoleFile). Q g links) (sym (v .shown)) (subst (Q (recordOf (v .policy))) (sym (v .linked)) q)
-
-  pub sizes : (f .users ≤ 64) × (f .resources ≤ 64) × (f .operations ≤ 16) × (f .roles ≤ 32)
-  unfolding recordOf recordWith
-  sizes = at-record (λ g l. (g .users ≤ 64) × (g .resources ≤ 64) × (g .operations ≤ 16) × (g .roles ≤ 32)) (v .sized .many user, v .sized .many resource, v .sized .operable, v .sized .few)
-
-  pub inside : (at ≤ length rules) × (k .rules ≤ at)
-  inside = (v .state .within, v .state .few)
-
-  pub reads-cut : rawOf (drop at rules) ≡ Short → nothingRead 10 ≡ bothOf (readBoth 2 file rules)
-  reads-cut e = turn-cut (v .policy) (v .sized) rules k met listed grid seen again at (v .state) e ∙ outcome-both file rules (v .policy) (v .read)
-
-  pub reads-strange : rawOf (drop at rules) ≡ Unknown → nothingRead 11 ≡ bothOf (readBoth 2 file rules)
-  reads-strange e = turn-strange (v .policy) (v .sized) rules k met listed grid seen again at (v .state) e ∙ outcome-both file rules (v .policy) (v .read)
-
-  module _ (b x y w : ℕ) (e : rawOf (drop at rules) ≡ Whole b x y w) where
-    -- the command takes some bytes, and no more than there are
-    pub command-bytes : (0 < w) × (w ≤ length rules - at)
-    command-bytes = (some-bytes (v .policy) (v .sized) rules k met listed grid seen again at (v .state) b x y w e, not-past (v .policy) (v .sized) rules k met listed grid seen again at (v .state) b x y w e)
-
-    pub reads-unfinished : (eqb b 0x21 || eqb b 0x2F) ≡ true → mayClose k ≡ false → nothingRead 12 ≡ bothOf (readBoth 2 file rules)
-    reads-unfinished h m = close-refused (v .policy) (v .sized) rules k met listed grid seen again at (v .state) b x y w e h m ∙ outcome-both file rules (v .policy) (v .read)
-
-    rule-opened : mayClose k ≡ true → b ≡ 0x21
-        → Reads file rules f links (openedWith (finishedWith k met listed links (f .users) (f .resources) (f .operations))) (replicate 14 0) (gridOf (λ u r o. false)) (finishedGrid k met links (f .users) (f .resources) grid) seen again (at + w)
+  -- it was accepted
+  module _ (h : l .code ≡ 0) where
+    pub roles-bounds : (l .file .resources ≤ 64) × (l .file .roles ≤ 32)
     unfolding recordOf recordWith
-    rule-opened h z = record {
-      policy = v .policy;
-      sized = v .sized;
-      read = v .read;
-      shown = v .shown;
-      linked = v .linked;
-      state =
+    roles-bounds = let r = loaded-policy file l e h in subst (λ (f : RoleFile). (f .resources ≤ 64) × (f .roles ≤ 32)) (sym (r .3)) (r .1 .many resource, r .1 .few)
+
+    module _ (links : List ℕ) (q : links ≡ linkTable (l .file .known) (l .file .values) (l .file .kinds) (l .file .resources)) where
+      -- reading the rule file beside it is reading both
+      pub roles-beside : (F : Policy) × Beside F (l .file) (sizesOf (l .file)) links × (bothOf (readBeside F rules) ≡ bothOf (readBoth 2 file rules))
+      unfolding readBoth readBeside
+      roles-beside =
+          let r = loaded-policy file l e h in
+          (r .0, record { sized = r .1; shown = r .3; counted = refl; linked = q ∙ ap (λ (f : RoleFile). linkTable (f .known) (f .values) (f .kinds) (f .resources)) (r .3) }, rw (r .2) refl)
+
+-- ---- the rule file
+
+pub reads-begun : (F : Policy) (rules : List ℕ) (k : Tally) → k ≡ begunWith → State F rules k (replicate 14 0) (replicate userCells 0) (replicate userCells 0) (replicate 32 0) (replicate 32 0) 0
+reads-begun F rules k p = subst (λ (n : Tally). State F rules n (replicate 14 0) (replicate userCells 0) (replicate userCells 0) (replicate 32 0) (replicate 32 0) 0) (sym p) (begin F rules)
+
+module _ (F : Policy) (f : RoleFile) (sizes : Sizes) (links : List ℕ) (v : Beside F f sizes links) where
+  -- what holds for the record, the sizes and the links of the policy holds for those of the code
+  at-record : (Q : RoleFile → Sizes → List ℕ → Type 0) → Q (recordOf F) (sizesOf (recordOf F)) (linksOf F) → Q f sizes links
+  at-record Q q =
+      subst (Q f sizes) (sym (v .linked))
+      (subst (λ (n : Sizes). Q f n (linksOf F)) (sym (v .counted))
+      (subst (λ (g : RoleFile). Q g (sizesOf g) (linksOf F)) (sym (v .shown)) q))
+
+  pub within-limits : WithinLimits sizes
+  unfolding recordOf recordWith
+  within-limits = at-record (λ g n l. WithinLimits n) (v .sized .many user, v .sized .many resource, v .sized .operable, v .sized .few)
+
+  module _ (rules : List ℕ) (k : Tally) (met listed grid seen again : List ℕ) (at : ℕ) (t : State F rules k met listed grid seen again at) where
+    pub inside : (at ≤ length rules) × (k .rules ≤ at)
+    inside = (t .within, t .few)
+
+    -- a command takes some bytes, and no more than there are
+    pub command-bytes : (b x y w : ℕ) → rawOf (drop at rules) ≡ Whole b x y w → (0 < w) × (w ≤ length rules - at)
+    command-bytes b x y w e = (some-bytes F (v .sized) rules k met listed grid seen again at t b x y w e, not-past F (v .sized) rules k met listed grid seen again at t b x y w e)
+
+    -- the end is where all bytes are taken
+    at-end : (w : ℕ) → w ≡ length (drop at rules) → at + w ≡ length rules
+    at-end w e = let i = t .within in let d = length-drop at rules in omega arith
+
+    no-end : (w : ℕ) → (w ≡ length (drop at rules) → ⊥) → at + w ≡ length rules → ⊥
+    no-end w n e = let i = t .within in let d = length-drop at rules in n (omega arith)
+
+    checked : (b x y : ℕ) → checkedBeside F b x y ≡ checkedOf b x y (sizes .resources) (sizes .operations) (sizes .roles) (f .attributes) (f .kinds) (f .holders) (f .permissions)
+    unfolding recordOf recordWith
+    checked b x y = at-record (λ g n l. checkedBeside F b x y ≡ checkedOf b x y (n .resources) (n .operations) (n .roles) (g .attributes) (g .kinds) (g .holders) (g .permissions)) refl
+
+    pub reads-refused : (n : ℕ) → Refuses k (drop at rules) sizes (f .attributes) (f .kinds) (f .holders) (f .permissions) n → nothingRead n ≡ bothOf (readBeside F rules)
+    reads-refused n r = go n r ∙ outcome-beside F rules
+      where
+        go : (n : ℕ) → Refuses k (drop at rules) sizes (f .attributes) (f .kinds) (f .holders) (f .permissions) n → nothingRead n ≡ outcome F (read (ruleFormat 2 (settingOf F) (rolesIn F)) start rules)
+        go _ (cut e) = turn-cut F (v .sized) rules k met listed grid seen again at t e
+        go _ (strange e) = turn-strange F (v .sized) rules k met listed grid seen again at t e
+        go _ (unfinished b x y w e h m) = close-refused F (v .sized) rules k met listed grid seen again at t b x y w e h m
+        go _ (late b x y w e h z d) = ended-late F (v .sized) rules k met listed grid seen again at t b x y w e h z (no-end w d)
+        go _ (misplaced b x y w e n h) = line-refused F (v .sized) rules k met listed grid seen again at t b x y w e n h
+        go _ (illegal b x y w e n h i) = line-illegal F (v .sized) rules k met listed grid seen again at t b x y w e n h (checked b x y ∙ i)
+
+    -- ---- a 21 or 2F
+
+    module _ (n : Tally) (g : List ℕ) (p : n ≡ finishedWith k met listed links (sizes .users) (sizes .resources) (sizes .operations)) (q : g ≡ finishedGrid k met links (sizes .users) (sizes .resources) grid) where
+      rule-opened : (w : ℕ) → Closing k (drop at rules) sizes (f .attributes) (f .kinds) (f .holders) (f .permissions) 0x21 w
+          → State F rules (openedWith (finishedWith k met listed links (sizes .users) (sizes .resources) (sizes .operations))) (replicate 14 0) (gridOf (λ u r o. false)) (finishedGrid k met links (sizes .users) (sizes .resources) grid) seen again (at + w)
+      unfolding recordOf recordWith
+      rule-opened w c =
           at-record
-          (λ g l. State (v .policy) rules (openedWith (finishedWith k met listed l (g .users) (g .resources) (g .operations))) (replicate 14 0) (gridOf (λ u r o. false)) (finishedGrid k met l (g .users) (g .resources) grid) seen again (at + w))
-          (opened (v .policy) (v .sized) rules k met listed grid seen again at (v .state) b x y w e h z);
-    }
+          (λ r z l. State F rules (openedWith (finishedWith k met listed l (z .users) (z .resources) (z .operations))) (replicate 14 0) (gridOf (λ u r o. false)) (finishedGrid k met l (z .users) (z .resources) grid) seen again (at + w))
+          (opened F (v .sized) rules k met listed grid seen again at t 0x21 (c .x) (c .y) w (c .front) (c .closable) refl)
 
-    pub reads-opened : mayClose k ≡ true → b ≡ 0x21 → (n m : Kept) (g blank : List ℕ) → n ≡ finishedWith k met listed links (f .users) (f .resources) (f .operations) → g ≡ finishedGrid k met links (f .users) (f .resources) grid
-        → m ≡ openedWith n → blank ≡ gridOf (λ u r o. false) → Reads file rules f links m (replicate 14 0) blank g seen again (at + w)
-    reads-opened h z n m g blank p q i j =
-        subst (λ (t : List ℕ). Reads file rules f links m (replicate 14 0) blank t seen again (at + w)) (sym q)
-        (subst (λ (t : List ℕ). Reads file rules f links m (replicate 14 0) t (finishedGrid k met links (f .users) (f .resources) grid) seen again (at + w)) (sym j)
-        (subst (λ (t : Kept). Reads file rules f links t (replicate 14 0) (gridOf (λ u r o. false)) (finishedGrid k met links (f .users) (f .resources) grid) seen again (at + w)) (sym (i ∙ ap openedWith p)) (rule-opened h z)))
+      pub reads-opened : (w : ℕ) → Closing k (drop at rules) sizes (f .attributes) (f .kinds) (f .holders) (f .permissions) 0x21 w → (m : Tally) (blank : List ℕ) → m ≡ openedWith n → blank ≡ gridOf (λ u r o. false)
+          → State F rules m (replicate 14 0) blank g seen again (at + w)
+      reads-opened w c m blank i j =
+          subst (λ (l : List ℕ). State F rules m (replicate 14 0) blank l seen again (at + w)) (sym q)
+          (subst (λ (l : List ℕ). State F rules m (replicate 14 0) l (finishedGrid k met links (sizes .users) (sizes .resources) grid) seen again (at + w)) (sym j)
+          (subst (λ (z : Tally). State F rules z (replicate 14 0) (gridOf (λ u r o. false)) (finishedGrid k met links (sizes .users) (sizes .resources) grid) seen again (at + w)) (sym (i ∙ ap openedWith p)) (rule-opened w c)))
 
-    pub reads-late : mayClose k ≡ true → b ≡ 0x2F → (at + w ≡ length rules → ⊥) → nothingRead 12 ≡ bothOf (readBoth 2 file rules)
-    reads-late h z d = ended-late (v .policy) (v .sized) rules k met listed grid seen again at (v .state) b x y w e h z d ∙ outcome-both file rules (v .policy) (v .read)
+      pub reads-ended : Closing k (drop at rules) sizes (f .attributes) (f .kinds) (f .holders) (f .permissions) 0x2F (length (drop at rules)) → bothWith f n g seen again ≡ bothOf (readBeside F rules)
+      unfolding recordOf recordWith
+      reads-ended c =
+          ap₂ (λ (m : Tally) (l : List ℕ). bothWith f m l seen again) p q
+          ∙ at-record
+          (λ r z l. bothWith r (finishedWith k met listed l (z .users) (z .resources) (z .operations)) (finishedGrid k met l (z .users) (z .resources) grid) seen again ≡ bothOf (readBeside F rules))
+          (ended F (v .sized) rules k met listed grid seen again at t 0x2F (c .x) (c .y) _ (c .front) (c .closable) refl (at-end _ refl) ∙ outcome-beside F rules)
 
-    pub reads-ended : mayClose k ≡ true → b ≡ 0x2F → at + w ≡ length rules → (n : Kept) (g : List ℕ) → n ≡ finishedWith k met listed links (f .users) (f .resources) (f .operations) → g ≡ finishedGrid k met links (f .users) (f .resources) grid
-        → record { code = 0; file = f; rules = n .rules; grid = g; strays = n .strays; stray = n .stray; seen = seen; again = again } ≡ bothOf (readBoth 2 file rules)
-    unfolding recordOf recordWith
-    reads-ended h z d n g p q =
-        ap₂ (λ (m : Kept) (l : List ℕ). record { code = 0; file = f; rules = m .rules; grid = l; strays = m .strays; stray = m .stray; seen = seen; again = again }) p q
-        ∙ at-record
-        (λ r l. record {
-          code = 0;
-          file = r;
-          rules = finishedWith k met listed l (r .users) (r .resources) (r .operations) .rules;
-          grid = finishedGrid k met l (r .users) (r .resources) grid;
-          strays = finishedWith k met listed l (r .users) (r .resources) (r .operations) .strays;
-          stray = finishedWith k met listed l (r .users) (r .resources) (r .operations) .stray;
-          seen = seen;
-          again = again;
-        } ≡ bothOf (readBoth 2 file rules))
-        (ended (v .policy) (v .sized) rules k met listed grid seen again at (v .state) b x y w e h z d ∙ outcome-both file rules (v .policy) (v .read))
+    -- ---- a line
 
-    module _ (n : (eqb b 0x21 || eqb b 0x2F) ≡ false) where
-      pub reads-misplaced : followsWith k b x y ≡ false → nothingRead 12 ≡ bothOf (readBoth 2 file rules)
-      reads-misplaced h = line-refused (v .policy) (v .sized) rules k met listed grid seen again at (v .state) b x y w e n h ∙ outcome-both file rules (v .policy) (v .read)
+    module _ (c : RuleCommand) (b x y w : ℕ) (d : Lining k (drop at rules) sizes (f .attributes) (f .kinds) (f .holders) (f .permissions) c b x y w) where
+      pub line-within : Sided c × PartWithin c
+      line-within = (
+        line-sided F (v .sized) rules k met listed grid seen again at t b x y w (d .front) (d .lines) (d .placed) c (checked b x y ∙ d .made),
+        part-within F (v .sized) c (line-legal F (v .sized) rules k met listed grid seen again at t b x y w (d .front) (d .lines) (d .placed) c (checked b x y ∙ d .made)),
+      )
 
-      module _ (h : followsWith k b x y ≡ true) (a : Checked) (p : a ≡ checkedOf b x y (f .resources) (f .operations) (f .roles) (f .attributes) (f .kinds) (f .holders) (f .permissions)) where
-        checked : checkedBeside (v .policy) b x y ≡ a
-        unfolding recordOf recordWith
-        checked = ap (λ (r : RoleFile). checkedOf b x y (r .resources) (r .operations) (r .roles) (r .attributes) (r .kinds) (r .holders) (r .permissions)) (sym (v .shown)) ∙ sym p
+      line-read : State F rules (notedWith k c b x y) (metAfter (sizes .users) (sizes .resources) (sizes .roles) (f .known) (f .values) (f .holders) met c) (listedAfter (f .holders) (f .permissions) listed c) grid (seenBy seen c) (againBy seen again c) (at + w)
+      unfolding recordOf recordWith
+      line-read =
+          at-record
+          (λ g z l. State F rules (notedWith k c b x y) (metAfter (z .users) (z .resources) (z .roles) (g .known) (g .values) (g .holders) met c) (listedAfter (g .holders) (g .permissions) listed c) grid (seenBy seen c) (againBy seen again c) (at + w))
+          (line-added F (v .sized) rules k met listed grid seen again at t b x y w (d .front) (d .lines) (d .placed) c (checked b x y ∙ d .made))
 
-        pub reads-illegal : a ≡ Illegal → nothingRead 13 ≡ bothOf (readBoth 2 file rules)
-        reads-illegal i = line-illegal (v .policy) (v .sized) rules k met listed grid seen again at (v .state) b x y w e n h (checked ∙ i) ∙ outcome-both file rules (v .policy) (v .read)
-
-        module _ (c : RuleCommand) (i : a ≡ Legal c) where
-          pub line-part : PartWithin c
-          line-part = part-within (v .policy) (v .sized) c (line-legal (v .policy) (v .sized) rules k met listed grid seen again at (v .state) b x y w e n h c (checked ∙ i))
-
-          line-read : Reads file rules f links (notedWith k c b x y) (metAfter (f .users) (f .resources) (f .roles) (f .known) (f .values) (f .holders) met c) (listedAfter (f .holders) (f .permissions) listed c) grid (seenBy seen c) (againBy seen again c) (at + w)
-          unfolding recordOf recordWith
-          line-read = record {
-            policy = v .policy;
-            sized = v .sized;
-            read = v .read;
-            shown = v .shown;
-            linked = v .linked;
-            state =
-                at-record
-                (λ g l. State (v .policy) rules (notedWith k c b x y) (metAfter (g .users) (g .resources) (g .roles) (g .known) (g .values) (g .holders) met c) (listedAfter (g .holders) (g .permissions) listed c) grid (seenBy seen c) (againBy seen again c) (at + w))
-                (line-added (v .policy) (v .sized) rules k met listed grid seen again at (v .state) b x y w e n h c (checked ∙ i));
-          }
-
-          pub reads-line : (m : Kept) (met₁ listed₁ seen₁ again₁ : List ℕ) → m ≡ notedWith k c b x y → met₁ ≡ metAfter (f .users) (f .resources) (f .roles) (f .known) (f .values) (f .holders) met c → listed₁ ≡ listedAfter (f .holders) (f .permissions) listed c
-              → seen₁ ≡ seenBy seen c → again₁ ≡ againBy seen again c → Reads file rules f links m met₁ listed₁ grid seen₁ again₁ (at + w)
-          reads-line m met₁ listed₁ seen₁ again₁ p q r s t = moved m (notedWith k c b x y) met₁ _ listed₁ _ seen₁ _ again₁ _ p q r s t line-read
+      pub reads-line : (m : Tally) (met₁ listed₁ seen₁ again₁ : List ℕ) → m ≡ notedWith k c b x y → met₁ ≡ metAfter (sizes .users) (sizes .resources) (sizes .roles) (f .known) (f .values) (f .holders) met c → listed₁ ≡ listedAfter (f .holders) (f .permissions) listed c
+          → seen₁ ≡ seenBy seen c → again₁ ≡ againBy seen again c → State F rules m met₁ listed₁ grid seen₁ again₁ (at + w)
+      reads-line m met₁ listed₁ seen₁ again₁ p q r s u =
+          subst (λ (n : Tally). State F rules n met₁ listed₁ grid seen₁ again₁ (at + w)) (sym p)
+          (subst (λ (l : List ℕ). State F rules (notedWith k c b x y) l listed₁ grid seen₁ again₁ (at + w)) (sym q)
+          (subst (λ (l : List ℕ). State F rules (notedWith k c b x y) (metAfter (sizes .users) (sizes .resources) (sizes .roles) (f .known) (f .values) (f .holders) met c) l grid seen₁ again₁ (at + w)) (sym r)
+          (subst (λ (l : List ℕ). State F rules (notedWith k c b x y) (metAfter (sizes .users) (sizes .resources) (sizes .roles) (f .known) (f .values) (f .holders) met c) (listedAfter (f .holders) (f .permissions) listed c) grid l again₁ (at + w)) (sym s)
+          (subst (λ (l : List ℕ). State F rules (notedWith k c b x y) (metAfter (sizes .users) (sizes .resources) (sizes .roles) (f .known) (f .values) (f .holders) met c) (listedAfter (f .holders) (f .permissions) listed c) grid (seenBy seen c) l (at + w)) (sym u) line-read))))

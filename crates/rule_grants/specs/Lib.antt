@@ -1,3 +1,3 @@
 pub mod RuleGrid
 pub mod RuleGridLaws
-pub mod SummaryLaws
+pub mod SummaryGridLaws

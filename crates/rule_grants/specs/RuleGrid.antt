@@ -1,10 +1,11 @@
 -- What a rule summed up grants.
 -- Assumes nothing.
-use Prim.Native.Nat.{ℕ, _/_, _%_}
+use Prim.Native.Nat.{ℕ}
 use lib.Dec.{eqb}
 use lib.ListN.{getD}
 use mathlib.Core.Bool.{cond, _&&_}
 use mathlib.Core.List.{List}
+use Rattle.role_record.specs.Cells.{cellRow, cellOperation, userCells}
 use Rattle.rule_conjuncts.specs.Summary.{metByAll}
 use Rattle.grant_links.specs.Linked.{linkedWith}
 use Rattle.grant_grids.specs.Updates.{updated}
@@ -17,7 +18,7 @@ cellOf rows acts u o = cond (bit acts o) (getD rows u 0) 0
 
 -- a table with each user's resources in the words of one operation
 unfoldable pub withColumn : List ℕ → ℕ → List ℕ → List ℕ
-withColumn rows o table = updated 1024 (λ i. eqb (i % 16) o) (λ i old. getD rows (i / 16) 0) table
+withColumn rows o table = updated userCells (λ i. eqb (cellOperation i) o) (λ i old. getD rows (cellRow i) 0) table
 
 -- the triples: the rule has the operation, the user meets all user conjuncts, the resource all resource conjuncts and, with the user, all atoms
 unfoldable pub summaryGrants : List ℕ → ℕ → ℕ → ℕ → List ℕ → ℕ → ℕ → Block

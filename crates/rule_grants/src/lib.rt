@@ -1,8 +1,9 @@
-// What a rule grants, as a grid of sets of resources, word 16 * user + operation, worked out from the rule summed up.
+// What a rule grants, as a grid of sets of resources, by user and operation, worked out from the rule summed up.
 ghost use mathlib.Core.Path.{_≡_};
-ghost use Prim.Native.Nat.{_/_, _%_, _≤_, _<_};
+ghost use Prim.Native.Nat.{_≤_, _<_};
 ghost use lib.ListN.{length};
 ghost use Rattle.grant_grids.specs.Grid.{gridOf};
+ghost use Rattle.role_record.specs.Cells.{rowCells, cellRow, cellOperation, userCells};
 ghost use Rattle.role_record.specs.Record.{tableOf};
 ghost use Rattle.grant_links.specs.Linked.{rowOf};
 ghost use Rattle.rule_grants.specs.RuleGrid.{cellOf, withColumn, summaryGrants};
@@ -25,7 +26,7 @@ fn fill_rows<'a>(links: &'a Links, atoms: u64, users: u64, resources: u64, out: 
 
 // Puts each user's resources into the user's word of an operation.
 fn fill_column<'a>(rows: &'a ByMember, operation: usize, out: &mut [u64])
-    requires { ⌜ (operation < 16) × (length (now out) ≡ 1024) ⌝ }
+    requires { ⌜ (operation < rowCells) × (length (now out) ≡ userCells) ⌝ }
     ensures { λ _. ⌜ now (out .exit) ≡ withColumn (now (rows .entry)) operation (now (out .entry)) ⌝ }
 {
     for u in 0..RoleFile::MEMBERS {
@@ -35,8 +36,10 @@ fn fill_column<'a>(rows: &'a ByMember, operation: usize, out: &mut [u64])
 
 // Most rules have few operations: the words of the others are cleared together.
 fn fill_cells<'a>(rows: &'a ByMember, operations: u64, out: &mut [u64])
-    requires { ⌜ length (now out) ≡ 1024 ⌝ }
-    ensures { λ _. ⌜ now (out .exit) ≡ tableOf 1024 (λ i. cellOf (now (rows .entry)) operations (i / 16) (i % 16)) ⌝ }
+    requires { ⌜ length (now out) ≡ userCells ⌝ }
+    ensures { λ _. ⌜
+        now (out .exit)
+        ≡ tableOf userCells (λ i. cellOf (now (rows .entry)) operations (cellRow i) (cellOperation i)) ⌝ }
 {
     grant_grids::fill_none(out);
     for o in 0..RoleFile::OPERATIONS {

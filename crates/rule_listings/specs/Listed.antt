@@ -1,6 +1,6 @@
 -- Which parts are listed, as tables of the lowest operations of their classes by role; and the first part not listed exactly once.
 -- Assumes nothing.
-use Prim.Native.Nat.{ℕ, suc, _*_, _/_, _%_}
+use Prim.Native.Nat.{ℕ, suc}
 use lib.Dec.{eqb, ltb}
 use lib.ListN.{length, getD, set}
 use mathlib.Core.Bool.{Bool, false, cond, _&&_}
@@ -8,6 +8,7 @@ use mathlib.Core.List.{List, [], _∷_}
 use mathlib.Core.Option.{Option, none, some}
 use Rattle.files.specs.RuleFile.{RuleCommand, Lines, opens, value, operations, link, part, ends}
 use Rattle.grant_parts.specs.Parts.{isPartIn}
+use Rattle.role_record.specs.Cells.{rowStart, cellRow, cellOperation}
 use Rattle.role_record.specs.Record.{tableOf, marked}
 use Rattle.sets.specs.Lowest.{lowestFrom}
 use Rattle.sets.specs.Sets.{bit, maskOf}
@@ -61,10 +62,10 @@ strayFrom isOne listedOnce n [] = NoneStray
 strayFrom isOne listedOnce n (w ∷ ws) =
     let behind = strayFrom isOne listedOnce (suc n) ws in let on = strayFrom isOne listedOnce n ws in cond (isOne w) (cond (listedOnce w) behind (At n)) on
 
--- word 16 * role + operation
+-- in the cell of its role and lowest operation
 unfoldable pub strayOf : List ℕ → List ℕ → ℕ → ℕ → List ℕ → List ℕ → StrayPart
 strayOf holders permissions roles ops seen again =
-    strayFrom (λ w. isPartIn holders permissions ops (w / 16) (w % 16)) (λ w. onceIn seen again (w / 16) (w % 16)) 0 (upTo (16 * roles))
+    strayFrom (λ w. isPartIn holders permissions ops (cellRow w) (cellOperation w)) (λ w. onceIn seen again (cellRow w) (cellOperation w)) 0 (upTo (rowStart roles))
 
 -- the answer as code gives it
 unfoldable pub strayPartOf : Option ℕ → StrayPart

@@ -1,28 +1,31 @@
 -- The tables of listed parts are kept line by line, and the first word astray is the first part astray.
 -- Assumes nothing.
-use Prim.Native.Nat.{ℕ, zero, suc, _+_, _*_, _/_, _%_, _-_, _≤_, _<_}
+use Prim.Native.Nat.{ℕ, zero, suc, _+_, _-_, _≤_, _<_}
 use borrow.Author.Tests.{eqb-true, eq-eqb, ne-eqb, ltb-true, ltb-false, lt-ltb, le-ltb}
 use lib.Dec.{eqb, ltb}
 use lib.ListN.{length, getD, set, replicate}
-use mathlib.Core.Bool.{Bool, true, false, cond, _&&_, _||_, not, and-false, false≢true}
-use mathlib.Core.List.{List, [], _∷_, _++_, List·Memᴰ·head, List·Memᴰ·tail}
+use mathlib.Core.Bool.{Bool, true, false, cond, _&&_, _||_, not, and-false, false≢true, and-true}
+use mathlib.Core.List.{List, [], _∷_, _++_}
 use mathlib.Core.Option.{some}
 use mathlib.Core.Path.{_≡_, refl, sym, ap, ap₂, _∙_, subst}
 use native.Mathlib.Nat.{add-zero, add-suc, suc-add, zero-add}
 use native.Mathlib.Omega.{arith}
+use Rattle.role_record.specs.Cells.{rowCells, rowStart, cellAt, cellRow, cellOperation}
+use Rattle.role_record.specs.CellsLaws.{cell-parts}
 use Rattle.role_record.specs.Record.{Sized, tableOf, marked, permissionTable, recordWith, recordOf}
 use Rattle.files.specs.Calls.{first, firstStrayPart}
 use Rattle.files.specs.RuleFile.{RuleCommand, Lines, isPartLine, namesPart, lists, listings, legal, opens, value, operations, link, part, ends}
 use Rattle.rule_listings.specs.Listed.{leadOf, seenAfter, againAfter, listsLead, timesListed, seenTable, againTable, onceIn, strayFrom, strayOf, strayPartOf}
-use Rattle.grant_parts.specs.PartLaws.{part-role, part-lead, part-shown, no-part}
+use Rattle.grant_parts.specs.PartTableLaws.{part-role, part-lead, part-shown, no-part}
 use Rattle.grant_parts.specs.Parts.{isPartIn}
 use Rattle.role_record.specs.RecordLaws.{table-get, table-ext, table-none, table-mark}
 use Rattle.policy.specs.ClassLaws.{part-facts, part-in}
 use Rattle.policy.specs.Mined.{partCount, partAt}
 use Rattle.policy.specs.Policy.{Policy, settingOf, rolesIn}
 use Rattle.policy.specs.Roles.{Part, isPart, parts, classOf}
+use Rattle.sets.specs.ListLaws.{from-next, each-same, each-rows, sum-ext, keep-ext, each-fewer}
 use Rattle.sets.specs.LowestLaws.{lowestFrom-some}
-use Rattle.sets.specs.MaskLaws.{and-true, mask-same, mask-none, least-most}
+use Rattle.sets.specs.MaskLaws.{mask-same, mask-none, least-most}
 use Rattle.sets.specs.Sets.{bit, maskOf}
 use Rattle.sets.specs.SetLaws.{bit-mask}
 use Rattle.sets.specs.Tests.{Is, _isIn_, keep, each, only, from, upTo, sum}
@@ -31,10 +34,6 @@ use Rattle.rule_listings.specs.declared.StrayPart.{StrayPart}
 use Rattle.rule_listings.specs.declared.StrayPart.the-variants.{NoneStray, At}
 
 -- ---- the loop over the words: what is left to look at gives the answer
-
--- there is a word left
-from-next : (w n : ℕ) → w < n → from w (n - w) ≡ w ∷ from (w + 1) (n - (w + 1))
-from-next w n h = let e : n - w ≡ suc (n - (w + 1)) = omega arith in let d : suc w ≡ w + 1 = omega arith in ap (from w) e ∙ ap (λ (x : ℕ). w ∷ from x (n - (w + 1))) d
 
 stray-step : (f g : ℕ → Bool) (m w n : ℕ) (x : StrayPart) (a b : Bool) → w < n → strayFrom f g m (from w (n - w)) ≡ x → f w ≡ a → g w ≡ b
     → cond a (cond b (strayFrom f g (m + 1) (from (w + 1) (n - (w + 1)))) (At m)) (strayFrom f g m (from (w + 1) (n - (w + 1)))) ≡ x
@@ -55,10 +54,10 @@ pub stray-end : (f g : ℕ → Bool) (m w n : ℕ) (x : StrayPart) → n ≤ w �
 stray-end f g m w n x h e = let d : n - w ≡ 0 = omega arith in ap (λ (k : ℕ). strayFrom f g m (from w k)) (sym d) ∙ e
 
 pub stray-begin : (holders permissions : List ℕ) (roles ops : ℕ) (seen again : List ℕ)
-    → strayFrom (λ w. isPartIn holders permissions ops (w / 16) (w % 16)) (λ w. onceIn seen again (w / 16) (w % 16)) 0 (from 0 (16 * roles - 0)) ≡ strayOf holders permissions roles ops seen again
+    → strayFrom (λ w. isPartIn holders permissions ops (cellRow w) (cellOperation w)) (λ w. onceIn seen again (cellRow w) (cellOperation w)) 0 (from 0 (rowStart roles - 0)) ≡ strayOf holders permissions roles ops seen again
 unfolding strayOf
 stray-begin holders permissions roles ops seen again =
-    let d : 16 * roles - 0 ≡ 16 * roles = omega arith in ap (λ (k : ℕ). strayFrom (λ w. isPartIn holders permissions ops (w / 16) (w % 16)) (λ w. onceIn seen again (w / 16) (w % 16)) 0 (from 0 k)) d
+    let d : rowStart roles - 0 ≡ rowStart roles = omega arith in ap (λ (k : ℕ). strayFrom (λ w. isPartIn holders permissions ops (cellRow w) (cellOperation w)) (λ w. onceIn seen again (cellRow w) (cellOperation w)) 0 (from 0 k)) d
 
 -- ---- how often a part is listed, line by line
 
@@ -221,67 +220,13 @@ places-first f g d k (x ∷ xs) h = go (f x) (g k) (h 0 (omega arith) ∙ ap g (
     go false true e r = absurd (false≢true e)
     go false false e r = r
 
--- ---- words, 16 for each role
-
-from-split : (k n m : ℕ) → from k (n + m) ≡ from k n ++ from (k + n) m
-from-split k zero m = let e : 0 + m ≡ m = omega arith in let d : k ≡ k + 0 = omega arith in ap (from k) e ∙ ap (λ (x : ℕ). from x m) d
-from-split k (suc n) m =
-    ap (from k) (suc-add n m) ∙ ap (λ (l : List ℕ). k ∷ l) (from-split (suc k) n m ∙ ap (λ (x : ℕ). from (suc k) n ++ from x m) (suc-add k n ∙ sym (add-suc k n)))
-
-joined-lists : {A : Type 0} (a b c : List A) → ((a ++ b) ++ c) ≡ (a ++ (b ++ c))
-joined-lists [] b c = refl
-joined-lists (x ∷ a) b c = ap (λ l. x ∷ l) (joined-lists a b c)
-
-each-split : {A : Type 0} (g : ℕ → List A) (a b : List ℕ) → each g (a ++ b) ≡ each g a ++ each g b
-each-split g [] b = refl
-each-split g (x ∷ a) b = ap (λ l. g x ++ l) (each-split g a b) ∙ sym (joined-lists (g x) (each g a) (each g b))
-
-each-same : {A : Type 0} (f g : ℕ → List A) (k n : ℕ) → ((i : ℕ) → k ≤ i → i < k + n → f i ≡ g i) → each f (from k n) ≡ each g (from k n)
-each-same f g k zero h = refl
-each-same f g k (suc n) h = ap₂ (λ a b. a ++ b) (h k (omega arith) (omega arith)) (each-same f g (suc k) n (λ i a b. h i (omega arith) (omega arith)))
-
-each-nothing : {A : Type 0} (g : ℕ → List A) (k n : ℕ) → ((i : ℕ) → k ≤ i → g i ≡ []) → each g (from k n) ≡ []
-each-nothing g k zero h = refl
-each-nothing g k (suc n) h = ap₂ (λ a b. a ++ b) (h k (omega arith)) (each-nothing g (suc k) n (λ i a. h i (omega arith)))
-
-each-moved : {A : Type 0} (g : ℕ → List A) (a k n : ℕ) → each g (from (a + k) n) ≡ each (λ o. g (a + o)) (from k n)
-each-moved g a k zero = refl
-each-moved g a k (suc n) = ap (λ l. g (a + k) ++ l) (ap (λ (x : ℕ). each g (from x n)) (sym (add-suc a k)) ∙ each-moved g a (suc k) n)
-
-each-rows : {A : Type 0} (g : ℕ → List A) (k n : ℕ) → each g (from (16 * k) (16 * n)) ≡ each (λ j. each (λ o. g (16 * j + o)) (upTo 16)) (from k n)
-each-rows g k zero = refl
-each-rows g k (suc n) =
-    let e : 16 * suc n ≡ 16 + 16 * n = omega arith in
-    let d : 16 * k + 16 ≡ 16 * suc k = omega arith in
-    let z : 16 * k ≡ 16 * k + 0 = omega arith in
-    ap (λ (x : ℕ). each g (from (16 * k) x)) e
-    ∙ ap (each g) (from-split (16 * k) 16 (16 * n))
-    ∙ each-split g (from (16 * k) 16) (from (16 * k + 16) (16 * n))
-    ∙ ap₂ (λ a b. a ++ b) (ap (λ (x : ℕ). each g (from x 16)) z ∙ each-moved g (16 * k) 0 16) (ap (λ (x : ℕ). each g (from x (16 * n))) d ∙ each-rows g (suc k) n)
-
-append-nothing : {A : Type 0} (l : List A) → (l ++ []) ≡ l
-append-nothing [] = refl
-append-nothing (x ∷ l) = ap (λ l. x ∷ l) (append-nothing l)
+-- ---- words, a row for each role
 
 -- listed once: at least once, and not at least twice
 once-number : (t : ℕ) → cond (ltb 1 t) false (ltb 0 t) ≡ eqb t 1
 once-number zero = refl
 once-number (suc zero) = refl
 once-number (suc (suc t)) = rw (lt-ltb 1 (suc (suc t)) (omega arith), ne-eqb (suc (suc t)) 1 (omega arith)) refl
-
-sum-same : (f g : Lines → ℕ) (rules : List Lines) → ((ls : Lines) → ls isIn rules → f ls ≡ g ls) → sum f rules ≡ sum g rules
-sum-same f g [] h = refl
-sum-same f g (ls ∷ rules) h = ap₂ _+_ (h ls (List·Memᴰ·head refl)) (sum-same f g rules (λ x m. h x (List·Memᴰ·tail m)))
-
-count-same : (f g : RuleCommand → Bool) (ls : Lines) → ((c : RuleCommand) → c isIn ls → f c ≡ g c) → length (keep f ls) ≡ length (keep g ls)
-count-same f g [] h = refl
-count-same f g (c ∷ ls) h = go (f c) (g c) (h c (List·Memᴰ·head refl)) (count-same f g ls (λ x m. h x (List·Memᴰ·tail m)))
-  where
-    go : (a b : Bool) → a ≡ b → length (keep f ls) ≡ length (keep g ls) → length (cond a (c ∷ keep f ls) (keep f ls)) ≡ length (cond b (c ∷ keep g ls) (keep g ls))
-    go true true e r = ap suc r
-    go true false e r = absurd (false≢true (sym e))
-    go false true e r = absurd (false≢true e)
-    go false false e r = r
 
 once-listed : (rules : List Lines) (k o : ℕ) → k < 32 → o < 64 → onceIn (seenTable rules) (againTable rules) k o ≡ eqb (timesListed rules k o) 1
 unfolding onceIn seenTable againTable
@@ -350,44 +295,35 @@ module _ (F : Policy) (Z : Sized F) where
   unfolding timesListed listings lists
   times-listings rules h p l =
       let q = partAt (settingOf F) (rolesIn F) p in
-      sum-same (λ ls. length (keep (listsLead (q .role) (q .lead)) ls)) (λ ls. length (keep (namesPart (q .role) (classOf (settingOf F) (rolesIn F) q)) ls)) rules
-      (λ ls m. count-same (listsLead (q .role) (q .lead)) (namesPart (q .role) (classOf (settingOf F) (rolesIn F) q)) ls (λ c mc. lists-lead (part-in (settingOf F) (rolesIn F) p l) c (h ls m c mc)))
+      sum-ext (λ ls. length (keep (listsLead (q .role) (q .lead)) ls)) (λ ls. length (keep (namesPart (q .role) (classOf (settingOf F) (rolesIn F) q)) ls)) rules
+      (λ ls m. ap length (keep-ext (listsLead (q .role) (q .lead)) (namesPart (q .role) (classOf (settingOf F) (rolesIn F) q)) ls (λ c mc. lists-lead (part-in (settingOf F) (rolesIn F) p l) c (h ls m c mc))))
 
   -- ---- the words that are parts
 
   -- what word w stands for
   wordPart : ℕ → List Part
-  wordPart w = only (isPartIn (recordOf F .holders) (permissionTable F) (F .operations) (w / 16) (w % 16)) (record { role = w / 16; lead = w % 16 })
+  wordPart w = only (isPartIn (recordOf F .holders) (permissionTable F) (F .operations) (cellRow w) (cellOperation w)) (record { role = cellRow w; lead = cellOperation w })
 
   rolePart : ℕ → ℕ → List Part
   rolePart k o = only (isPartIn (recordOf F .holders) (permissionTable F) (F .operations) k o) (record { role = k; lead = o })
 
-  role-words : (k : ℕ) → k < 32 → each (λ o. wordPart (16 * k + o)) (upTo 16) ≡ each (λ o. only (isPart (settingOf F) (rolesIn F) k o) (record { role = k; lead = o })) (upTo (F .operations))
+  role-words : (k : ℕ) → k < 32 → each (λ o. wordPart (cellAt k o)) (upTo rowCells) ≡ each (λ o. only (isPart (settingOf F) (rolesIn F) k o) (record { role = k; lead = o })) (upTo (F .operations))
   unfolding wordPart rolePart recordOf recordWith
   role-words k hk =
       let n = Z .operable in
-      let e : 16 ≡ F .operations + (16 - F .operations) = omega arith in
-      each-same (λ o. wordPart (16 * k + o)) (rolePart k) 0 16 (λ o a b. word-role o (omega arith))
-      ∙ ap (λ (x : ℕ). each (rolePart k) (from 0 x)) e
-      ∙ ap (each (rolePart k)) (from-split 0 (F .operations) (16 - F .operations))
-      ∙ each-split (rolePart k) (from 0 (F .operations)) (from (0 + F .operations) (16 - F .operations))
-      ∙ ap₂ (λ a b. a ++ b)
-      (each-same (rolePart k) (λ o. only (isPart (settingOf F) (rolesIn F) k o) (record { role = k; lead = o })) 0 (F .operations) (λ o a b. ap (λ (x : Bool). only x (record { role = k; lead = o })) (part-shown F Z k o hk (omega arith))))
-      (each-nothing (rolePart k) (0 + F .operations) (16 - F .operations) (λ o a. ap (λ (x : Bool). only x (record { role = k; lead = o })) (no-part (recordOf F .holders) (permissionTable F) (F .operations) k o (omega arith))))
-      ∙ append-nothing (each (λ o. only (isPart (settingOf F) (rolesIn F) k o) (record { role = k; lead = o })) (upTo (F .operations)))
+      each-same (λ o. wordPart (cellAt k o)) (rolePart k) 0 rowCells (λ o a b. word-role o (omega arith))
+      ∙ each-fewer (rolePart k) (F .operations) rowCells n (λ o a b. ap (λ (x : Bool). only x (record { role = k; lead = o })) (no-part (recordOf F .holders) (permissionTable F) (F .operations) k o a))
+      ∙ each-same (rolePart k) (λ o. only (isPart (settingOf F) (rolesIn F) k o) (record { role = k; lead = o })) 0 (F .operations) (λ o a b. ap (λ (x : Bool). only x (record { role = k; lead = o })) (part-shown F Z k o hk (omega arith)))
     where
-      word-role : (o : ℕ) → o < 16 → wordPart (16 * k + o) ≡ rolePart k o
-      word-role o l =
-          let a : (16 * k + o) / 16 ≡ k = omega arith in
-          let b : (16 * k + o) % 16 ≡ o = omega arith in
-          ap₂ (λ (x y : ℕ). only (isPartIn (recordOf F .holders) (permissionTable F) (F .operations) x y) (record { role = x; lead = y })) a b
+      word-role : (o : ℕ) → o < rowCells → wordPart (cellAt k o) ≡ rolePart k o
+      word-role o l = cell-parts (λ x y. only (isPartIn (recordOf F .holders) (permissionTable F) (F .operations) x y) (record { role = x; lead = y })) k o l
 
-  parts-words : each wordPart (upTo (16 * F .roles)) ≡ parts (settingOf F) (rolesIn F)
+  parts-words : each wordPart (upTo (rowStart (F .roles))) ≡ parts (settingOf F) (rolesIn F)
   unfolding parts settingOf rolesIn
   parts-words =
       let n = Z .few in
-      each-rows wordPart 0 (F .roles)
-      ∙ each-same (λ k. each (λ o. wordPart (16 * k + o)) (upTo 16)) (λ k. each (λ o. only (isPart (settingOf F) (rolesIn F) k o) (record { role = k; lead = o })) (upTo (F .operations))) 0 (F .roles) (λ k a b. role-words k (omega arith))
+      each-rows wordPart rowCells 0 (F .roles)
+      ∙ each-same (λ k. each (λ o. wordPart (cellAt k o)) (upTo rowCells)) (λ k. each (λ o. only (isPart (settingOf F) (rolesIn F) k o) (record { role = k; lead = o })) (upTo (F .operations))) 0 (F .roles) (λ k a b. role-words k (omega arith))
 
   once-part : (rules : List Lines) → ((ls : Lines) → ls isIn rules → (c : RuleCommand) → c isIn ls → Is (legal (settingOf F) (rolesIn F) c)) → (p : ℕ) → p < partCount (settingOf F) (rolesIn F)
       → onceIn (seenTable rules) (againTable rules) (partAt (settingOf F) (rolesIn F) p .role) (partAt (settingOf F) (rolesIn F) p .lead) ≡ eqb (listings (settingOf F) (rolesIn F) rules p) 1
@@ -402,7 +338,7 @@ module _ (F : Policy) (Z : Sized F) where
       → strayOf (recordOf F .holders) (permissionTable F) (F .roles) (F .operations) (seenTable rules) (againTable rules) ≡ strayPartOf (firstStrayPart (settingOf F) (rolesIn F) rules)
   unfolding strayOf firstStrayPart partCount partAt wordPart
   stray-means rules h =
-      words-first (λ w. isPartIn (recordOf F .holders) (permissionTable F) (F .operations) (w / 16) (w % 16)) (λ w. onceIn (seenTable rules) (againTable rules) (w / 16) (w % 16)) (λ w. record { role = w / 16; lead = w % 16 }) astray 0 (upTo (16 * F .roles)) (λ w. refl)
+      words-first (λ w. isPartIn (recordOf F .holders) (permissionTable F) (F .operations) (cellRow w) (cellOperation w)) (λ w. onceIn (seenTable rules) (againTable rules) (cellRow w) (cellOperation w)) (λ w. record { role = cellRow w; lead = cellOperation w }) astray 0 (upTo (rowStart (F .roles))) (λ w. refl)
       ∙ ap (firstFrom astray 0) parts-words
       ∙ places-first astray (λ p. not (eqb (listings (settingOf F) (rolesIn F) rules p) 1)) (record { role = 0; lead = 0 }) 0 (parts (settingOf F) (rolesIn F)) (λ p l. astray-listed p l ∙ ap (λ (x : ℕ). not (eqb (listings (settingOf F) (rolesIn F) rules x) 1)) (sym (zero-add p)))
     where

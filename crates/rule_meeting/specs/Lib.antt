@@ -1,3 +1,3 @@
 pub mod Meeting
 pub mod MeetingLaws
-pub mod MeansLaws
+pub mod MeetingMeansLaws

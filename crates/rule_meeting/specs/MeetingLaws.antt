@@ -7,7 +7,7 @@ use lib.ListN.{getD}
 use mathlib.Core.Bool.{Bool, _&&_}
 use mathlib.Core.List.{List}
 use mathlib.Core.Path.{_≡_, sym, ap, ap₂, _∙_}
-use Rattle.rule_meeting.specs.Meeting.{order, metAt, holdsAll}
+use Rattle.rule_meeting.specs.Meeting.{order, meetsAt, holdsAll}
 use Rattle.sets.specs.Sets.{narrowing, bit, maskOf}
 use Rattle.sets.specs.MaskLaws.{mask-same, mask-wide}
 use Rattle.sets.specs.SetLaws.{bit-mask}
@@ -26,11 +26,11 @@ pub column-met : (known : ℕ) (values : List ℕ) (column count v : ℕ) (conta
     → passing ≡ maskOf 64 (λ x. order contained v (getD values (64 * column + x) 0))
     → knowing ≡ maskOf 64 (λ k. bit known k && bit passing k)
     → met ≡ maskOf 64 (λ k. bit there k && bit knowing k)
-    → met ≡ maskOf count (metAt known values column v contained)
-unfolding metAt
+    → met ≡ maskOf count (meetsAt known values column v contained)
+unfolding meetsAt
 column-met known values column count v contained {there} {passing} {knowing} l et ep ek em =
-    em ∙ mask-same 64 (λ k. bit there k && bit knowing k) (λ k. ltb k count && metAt known values column v contained k)
+    em ∙ mask-same 64 (λ k. bit there k && bit knowing k) (λ k. ltb k count && meetsAt known values column v contained k)
     (λ k h. ap₂ _&&_ (ap (λ (m : ℕ). bit m k) et ∙ bit-mask 64 (λ k. ltb k count) k h)
     (ap (λ (m : ℕ). bit m k) ek ∙ bit-mask 64 (λ k. bit known k && bit passing k) k h
     ∙ ap (λ (b : Bool). bit known k && b) (ap (λ (m : ℕ). bit m k) ep ∙ bit-mask 64 (λ x. order contained v (getD values (64 * column + x) 0)) k h)))
-    ∙ sym (mask-wide count 64 (metAt known values column v contained) l)
+    ∙ sym (mask-wide count 64 (meetsAt known values column v contained) l)

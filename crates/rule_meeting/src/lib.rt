@@ -3,10 +3,12 @@ ghost use mathlib.Core.Path.{_≡_};
 ghost use Prim.Native.Nat.{_+_, _*_, _≤_, _<_};
 ghost use lib.ListN.{getD};
 ghost use Rattle.sets.specs.Sets.{maskOf};
-ghost use Rattle.rule_meeting.specs.Meeting.{order, metAt, holdsAll, meetingOf};
+ghost use Rattle.rule_meeting.specs.Meeting.{order, meetsAt, holdsAll, meetingOf, countBy};
+ghost use Rattle.role_record.specs.Record.{WithinLimits};
 use role_record::ByAttribute;
 use role_record::ByRole;
 use role_record::RoleFile;
+use role_record::Sizes;
 use role_record::Values;
 
 // Whose values in a column, known or not, pass for the listed one: by containment, or by equality.
@@ -30,7 +32,7 @@ fn in_column(
     contained: bool,
 ) -> u64
     requires { ⌜ (column < 12) × (count ≤ 64) ⌝ }
-    ensures { λ r. ⌜ r ≡ maskOf count (metAt known (now (values .entry)) column v contained) ⌝ }
+    ensures { λ r. ⌜ r ≡ maskOf count (meetsAt known (now (values .entry)) column v contained) ⌝ }
 {
     let knowing = sets::meet(known, passing(values, column, v, contained));
     sets::meet(sets::below(count), knowing)
@@ -56,27 +58,26 @@ pub fn meeting<'a>(
     set: bool,
     attribute: usize,
     v: u64,
-    count: usize,
-    roles: usize,
+    sizes: Sizes,
     known: &'a ByAttribute,
     values: &'a Values,
     holders: &'a ByRole,
 ) -> u64
-    requires { ⌜ (side < 2) × (count ≤ 64) × (roles ≤ 32) ⌝ }
+    requires { ⌜ (side < 2) × WithinLimits sizes ⌝ }
     ensures { λ r. ⌜
         r
-        ≡ meetingOf side set attribute v count roles (now (known .entry)) (now (values .entry))
-        (now (holders .entry)) ⌝ }
+        ≡ meetingOf side set attribute v (countBy side (sizes .users) (sizes .resources)) (sizes .roles)
+        (now (known .entry)) (now (values .entry)) (now (holders .entry)) ⌝ }
 {
     if attribute < RoleFile::ATTRIBUTES {
         let column = RoleFile::ATTRIBUTES * side + attribute;
         if side == 0 {
-            return in_column(known[column], values, column, count, v, set);
+            return in_column(known[column], values, column, sizes.users, v, set);
         }
-        return in_column(known[column], values, column, count, v, false);
+        return in_column(known[column], values, column, sizes.resources, v, false);
     }
     if side == 0 {
-        return holding_all(holders, count, roles, v);
+        return holding_all(holders, sizes.users, sizes.roles, v);
     }
     sets::with(0, v as usize)
 }

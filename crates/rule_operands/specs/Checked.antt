@@ -15,7 +15,7 @@ use Rattle.rule_operands.specs.declared.Checked.the-variants.{Legal, Ill
 use Rattle.rule_commands.specs.declared.Atom.{Atom}
 use Rattle.rule_commands.specs.declared.Atom.the-variants.{SetContainsSet, SetContainsSingle, SingleEqualsSingle}
 use Rattle.rule_commands.specs.declared.RuleCommand.{RuleCommand}
-use Rattle.rule_commands.specs.declared.RuleCommand.the-variants.{Opens, UserSingle, UserSet, ResourceSingle, ResourceSet, Operations, Link, Part, Ends}
+use Rattle.rule_commands.specs.declared.RuleCommand.the-variants.{Opens, Value, Operations, Link, Part, Ends}
 
 -- the command, if a test passes
 abbrev pub legalIf : Bool → RuleCommand → Checked
@@ -24,9 +24,9 @@ legalIf false c = Illegal
 
 -- ---- the command of each line
 
--- commands 22 to 25: side 0 is the user's
-unfoldable pub valueCommand : ℕ → Bool → ℕ → ℕ → RuleCommand
-valueCommand side set a v = cond (eqb side 0) (cond set (UserSet a v) (UserSingle a v)) (cond set (ResourceSet a v) (ResourceSingle a v))
+-- commands 22 to 25
+abbrev pub valueCommand : ℕ → Bool → ℕ → ℕ → RuleCommand
+valueCommand side set a v = Value (record { side = side; set = set; attribute = a; value = v })
 
 -- command 27: the atom of two attributes, by their kinds
 unfoldable pub atomOf : ℕ → ℕ → List ℕ → Atom

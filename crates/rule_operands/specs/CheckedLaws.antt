@@ -1,25 +1,27 @@
 -- A command is refused just where its operands are illegal, and the command made is the one that the numbers stand for.
 -- Assumes nothing.
-use Prim.Native.Nat.{ℕ}
+use Prim.Native.Nat.{ℕ, _<_}
 use borrow.Author.Tests.{ne-eqb}
 use lib.ListN.{getD}
 use mathlib.Core.Bool.{Bool, true, false, cond}
 use mathlib.Core.List.{List}
-use mathlib.Core.Path.{_≡_, refl, sym, ap, _∙_}
+use mathlib.Core.Path.{_≡_, refl, sym, ap, _∙_, subst}
 use native.Mathlib.Omega.{arith}
-use Rattle.role_record.specs.Record.{Sized, kindTable}
-use Rattle.files.specs.RuleFile.{legal, link}
+use Rattle.role_record.specs.Record.{Sized, attributeTable, kindTable}
+use Rattle.files.specs.RoleFile.{sideBy}
+use Rattle.files.specs.RuleFile.{legal, value, link}
 use Rattle.rule_operands.specs.Checked.{legalIf, valueCommand, atomOf, checkedValue, checkedOperations, checkedLink, checkedPart, checkedOf, checkedBeside}
 use Rattle.rule_operands.specs.OperandLaws.{value-means, link-means}
 use Rattle.rule_operands.specs.PartLegalLaws.{part-means}
 use Rattle.policy.specs.Policy.{Policy, settingOf, rolesIn}
-use Rattle.rule_commands.specs.Raw.{commandOf, linkMeaning, ruleMeaning, Shape, shape-opens, shape-user-single, shape-user-set, shape-resource-single, shape-resource-set, shape-operations, shape-link, shape-part, shape-ends}
+use Rattle.policy.specs.Rules.{resource}
+use Rattle.rule_commands.specs.Raw.{commandOf, linkMeaning, ruleMeaning, Sided, Shape, shape-opens, shape-user-single, shape-user-set, shape-resource-single, shape-resource-set, shape-operations, shape-link, shape-part, shape-ends}
 use Rattle.sets.specs.Sets.{bit}
 use Rattle.sets.specs.Tests.{Is}
 use Rattle.rule_operands.specs.declared.Checked.the-variants.{Legal, Illegal}
 use Rattle.rule_commands.specs.declared.Atom.the-variants.{SetContainsSet, SetContainsSingle, SingleEqualsSingle}
 use Rattle.rule_commands.specs.declared.RuleCommand.{RuleCommand}
-use Rattle.rule_commands.specs.declared.RuleCommand.the-variants.{Opens, UserSingle, UserSet, ResourceSingle, ResourceSet, Operations, Link, Part, Ends}
+use Rattle.rule_commands.specs.declared.RuleCommand.the-variants.{Opens, Operations, Link, Part, Ends}
 
 -- ---- what the code works out
 
@@ -92,31 +94,43 @@ module _ (F : Policy) (Z : Sized F) where
   record Answered (b x y : ℕ) : Type 0 where
     command : RuleCommand
     stands : ruleMeaning command ≡ commandOf b x y
+    sided : Sided command
     answer : checkedBeside F b x y ≡ legalIf (legal (settingOf F) (rolesIn F) (commandOf b x y)) command
 
+  -- a command that lists a value
+  value-answered : (side : ℕ) (set : Bool) (a v : ℕ) {b : ℕ} → side < 2 → commandOf b a v ≡ value (sideBy side) set a v → checkedBeside F b a v ≡ checkedValue side set a v (F .roles) (F .table resource .count) (attributeTable F) (kindTable F) → Answered b a v
+  unfolding checkedValue Sided
+  value-answered side set a v h e k = record {
+    command = valueCommand side set a v;
+    stands = sym e;
+    sided = h;
+    answer = k ∙ ap (λ (t : Bool). legalIf t (valueCommand side set a v)) (value-means F Z side set a v h ∙ ap (legal (settingOf F) (rolesIn F)) (sym e));
+  }
+
   answered : {b x y : ℕ} → Shape b x y → Answered b x y
-  unfolding checkedOf checkedValue valueCommand checkedOperations checkedLink checkedPart atomOf commandOf legal settingOf
-  answered shape-opens = record { command = Opens; stands = refl; answer = refl }
-  answered (shape-user-single a v) = record { command = UserSingle a v; stands = refl; answer = ap (λ (t : Bool). legalIf t (UserSingle a v)) (value-means F Z 0 false a v (omega arith)) }
-  answered (shape-user-set a v) = record { command = UserSet a v; stands = refl; answer = ap (λ (t : Bool). legalIf t (UserSet a v)) (value-means F Z 0 true a v (omega arith)) }
-  answered (shape-resource-single a v) = record { command = ResourceSingle a v; stands = refl; answer = ap (λ (t : Bool). legalIf t (ResourceSingle a v)) (value-means F Z 1 false a v (omega arith)) }
-  answered (shape-resource-set a v) = record { command = ResourceSet a v; stands = refl; answer = ap (λ (t : Bool). legalIf t (ResourceSet a v)) (value-means F Z 1 true a v (omega arith)) }
-  answered (shape-operations m) = record { command = Operations m; stands = refl; answer = refl }
+  unfolding checkedOf checkedOperations checkedLink checkedPart atomOf commandOf legal settingOf Sided
+  answered shape-opens = record { command = Opens; stands = refl; sided = tt; answer = refl }
+  answered (shape-user-single a v) = value-answered 0 false a v (omega arith) refl refl
+  answered (shape-user-set a v) = value-answered 0 true a v (omega arith) refl refl
+  answered (shape-resource-single a v) = value-answered 1 false a v (omega arith) refl refl
+  answered (shape-resource-set a v) = value-answered 1 true a v (omega arith) refl refl
+  answered (shape-operations m) = record { command = Operations m; stands = refl; sided = tt; answer = refl }
   answered (shape-link a b) = record {
     command = Link (atomOf a b (kindTable F));
     stands = atom-joins (bit (getD (kindTable F) 0 0) a) (bit (getD (kindTable F) 1 0) b) a b;
+    sided = tt;
     answer = ap (λ (t : Bool). legalIf t (Link (atomOf a b (kindTable F)))) (link-means F Z a b);
   }
-  answered (shape-part k m) = record { command = Part k m; stands = refl; answer = ap (λ (t : Bool). legalIf t (Part k m)) (part-means F Z k m) }
-  answered shape-ends = record { command = Ends; stands = refl; answer = refl }
+  answered (shape-part k m) = record { command = Part k m; stands = refl; sided = tt; answer = ap (λ (t : Bool). legalIf t (Part k m)) (part-means F Z k m) }
+  answered shape-ends = record { command = Ends; stands = refl; sided = tt; answer = refl }
 
   -- THE LAWS
   pub checked-illegal : {b x y : ℕ} → Shape b x y → checkedBeside F b x y ≡ Illegal → legal (settingOf F) (rolesIn F) (commandOf b x y) ≡ false
   checked-illegal {b} {x} {y} s e = let t = answered s in answer-illegal (legal (settingOf F) (rolesIn F) (commandOf b x y)) (t .command) (sym (t .answer) ∙ e)
 
   pub checked-legal : {b x y : ℕ} → Shape b x y → (c : RuleCommand) → checkedBeside F b x y ≡ Legal c
-      → Is (legal (settingOf F) (rolesIn F) (commandOf b x y)) × (ruleMeaning c ≡ commandOf b x y)
+      → Is (legal (settingOf F) (rolesIn F) (commandOf b x y)) × (ruleMeaning c ≡ commandOf b x y) × Sided c
   checked-legal {b} {x} {y} s c e =
       let t = answered s in
       let k = answer-legal (legal (settingOf F) (rolesIn F) (commandOf b x y)) (t .command) c (sym (t .answer) ∙ e) in
-      (k .0, ap ruleMeaning (sym (k .1)) ∙ t .stands)
+      (k .0, ap ruleMeaning (sym (k .1)) ∙ t .stands, subst Sided (k .1) (t .sided))

@@ -5,8 +5,9 @@ use lib.Dec.{eqb, ltb}
 use lib.ListN.{getD}
 use mathlib.Core.Bool.{Bool, true, false, cond, not}
 use mathlib.Core.List.{List}
-use Rattle.grant_parts.specs.Parts.{cellAt, classRow}
+use Rattle.grant_parts.specs.Parts.{classRow}
 use Rattle.policy.specs.Rules.{own}
+use Rattle.role_record.specs.Cells.{cellAt}
 use Rattle.sets.specs.Lowest.{lowestFrom}
 use Rattle.sets.specs.Sets.{bit}
 use Rattle.sets.specs.Tests.{iff}

@@ -4,15 +4,18 @@ ghost use mathlib.Core.Bool.{_&&_};
 ghost use Prim.Native.Nat.{_+_, _*_, _^_, _≤_, _<_};
 ghost use lib.Dec.{ltb};
 ghost use Rattle.sets.specs.Tests.{iff};
+ghost use Rattle.role_record.specs.Record.{WithinLimits};
 ghost use Rattle.rule_operands.specs.Operands.{ownLegal, valueLegal, linkLegal, partLegal};
-ghost use Rattle.rule_operands.specs.Checked.{valueCommand, atomOf, checkedValue, checkedOperations, checkedLink, checkedPart, checkedOf};
+ghost use Rattle.rule_operands.specs.Checked.{atomOf, checkedValue, checkedOperations, checkedLink, checkedPart, checkedOf};
 use files::rule_byte;
 use role_record::ByRole;
 use role_record::ByRoleOperation;
 use role_record::BySide;
 use role_record::CountBySide;
 use role_record::RoleFile;
+use role_record::Sizes;
 use rule_commands::Atom;
+use rule_commands::ListedValue;
 use rule_commands::RuleCommand;
 
 // A command whose operands are legal, or word that they are not.
@@ -54,25 +57,23 @@ fn same(a: bool, b: bool) -> bool
 
 // Commands 22 to 25: a declared attribute of the right kind, or a 255 where it may stand.
 pub fn value_legal<'a>(
-    side: usize,
-    set: bool,
-    attribute: u64,
-    v: u64,
-    roles: usize,
-    resources: usize,
+    v: ListedValue,
+    sizes: Sizes,
     attributes: &'a CountBySide,
     kinds: &'a BySide,
 ) -> bool
-    requires { ⌜ (side < 2) × (roles ≤ 32) ⌝ }
+    requires { ⌜ (v .side < 2) × WithinLimits sizes ⌝ }
     ensures { λ r. ⌜
-        r ≡ valueLegal side set attribute v roles resources (now (attributes .entry)) (now (kinds .entry)) ⌝ }
+        r
+        ≡ valueLegal (v .side) (v .set) (v .attribute) (v .value) (sizes .roles) (sizes .resources)
+        (now (attributes .entry)) (now (kinds .entry)) ⌝ }
 {
-    if attribute == rule_byte::OWN as u64 {
-        return own_legal(side, set, v, roles, resources);
+    if v.attribute == rule_byte::OWN {
+        return own_legal(v.side, v.set, v.value, sizes.roles, sizes.resources);
     }
-    let a = attribute as usize;
-    if a < attributes[side] {
-        return same(sets::has(kinds[side], a), set);
+    let side = v.side;
+    if v.attribute < attributes[side] {
+        return same(sets::has(kinds[side], v.attribute), v.set);
     }
     false
 }
@@ -133,50 +134,29 @@ pub fn part_legal<'a>(
     grant_parts::class_of(permissions, k, operations, o) == m
 }
 
-// The command of a value of an attribute: which of the four follows from the side and the kind.
-fn value_command(side: usize, set: bool, a: usize, v: u64) -> RuleCommand
-    ensures { λ r. ⌜ r ≡ valueCommand side set a v ⌝ }
-{
-    if side == 0 {
-        if set {
-            return RuleCommand::UserSet {
-                attribute: a,
-                set: v,
-            };
-        }
-        return RuleCommand::UserSingle {
-            attribute: a,
-            value: v,
-        };
-    }
-    if set {
-        return RuleCommand::ResourceSet {
-            attribute: a,
-            set: v,
-        };
-    }
-    RuleCommand::ResourceSingle {
-        attribute: a,
-        value: v,
-    }
-}
-
-// Commands 22 to 25.
+// Commands 22 to 25: which of the four follows from the side and the kind.
 fn check_value<'a>(
     side: usize,
     set: bool,
     x: u64,
     y: u64,
-    roles: usize,
-    resources: usize,
+    sizes: Sizes,
     attributes: &'a CountBySide,
     kinds: &'a BySide,
 ) -> Checked
-    requires { ⌜ (side < 2) × (roles ≤ 32) ⌝ }
-    ensures { λ r. ⌜ r ≡ checkedValue side set x y roles resources (now (attributes .entry)) (now (kinds .entry)) ⌝ }
+    requires { ⌜ (side < 2) × WithinLimits sizes ⌝ }
+    ensures { λ r. ⌜
+        r
+        ≡ checkedValue side set x y (sizes .roles) (sizes .resources) (now (attributes .entry)) (now (kinds .entry)) ⌝ }
 {
-    if value_legal(side, set, x, y, roles, resources, attributes, kinds) {
-        return Checked::Legal(value_command(side, set, x as usize, y));
+    let v = ListedValue {
+        side: side,
+        set: set,
+        attribute: x as usize,
+        value: y,
+    };
+    if value_legal(v, sizes, attributes, kinds) {
+        return Checked::Legal(RuleCommand::Value(v));
     }
     Checked::Illegal
 }
@@ -219,15 +199,16 @@ fn check_link<'a>(x: u64, y: u64, attributes: &'a CountBySide, kinds: &'a BySide
 fn check_part<'a>(
     x: u64,
     y: u64,
-    roles: usize,
-    operations: usize,
+    sizes: Sizes,
     holders: &'a ByRole,
     permissions: &'a ByRoleOperation,
 ) -> Checked
-    requires { ⌜ (roles ≤ 32) × (operations ≤ 16) ⌝ }
-    ensures { λ r. ⌜ r ≡ checkedPart x y roles operations (now (holders .entry)) (now (permissions .entry)) ⌝ }
+    requires { ⌜ WithinLimits sizes ⌝ }
+    ensures { λ r. ⌜
+        r
+        ≡ checkedPart x y (sizes .roles) (sizes .operations) (now (holders .entry)) (now (permissions .entry)) ⌝ }
 {
-    if part_legal(x, y, roles, operations, holders, permissions) {
+    if part_legal(x, y, sizes.roles, sizes.operations, holders, permissions) {
         return Checked::Legal(RuleCommand::Part {
             role: x as usize,
             operations: y,
@@ -241,38 +222,27 @@ pub fn check<'a>(
     b: usize,
     x: u64,
     y: u64,
-    resources: usize,
-    operations: usize,
-    roles: usize,
+    sizes: Sizes,
     attributes: &'a CountBySide,
     kinds: &'a BySide,
     holders: &'a ByRole,
     permissions: &'a ByRoleOperation,
 ) -> Checked
-    requires { ⌜ (roles ≤ 32) × (operations ≤ 16) ⌝ }
+    requires { ⌜ WithinLimits sizes ⌝ }
     ensures { λ r. ⌜
         r
-        ≡ checkedOf b x y resources operations roles (now (attributes .entry)) (now (kinds .entry))
-        (now (holders .entry)) (now (permissions .entry)) ⌝ }
+        ≡ checkedOf b x y (sizes .resources) (sizes .operations) (sizes .roles) (now (attributes .entry))
+        (now (kinds .entry)) (now (holders .entry)) (now (permissions .entry)) ⌝ }
 {
     match b {
         rule_byte::OPENS => Checked::Legal(RuleCommand::Opens),
-        rule_byte::USER_SINGLE => check_value(0, false, x, y, roles, resources, attributes, kinds),
-        rule_byte::USER_SET => check_value(0, true, x, y, roles, resources, attributes, kinds),
-        rule_byte::RESOURCE_SINGLE => check_value(
-            1,
-            false,
-            x,
-            y,
-            roles,
-            resources,
-            attributes,
-            kinds,
-        ),
-        rule_byte::RESOURCE_SET => check_value(1, true, x, y, roles, resources, attributes, kinds),
-        rule_byte::OPERATIONS => check_operations(x, operations),
+        rule_byte::USER_SINGLE => check_value(0, false, x, y, sizes, attributes, kinds),
+        rule_byte::USER_SET => check_value(0, true, x, y, sizes, attributes, kinds),
+        rule_byte::RESOURCE_SINGLE => check_value(1, false, x, y, sizes, attributes, kinds),
+        rule_byte::RESOURCE_SET => check_value(1, true, x, y, sizes, attributes, kinds),
+        rule_byte::OPERATIONS => check_operations(x, sizes.operations),
         rule_byte::LINK => check_link(x, y, attributes, kinds),
-        rule_byte::PART => check_part(x, y, roles, operations, holders, permissions),
+        rule_byte::PART => check_part(x, y, sizes, holders, permissions),
         _ => Checked::Legal(RuleCommand::Ends),
     }
 }

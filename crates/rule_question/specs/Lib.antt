@@ -1,1 +1,1 @@
-pub mod QuestionLaws
+pub mod RuleQuestionLaws

@@ -5,6 +5,7 @@ ghost use Rattle.files.specs.Answer.{told};
 ghost use Rattle.files.specs.Calls.{yesNo, ruleQuestion};
 ghost use Rattle.grant_grids.specs.Grid.{inGrid};
 ghost use Rattle.role_question.specs.Reply.{replyNumbers};
+ghost use Rattle.role_record.specs.Cells.{rowCells};
 use files::refusal;
 use role_question::Reply;
 use role_record::Grid;
@@ -12,7 +13,7 @@ use role_record::RoleFile;
 
 // Whether a grid has a triple.
 fn in_grid(grid: &Grid, user: usize, resource: usize, operation: usize) -> bool
-    requires { ⌜ (user < 64) × (operation < 16) ⌝ }
+    requires { ⌜ (user < 64) × (operation < rowCells) ⌝ }
     ensures { λ r. ⌜ r ≡ inGrid (now (grid .entry)) user resource operation ⌝ }
 {
     sets::has(grid[RoleFile::OPERATIONS * user + operation], resource)

@@ -5,42 +5,33 @@ use borrow.Author.Tests.{eqb-true, ne-eqb, ltb-true, ltb-false, lt-ltb, le-ltb}
 use lib.Dec.{eqb, ltb}
 use lib.ListN.{length, getD}
 use mathlib.Core.Bool.{Bool, true, false, cond, _&&_}
-use mathlib.Core.List.{[], _∷_, _++_, List·Memᴰ·head, List·Memᴰ·tail, List·Memᴰ·append-cases, Memᴰ·append-left, Memᴰ·append-right}
-use mathlib.Core.Logic.{_⊎_, inl, inr, ⊎-elim}
+use mathlib.Core.List.{[], _∷_, _++_, List·Memᴰ·head, List·Memᴰ·tail}
+use mathlib.Core.Logic.{⊎-elim}
 use mathlib.Core.Path.{_≡_, refl, sym, ap, ap₂, _∙_, subst}
 use native.Mathlib.Omega.{arith}
-use Rattle.rule_conjuncts.specs.LineLaws.{only-none}
-use Rattle.rule_conjuncts.specs.Summary.{placeSide, placeAttribute, valuesFor, metFor, metTable, askedPlaces, metByAll}
-use Rattle.rule_conjuncts.specs.SummaryLaws.{all-same, side-met}
+use Rattle.rule_conjuncts.specs.SummaryLineLaws.{only-none}
+use Rattle.rule_conjuncts.specs.Summary.{valuesFor, metFor, metTable, askedPlaces, metByAll}
+use Rattle.rule_conjuncts.specs.SummaryLaws.{side-met}
 use Rattle.files.specs.LineLaws.{same-side}
 use Rattle.files.specs.RoleFile.{sideBy, sameSide}
 use Rattle.files.specs.RuleFile.{RuleCommand, Lines, listed, valuesIn, conjunctsIn, legal, opens, value, operations, link, part, ends}
+use Rattle.role_record.specs.Places.{placeSide, placeAttribute}
 use Rattle.role_record.specs.Record.{Sized}
 use Rattle.role_record.specs.RecordLaws.{table-get}
 use Rattle.policy.specs.Policy.{Policy, sideOf, settingOf, rolesIn}
+use Rattle.policy.specs.PolicyLaws.{attributes-of, attribute-of}
 use Rattle.policy.specs.Roles.{Roles}
 use Rattle.policy.specs.Rules.{own, Which, by, Setting, meets, attrsOf, holds, user, resource}
+use Rattle.policy.specs.SideLaws.{own-in}
 use Rattle.rule_satisfaction.specs.Satisfaction.{Legal, asks}
+use Rattle.sets.specs.ListLaws.{all-ext}
 use Rattle.sets.specs.SetLaws.{bit-mask}
 use Rattle.sets.specs.Sets.{narrowing, bit, maskOf}
-use Rattle.sets.specs.TestLaws.{and-l, and-r, test, fails, same, all-out, all-in, only-in, only-out, upTo-in, upTo-out}
-use Rattle.sets.specs.Tests.{Is, imp, iff, _isIn_, all, only, upTo}
+use Rattle.sets.specs.TestLaws.{and-l, and-r, test, fails, same, all-out, all-in, upTo-in, upTo-out}
+use Rattle.sets.specs.Tests.{Is, imp, iff, all, upTo}
 
 pub legal-rest : (P : Setting) (R : Roles) (c : RuleCommand) (ls : Lines) → Legal P R (c ∷ ls) → Legal P R ls
 legal-rest P R c ls h d m = h d (List·Memᴰ·tail m)
-
--- the attributes that a rule may use: those declared and the 255
-attribute-cases : (F : Policy) (w : Which) (a : ℕ) → a isIn attrsOf (settingOf F .side w) true → (a < length (F .table w .kinds)) ⊎ (a ≡ own)
-unfolding attrsOf settingOf sideOf
-attribute-cases F w a m = ⊎-elim (λ k. inl (upTo-out (length (F .table w .kinds)) k)) (λ k. inr (only-out true k .1)) (List·Memᴰ·append-cases (upTo (length (F .table w .kinds))) m)
-
-declared-in : (F : Policy) (w : Which) (a : ℕ) → a < length (F .table w .kinds) → a isIn attrsOf (settingOf F .side w) true
-unfolding attrsOf settingOf sideOf
-declared-in F w a l = Memᴰ·append-left (only true own) (upTo-in l)
-
-own-in : (F : Policy) (w : Which) → own isIn attrsOf (settingOf F .side w) true
-unfolding attrsOf settingOf sideOf
-own-in F w = Memᴰ·append-right (upTo (length (F .table w .kinds))) (only-in own refl)
 
 -- all conjuncts of a side hold for somebody exactly if every attribute of the side asks no more
 pub conjuncts-ask : (F : Policy) (ls : Lines) (w : Which) (u r : ℕ) → all (λ c. holds (settingOf F) c u r) (conjunctsIn (settingOf F) ls w) ≡ all (asks F ls w (by w u r)) (attrsOf (settingOf F .side w) true)
@@ -111,13 +102,13 @@ module _ (F : Policy) (Z : Sized F) where
         there q = all-in (asks F ls w x) (attrsOf (settingOf F .side w) true) (λ a m. ⊎-elim
             (λ (l : a < length (F .table w .kinds)). let k = Z .declared w in subst (λ (y : ℕ). Is (asks F ls w x y)) (ap (λ (b : Bool). cond b own a) (ne-eqb a 6 (λ z. omega arith))) (all-out (λ j. asks F ls w x (cond (eqb j 6) own j)) q (upTo-in {n = 7} {i = a} (omega arith))))
             (λ (e : a ≡ own). rw e (all-out (λ j. asks F ls w x (cond (eqb j 6) own j)) q (upTo-in {n = 7} {i = 6} (omega arith))))
-            (attribute-cases F w a m))
+            (attributes-of F w a m))
 
         back : Is (all (asks F ls w x) (attrsOf (settingOf F .side w) true)) → Is (all (λ j. asks F ls w x (cond (eqb j 6) own j)) (upTo 7))
         back q = all-in (λ j. asks F ls w x (cond (eqb j 6) own j)) (upTo 7) (λ j m. test (eqb j 6)
-            (λ e. rw e (all-out (asks F ls w x) q (own-in F w)))
+            (λ e. rw e (all-out (asks F ls w x) q (own-in (settingOf F .side w) true refl)))
             (λ e. rw e (test (ltb j (length (F .table w .kinds)))
-            (λ l. all-out (asks F ls w x) q (declared-in F w j (ltb-true j (length (F .table w .kinds)) l)))
+            (λ l. all-out (asks F ls w x) q (attribute-of F w j (ltb-true j (length (F .table w .kinds)) l)))
             (λ l. let b = upTo-out 7 m in none-asks w x j (none-listed w j (λ z. omega arith) (ltb-false j (length (F .table w .kinds)) l) ls h)))))
 
     -- who meets all conjuncts of a side
@@ -133,7 +124,7 @@ module _ (F : Policy) (Z : Sized F) where
             → (ltb x (settingOf F .side (sideBy side) .count) && all (λ j. imp (bit (askedPlaces (settingOf F) ls) (7 * side + j)) (bit (getD (metTable (settingOf F) ls) (7 * side + j) 0) x)) (upTo 7)) ≡ (ltb x (settingOf F .side (sideBy side) .count) && all (asks F ls (sideBy side) x) (attrsOf (settingOf F .side (sideBy side)) true))
         inside q =
             ap (λ (b : Bool). ltb x (settingOf F .side (sideBy side) .count) && b)
-            (all-same (λ j. imp (bit (askedPlaces (settingOf F) ls) (7 * side + j)) (bit (getD (metTable (settingOf F) ls) (7 * side + j) 0) x)) (λ j. asks F ls (sideBy side) x (cond (eqb j 6) own j)) (upTo 7)
+            (all-ext (λ j. imp (bit (askedPlaces (settingOf F) ls) (7 * side + j)) (bit (getD (metTable (settingOf F) ls) (7 * side + j) 0) x)) (λ j. asks F ls (sideBy side) x (cond (eqb j 6) own j)) (upTo 7)
             (λ j m. place-asks side j x hs (upTo-out 7 m) hx (ltb-true x (settingOf F .side (sideBy side) .count) q))
             ∙ seven-ask (sideBy side) x)
 

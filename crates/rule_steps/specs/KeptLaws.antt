@@ -12,28 +12,28 @@ use Rattle.grant_grids.specs.Grid.{gridDifference, differenceOf, isSame}
 use Rattle.role_record.specs.Record.{marked}
 use Rattle.grant_blocks.specs.PartGrid.{joinedGrid}
 use Rattle.rule_commands.specs.Raw.{rawBefore}
-use Rattle.rule_steps.specs.Kept.{tallied, countedWith, ruleGrid, closedWith, finishedWith, finishedGrid, mayClose, followsWith}
-use Rattle.rule_steps.specs.Lines.{placeBy, pairNumber, keptAs, notedWith, metMore}
+use Rattle.rule_steps.specs.Tally.{tallied, countedWith, ruleGrid, closedWith, finishedWith, finishedGrid, mayClose, followsWith}
+use Rattle.rule_steps.specs.LineSteps.{placeBy, pairNumber, tallyWith, notedWith, metMore}
 use Rattle.sets.specs.Sets.{bit, maskOf}
 use Rattle.sets.specs.TestLaws.{test}
 use Rattle.grant_grids.specs.declared.Difference.{Difference}
 use Rattle.rule_commands.specs.declared.RuleCommand.{RuleCommand}
-use Rattle.rule_steps.specs.declared.Kept.{Kept}
+use Rattle.rule_steps.specs.declared.Tally.{Tally}
 
-pub counted-same : (k : Kept) (b : Bool) → b ≡ true → tallied k (k .strays) (k .stray) ≡ countedWith k b
+pub counted-same : (k : Tally) (b : Bool) → b ≡ true → tallied k (k .strays) (k .stray) ≡ countedWith k b
 unfolding countedWith
 counted-same k b e = rw e refl
 
-pub counted-late : (k : Kept) (b : Bool) → b ≡ false → k .strays ≡ true → tallied k (k .strays) (k .stray) ≡ countedWith k b
+pub counted-late : (k : Tally) (b : Bool) → b ≡ false → k .strays ≡ true → tallied k (k .strays) (k .stray) ≡ countedWith k b
 unfolding countedWith
 counted-late k b e f = rw e (rw f refl)
 
-pub counted-first : (k : Kept) (b : Bool) → b ≡ false → k .strays ≡ false → tallied k true (k .rules) ≡ countedWith k b
+pub counted-first : (k : Tally) (b : Bool) → b ≡ false → k .strays ≡ false → tallied k true (k .rules) ≡ countedWith k b
 unfolding countedWith
 counted-first k b e f = rw e (rw f refl)
 
 -- the same of a grid that is the rule's
-pub closed-by : (k : Kept) (met listed links : List ℕ) (users resources acts : ℕ) (own : List ℕ) (d : Difference) (b : Bool) (r : Kept) → own ≡ ruleGrid k met links users resources
+pub closed-by : (k : Tally) (met listed links : List ℕ) (users resources acts : ℕ) (own : List ℕ) (d : Difference) (b : Bool) (r : Tally) → own ≡ ruleGrid k met links users resources
     → d ≡ differenceOf (gridDifference own listed users resources acts) → b ≡ isSame d → r ≡ countedWith k b → r ≡ closedWith k met listed links users resources acts
 unfolding closedWith
 closed-by k met listed links users resources acts own d b r e f g h =
@@ -41,7 +41,7 @@ closed-by k met listed links users resources acts own d b r e f g h =
 
 -- ---- where commands may stand
 
-module _ (k : Kept) where
+module _ (k : Tally) where
   pub close-outside : k .inside ≡ false → true ≡ mayClose k
   unfolding mayClose
   close-outside e = rw e refl
@@ -104,12 +104,12 @@ pair-none a b h = rw (le-ltb a 6 h) refl
 
 -- ---- the numbers after a line
 
-module _ (k : Kept) (c : RuleCommand) (b x y i p m : ℕ) where
-  pub noted-value : p ≡ i → m ≡ marked (k .asked) p → notedWith k c b x y ≡ keptAs k (marked (k .asked) i) (k .atoms) (k .operations) (k .listing) b x y → keptAs k m (k .atoms) (k .operations) (k .listing) b x y ≡ notedWith k c b x y
-  noted-value e f g = ap (λ t. keptAs k t (k .atoms) (k .operations) (k .listing) b x y) (f ∙ ap (marked (k .asked)) e) ∙ sym g
+module _ (k : Tally) (c : RuleCommand) (b x y i p m : ℕ) where
+  pub noted-value : p ≡ i → m ≡ marked (k .asked) p → notedWith k c b x y ≡ tallyWith k (marked (k .asked) i) (k .atoms) (k .operations) (k .listing) b x y → tallyWith k m (k .atoms) (k .operations) (k .listing) b x y ≡ notedWith k c b x y
+  noted-value e f g = ap (λ t. tallyWith k t (k .atoms) (k .operations) (k .listing) b x y) (f ∙ ap (marked (k .asked)) e) ∙ sym g
 
-  pub noted-link : p ≡ i → m ≡ marked (k .atoms) p → notedWith k c b x y ≡ keptAs k (k .asked) (marked (k .atoms) i) (k .operations) (k .listing) b x y → keptAs k (k .asked) m (k .operations) (k .listing) b x y ≡ notedWith k c b x y
-  noted-link e f g = ap (λ t. keptAs k (k .asked) t (k .operations) (k .listing) b x y) (f ∙ ap (marked (k .atoms)) e) ∙ sym g
+  pub noted-link : p ≡ i → m ≡ marked (k .atoms) p → notedWith k c b x y ≡ tallyWith k (k .asked) (marked (k .atoms) i) (k .operations) (k .listing) b x y → tallyWith k (k .asked) m (k .operations) (k .listing) b x y ≡ notedWith k c b x y
+  noted-link e f g = ap (λ t. tallyWith k (k .asked) t (k .operations) (k .listing) b x y) (f ∙ ap (marked (k .atoms)) e) ∙ sym g
 
 pub second-some : (b m : ℕ) → b ≡ 0x26 → not (eqb m 0) ≡ (eqb b 0x26 && not (eqb m 0))
 second-some b m e = rw e refl

@@ -1,6 +1,6 @@
-pub mod Kept
+pub mod Tally
 pub mod KeptLaws
-pub mod Lines
+pub mod LineSteps
 pub mod Shows
 pub mod ShowsLaws
 pub mod StrayLaws

@@ -16,7 +16,7 @@ use Rattle.policy.specs.Rules.{Block}
 use Rattle.rule_commands.specs.Raw.{InOrder}
 use Rattle.rule_satisfaction.specs.Satisfaction.{Legal}
 use Rattle.sets.specs.Tests.{_isIn_, any, isSome}
-use Rattle.rule_steps.specs.declared.Kept.{Kept}
+use Rattle.rule_steps.specs.declared.Tally.{Tally}
 
 module _ (F : Policy) where
   -- what some rules grant within the sizes
@@ -24,7 +24,7 @@ module _ (F : Policy) where
   grantedWithin rules u r o = isTriple (settingOf F) u r o && rulesGrant (settingOf F) rules u r o
 
   -- of the rules that are complete
-  pub record Stored (rules : List Lines) (k : Kept) (grid seen again : List ℕ) : Type 0 where
+  pub record Stored (rules : List Lines) (k : Tally) (grid seen again : List ℕ) : Type 0 where
     pub all-legal : (ls : Lines) → ls isIn rules → Legal (settingOf F) (rolesIn F) ls
     pub grid-shown : grid ≡ gridOf (grantedWithin rules)
     pub rules-counted : k .rules ≡ length rules
@@ -34,7 +34,7 @@ module _ (F : Policy) where
     pub again-shown : again ≡ againTable rules
 
   -- of those and of the lines of the one that is open; no lines if none is
-  pub record Shows (rules : List Lines) (ls : Lines) (k : Kept) (met listed grid seen again : List ℕ) : Type 0 where
+  pub record Shows (rules : List Lines) (ls : Lines) (k : Tally) (met listed grid seen again : List ℕ) : Type 0 where
     pub all-legal : (ls : Lines) → ls isIn rules → Legal (settingOf F) (rolesIn F) ls
     pub legal-open : Legal (settingOf F) (rolesIn F) ls
     pub met-shown : met ≡ metTable (settingOf F) ls

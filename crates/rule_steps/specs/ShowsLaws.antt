@@ -3,16 +3,18 @@
 use Prim.Native.Nat.{ℕ, _+_, _*_, _≤_, _<_}
 use borrow.Author.Tests.{eqb-true, eqb-false, ne-eqb, ltb-true, lt-ltb, le-ltb}
 use lib.Dec.{eqb, ltb}
-use lib.ListN.{length, getD, set, replicate}
-use mathlib.Core.Bool.{Bool, true, false, cond, _&&_, _||_, false≢true, not, and-false, and-comm, or-true}
+use lib.ListN.{length, getD, set, replicate, length-append}
+use mathlib.Core.Bool.{Bool, true, false, cond, _&&_, _||_, false≢true, not, and-false, and-comm, or-true, or-false, and-or-distrib-left}
 use mathlib.Core.List.{List, [], _∷_, _++_, List·Memᴰ·head, List·Memᴰ·tail, List·Memᴰ·not-nil, List·Memᴰ·append-cases}
 use mathlib.Core.Logic.{⊎-elim}
 use mathlib.Core.Option.{Option, none, some}
 use mathlib.Core.Path.{_≡_, refl, sym, ap, ap₂, _∙_, subst}
 use native.Mathlib.Omega.{arith}
+use Rattle.role_record.specs.Cells.{rowCells, userCells}
+use Rattle.role_record.specs.Places.{placeOf}
 use Rattle.role_record.specs.Record.{Sized, numberOr, tableOf, marked, knownTable, valueTable, permissionTable, recordOf}
-use Rattle.rule_conjuncts.specs.LineLaws.{any-last, met-kept, asked-kept, NoValue, met-line, asked-line, atoms-line, atoms-kept, operations-line, operations-kept, met-none, asked-none, atoms-none}
-use Rattle.rule_conjuncts.specs.Summary.{placeOf, metTable, askedPlaces, atomPlaces, isAtom}
+use Rattle.rule_conjuncts.specs.SummaryLineLaws.{met-kept, asked-kept, NoValue, met-line, asked-line, atoms-line, atoms-kept, operations-line, operations-kept, met-none, asked-none, atoms-none}
+use Rattle.rule_conjuncts.specs.Summary.{metTable, askedPlaces, atomPlaces, isAtom}
 use Rattle.files.specs.Calls.{isTriple, rulesGrant, partsGrant, firstStrayRule}
 use Rattle.files.specs.RoleFile.{sideBy}
 use Rattle.files.specs.LineLaws.{operationsOr}
@@ -22,39 +24,41 @@ use Rattle.grant_grids.specs.GridLaws.{in-grid, grid-same, grids-same}
 use Rattle.rule_listings.specs.Listed.{seenAfter, againAfter, seenTable, againTable}
 use Rattle.rule_listings.specs.ListedLaws.{other-line, empty-rule, no-rules, list-means}
 use Rattle.role_record.specs.RecordLaws.{table-none, table-ext}
-use Rattle.rule_meeting.specs.Meeting.{meetingOf}
-use Rattle.rule_meeting.specs.MeansLaws.{meeting-means}
+use Rattle.rule_meeting.specs.Meeting.{meetingOf, countBy}
+use Rattle.rule_meeting.specs.MeetingMeansLaws.{meeting-means}
 use Rattle.grant_blocks.specs.PartGrid.{addedPart, joinedGrid}
 use Rattle.grant_blocks.specs.PartGridLaws.{grid-kept, none-listed, joined-means, part-added}
 use Rattle.policy.specs.ClassLaws.{part-facts}
 use Rattle.policy.specs.Policy.{Policy, kindOf, isSetAt, sideOf, settingOf, rolesIn}
 use Rattle.policy.specs.Roles.{parts, classOf}
 use Rattle.policy.specs.Rules.{own, Which, by, Block, Triple, grants, sameBlock, user, resource}
-use Rattle.rule_commands.specs.OrderLaws.{order-none}
-use Rattle.rule_commands.specs.Raw.{InOrder, rawBefore, commandOf, linkMeaning, ruleMeaning, Shape, shape-opens, shape-user-single, shape-user-set, shape-resource-single, shape-resource-set, shape-operations, shape-link, shape-part, shape-ends}
+use Rattle.rule_commands.specs.CommandOrderLaws.{order-none}
+use Rattle.rule_commands.specs.Raw.{InOrder, rawBefore, commandOf, linkMeaning, ruleMeaning, Shape, shape-opens, shape-user-single, shape-user-set, shape-resource-single, shape-resource-set, shape-operations, shape-link, shape-part, shape-ends, Sided}
 use Rattle.rule_grants.specs.RuleGrid.{summaryGrants}
 use Rattle.rule_satisfaction.specs.Satisfaction.{Legal}
-use Rattle.rule_grants.specs.SummaryLaws.{summary-means}
-use Rattle.rule_steps.specs.Kept.{begunWith, countedWith, ruleGrid, closedWith, mayClose, followsWith}
-use Rattle.rule_steps.specs.Lines.{placeBy, pairNumber, atomNumber, keptAs, notedWith, metMore, metAfter, PartWithin, listedAfter, seenBy, againBy}
+use Rattle.rule_grants.specs.SummaryGridLaws.{summary-means}
+use Rattle.rule_steps.specs.Tally.{begunWith, countedWith, ruleGrid, closedWith, mayClose, followsWith}
+use Rattle.rule_steps.specs.LineSteps.{placeBy, pairNumber, atomNumber, tallyWith, notedWith, metMore, metAfter, PartWithin, listedAfter, seenBy, againBy}
 use Rattle.rule_steps.specs.Shows.{grantedWithin, Stored, Shows}
 use Rattle.grant_grids.specs.Links.{linksOf}
-use Rattle.rule_steps.specs.StrayLaws.{orElse, strays, stray-more, grants-more, rules-long}
-use Rattle.sets.specs.MaskLaws.{mask-none, or-false}
+use Rattle.rule_steps.specs.StrayLaws.{orElse, strays, stray-more, grants-more}
+use Rattle.sets.specs.ListLaws.{any-last}
+use Rattle.sets.specs.MaskLaws.{mask-none}
 use Rattle.sets.specs.Sets.{bit, maskOf}
 use Rattle.sets.specs.Tests.{Is, iff, _isIn_, any, isSome}
 use Rattle.sets.specs.TestLaws.{and-in, and-l, and-r, test, iff-out, any-out, only-out}
 use Rattle.rule_commands.specs.declared.Atom.{Atom}
-use Rattle.rule_commands.specs.declared.Atom.the-variants.{SetContainsSet, SetContainsSingle, SingleEqualsSingle}
 use Rattle.rule_commands.specs.declared.RuleCommand.{RuleCommand}
-use Rattle.rule_commands.specs.declared.RuleCommand.the-variants.{Opens, UserSingle, UserSet, ResourceSingle, ResourceSet, Operations, Link, Part, Ends}
-use Rattle.rule_steps.specs.declared.Kept.{Kept}
+use Rattle.rule_steps.specs.declared.Tally.{Tally}
+use Rattle.rule_steps.specs.LineSteps.{metWith}
+use Rattle.rule_commands.specs.declared.Atom.the-variants.{SetContainsSet, SetContainsSingle, SingleEqualsSingle}
+use Rattle.rule_commands.specs.declared.RuleCommand.the-variants.{Opens, Value, Operations, Link, Part, Ends}
 
 -- ---- the beginning
 
-pub nothing-granted : replicate {A = ℕ} 1024 0 ≡ gridOf (λ u r o. false)
+pub nothing-granted : replicate {A = ℕ} userCells 0 ≡ gridOf (λ u r o. false)
 unfolding gridOf
-nothing-granted = table-none 1024 ∙ table-ext 1024 (λ i. 0) (λ i. maskOf 64 (λ r. false)) (λ i l. sym (mask-none 64 (λ r. false) (λ r h. refl)))
+nothing-granted = table-none userCells ∙ table-ext userCells (λ i. 0) (λ i. maskOf 64 (λ r. false)) (λ i l. sym (mask-none 64 (λ r. false) (λ r h. refl)))
 
 one-of : {A : Type 0} (x : A) {y : A} → y isIn (x ∷ []) → y ≡ x
 one-of x m = only-out true m .1
@@ -64,7 +68,7 @@ module _ (F : Policy) where
   unfolding grantedWithin rulesGrant
   none-granted u r o = sym (and-false (isTriple (settingOf F) u r o))
 
-  pub stored-begun : Stored F [] begunWith (replicate 1024 0) (replicate 32 0) (replicate 32 0)
+  pub stored-begun : Stored F [] begunWith (replicate userCells 0) (replicate 32 0) (replicate 32 0)
   unfolding begunWith firstStrayRule
   stored-begun = record {
     all-legal = λ ls m. absurd (List·Memᴰ·not-nil m);
@@ -77,7 +81,7 @@ module _ (F : Policy) where
   }
 
   -- behind a 21, or before the first: a rule without lines
-  pub shows-opened : (rules : List Lines) (k n : Kept) (met listed grid seen again : List ℕ) → Stored F rules k grid seen again → met ≡ tableOf 14 (λ i. 0) → listed ≡ gridOf (λ u r o. false)
+  pub shows-opened : (rules : List Lines) (k n : Tally) (met listed grid seen again : List ℕ) → Stored F rules k grid seen again → met ≡ tableOf 14 (λ i. 0) → listed ≡ gridOf (λ u r o. false)
       → n .asked ≡ 0 → n .atoms ≡ 0 → n .operations ≡ 0 → n .listing ≡ false → n .last ≡ 0x21 → n .rules ≡ k .rules → n .strays ≡ k .strays → n .stray ≡ k .stray
       → Shows F rules [] n met listed grid seen again
   shows-opened rules k n met listed grid seen again s hm hl a b c d e f g h = record {
@@ -101,7 +105,7 @@ module _ (F : Policy) where
 -- ---- closing the open rule
 
 -- the first stray rule, counted on
-counted-on : (k : Kept) (same : Bool) (x : Option ℕ) (n : ℕ) → k .strays ≡ isSome x → k .stray ≡ numberOr x → k .rules ≡ n
+counted-on : (k : Tally) (same : Bool) (x : Option ℕ) (n : ℕ) → k .strays ≡ isSome x → k .stray ≡ numberOr x → k .rules ≡ n
     → (countedWith k same .rules ≡ n + 1) × (countedWith k same .strays ≡ isSome (orElse x (cond (not same) (some n) none))) × (countedWith k same .stray ≡ numberOr (orElse x (cond (not same) (some n) none)))
 unfolding countedWith
 counted-on k true none n a b c = (ap (λ (t : ℕ). t + 1) c, a, b)
@@ -111,7 +115,7 @@ counted-on k false (some x) n a b c = rw a (ap (λ (t : ℕ). t + 1) c, refl, b)
 
 module _ (F : Policy) (Z : Sized F) where
   -- a triple lies within the tables
-  within-tables : (u r o : ℕ) → Triple (settingOf F) u r o → (u < 64) × (r < 64) × (o < 16)
+  within-tables : (u r o : ℕ) → Triple (settingOf F) u r o → (u < 64) × (r < 64) × (o < rowCells)
   unfolding settingOf sideOf
   within-tables u r o t =
       let a = Z .many user in
@@ -130,7 +134,7 @@ module _ (F : Policy) (Z : Sized F) where
   abbrev own-grants : Lines → Block
   own-grants ls u r o = isTriple (settingOf F) u r o && grants (settingOf F) (ruleIn (settingOf F) ls) u r o
 
-  module _ (rules : List Lines) (ls : Lines) (k : Kept) (met listed grid seen again : List ℕ) (s : Shows F rules ls k met listed grid seen again) where
+  module _ (rules : List Lines) (ls : Lines) (k : Tally) (met listed grid seen again : List ℕ) (s : Shows F rules ls k met listed grid seen again) where
     rule-shown : ruleGrid k met (linksOf F) (F .table user .count) (F .table resource .count) ≡ gridOf (own-grants ls)
     unfolding ruleGrid
     rule-shown =
@@ -159,11 +163,7 @@ module _ (F : Policy) (Z : Sized F) where
         ap₂ joinedGrid rule-shown (s .grid-shown)
         ∙ joined-means (own-grants ls) (grantedWithin F rules)
         ∙ grid-same (λ u r o. grantedWithin F rules u r o || own-grants ls u r o) (grantedWithin F (rules ++ (ls ∷ [])))
-        (λ u r o hu hr ho. both-within (isTriple (settingOf F) u r o) (rulesGrant (settingOf F) rules u r o) (grants (settingOf F) (ruleIn (settingOf F) ls) u r o) ∙ ap (λ (b : Bool). isTriple (settingOf F) u r o && b) (sym (grants-more (settingOf F) (rolesIn F) rules ls u r o)))
-      where
-        both-within : (a b c : Bool) → ((a && b) || (a && c)) ≡ (a && (b || c))
-        both-within true b c = refl
-        both-within false b c = refl
+        (λ u r o hu hr ho. sym (and-or-distrib-left (isTriple (settingOf F) u r o) (rulesGrant (settingOf F) rules u r o) (grants (settingOf F) (ruleIn (settingOf F) ls) u r o)) ∙ ap (λ (b : Bool). isTriple (settingOf F) u r o && b) (sym (grants-more (settingOf F) (rolesIn F) rules ls u r o)))
 
     abbrev closed-same : Bool
     closed-same = isSame (differenceOf (gridDifference (ruleGrid k met (linksOf F) (F .table user .count) (F .table resource .count)) listed (F .table user .count) (F .table resource .count) (F .operations)))
@@ -183,7 +183,7 @@ module _ (F : Policy) (Z : Sized F) where
     stored-closed = record {
       all-legal = λ t m. ⊎-elim (λ i. s .all-legal t i) (λ i. subst (Legal (settingOf F) (rolesIn F)) (sym (one-of ls i)) (s .legal-open)) (List·Memᴰ·append-cases rules m);
       grid-shown = joined-shown;
-      rules-counted = counted .0 ∙ sym (rules-long rules ls);
+      rules-counted = counted .0 ∙ sym (length-append rules (ls ∷ []));
       strays-shown = counted .1 ∙ ap isSome (sym one-more);
       stray-shown = counted .2 ∙ ap numberOr (sym one-more);
       seen-shown = s .seen-shown;
@@ -270,10 +270,7 @@ module _ (F : Policy) (Z : Sized F) where
   pub part-within : (c : RuleCommand) → Is (legal (settingOf F) (rolesIn F) (ruleMeaning c)) → PartWithin c
   unfolding PartWithin legal rolesIn
   part-within Opens h = tt
-  part-within (UserSingle a v) h = tt
-  part-within (UserSet a v) h = tt
-  part-within (ResourceSingle a v) h = tt
-  part-within (ResourceSet a v) h = tt
+  part-within (Value v) h = tt
   part-within (Operations m) h = tt
   part-within (Link t) h = tt
   part-within (Part k m) h =
@@ -284,7 +281,7 @@ module _ (F : Policy) (Z : Sized F) where
       omega arith
   part-within Ends h = tt
 
-  module _ (rules : List Lines) (ls : Lines) (k : Kept) (met listed grid seen again : List ℕ) (s : Shows F rules ls k met listed grid seen again) where
+  module _ (rules : List Lines) (ls : Lines) (k : Tally) (met listed grid seen again : List ℕ) (s : Shows F rules ls k met listed grid seen again) where
     -- ---- where commands may stand
 
     some-operations : (m : ℕ) → Is (legal (settingOf F) (rolesIn F) (operations m)) → true ≡ not (eqb m 0)
@@ -337,7 +334,7 @@ module _ (F : Policy) (Z : Sized F) where
           → met₁ ≡ metTable (settingOf F) (ls ++ (c ∷ [])) → asks ≡ askedPlaces (settingOf F) (ls ++ (c ∷ [])) → joins ≡ atomPlaces (ls ++ (c ∷ [])) → acts ≡ operationsIn (ls ++ (c ∷ []))
           → lists ≡ any isPartLine (ls ++ (c ∷ [])) → listed₁ ≡ gridOf (partsGrant (settingOf F) (rolesIn F) (ls ++ (c ∷ [])))
           → seen₁ ≡ seenTable (rules ++ ((ls ++ (c ∷ [])) ∷ [])) → again₁ ≡ againTable (rules ++ ((ls ++ (c ∷ [])) ∷ []))
-          → Shows F rules (ls ++ (c ∷ [])) (keptAs k asks joins acts lists b x y) met₁ listed₁ grid seen₁ again₁
+          → Shows F rules (ls ++ (c ∷ [])) (tallyWith k asks joins acts lists b x y) met₁ listed₁ grid seen₁ again₁
       assembled c h o asks joins acts lists met₁ listed₁ seen₁ again₁ e1 e2 e3 e4 e5 e6 e7 e8 = record {
         all-legal = s .all-legal;
         legal-open = λ d m. ⊎-elim (λ i. s .legal-open d i) (λ i. subst (λ (t : Line). Is (legal (settingOf F) (rolesIn F) t)) (sym (one-of c i)) h) (List·Memᴰ·append-cases ls m);
@@ -383,7 +380,7 @@ module _ (F : Policy) (Z : Sized F) where
 
       -- a line of an attribute's value
       value-line : (side : ℕ) (kind : Bool) (a v : ℕ) → side < 2 → Is (legal (settingOf F) (rolesIn F) (value (sideBy side) kind a v)) → InOrder b x y (ls ++ (value (sideBy side) kind a v ∷ []))
-          → Shows F rules (ls ++ (value (sideBy side) kind a v ∷ [])) (keptAs k (marked (k .asked) (placeBy side a)) (k .atoms) (k .operations) (k .listing) b x y)
+          → Shows F rules (ls ++ (value (sideBy side) kind a v ∷ [])) (tallyWith k (marked (k .asked) (placeBy side a)) (k .atoms) (k .operations) (k .listing) b x y)
           (metMore met (placeBy side a) (meetingOf side kind a v (F .table (sideBy side) .count) (F .roles) (knownTable F) (valueTable F) (recordOf F .holders))) listed grid seen again
       value-line side kind a v hs h o =
           let c = value (sideBy side) kind a v in
@@ -394,7 +391,7 @@ module _ (F : Policy) (Z : Sized F) where
 
       -- a line of an atom
       link-line : (a j : ℕ) → Is (legal (settingOf F) (rolesIn F) (link a j)) → InOrder b x y (ls ++ (link a j ∷ []))
-          → Shows F rules (ls ++ (link a j ∷ [])) (keptAs k (k .asked) (marked (k .atoms) (pairNumber a j)) (k .operations) (k .listing) b x y) met listed grid seen again
+          → Shows F rules (ls ++ (link a j ∷ [])) (tallyWith k (k .asked) (marked (k .atoms) (pairNumber a j)) (k .operations) (k .listing) b x y) met listed grid seen again
       link-line a j h o =
           let c = link a j in
           assembled c h o _ _ _ _ _ _ _ _ (met-same c (λ w t i. refl)) (asked-same c (λ w t i. refl))
@@ -403,33 +400,37 @@ module _ (F : Policy) (Z : Sized F) where
 
       -- a line that changes nothing
       idle-line : (c : Line) → Is (legal (settingOf F) (rolesIn F) c) → InOrder b x y (ls ++ (c ∷ [])) → NoValue c → ((i : ℕ) → isAtom i c ≡ false) → ((n : ℕ) → operationsOr c n ≡ n) → isPartLine c ≡ false
-          → Shows F rules (ls ++ (c ∷ [])) (keptAs k (k .asked) (k .atoms) (k .operations) (k .listing) b x y) met listed grid seen again
+          → Shows F rules (ls ++ (c ∷ [])) (tallyWith k (k .asked) (k .atoms) (k .operations) (k .listing) b x y) met listed grid seen again
       idle-line c h o p q r t =
           assembled c h o _ _ _ _ _ _ _ _ (met-same c p) (asked-same c p) (atoms-same c q) (operations-same c r) (listing-same c t) (listed-same c t) (seen-same c t) (again-same c t)
 
       linked : (t : Atom) → Is (legal (settingOf F) (rolesIn F) (linkMeaning t)) → InOrder b x y (ls ++ (linkMeaning t ∷ []))
-          → Shows F rules (ls ++ (linkMeaning t ∷ [])) (keptAs k (k .asked) (marked (k .atoms) (atomNumber t)) (k .operations) (k .listing) b x y) met listed grid seen again
+          → Shows F rules (ls ++ (linkMeaning t ∷ [])) (tallyWith k (k .asked) (marked (k .atoms) (atomNumber t)) (k .operations) (k .listing) b x y) met listed grid seen again
       unfolding atomNumber
       linked (SetContainsSet a j) h o = link-line a j h o
       linked (SetContainsSingle a j) h o = link-line a j h o
       linked (SingleEqualsSingle a j) h o = link-line a j h o
 
+      count-shown : (side : ℕ) → countBy side (F .table user .count) (F .table resource .count) ≡ F .table (sideBy side) .count
+      count-shown side = test (eqb side 0) (λ e. rw e refl) (λ e. rw e refl)
+
       -- THE LAW of a line
-      pub shows-line : (c : RuleCommand) → Is (legal (settingOf F) (rolesIn F) (ruleMeaning c)) → InOrder b x y (ls ++ (ruleMeaning c ∷ [])) → (isOperations (ruleMeaning c) ≡ true → any isOperations ls ≡ false)
+      pub shows-line : (c : RuleCommand) → Sided c → Is (legal (settingOf F) (rolesIn F) (ruleMeaning c)) → InOrder b x y (ls ++ (ruleMeaning c ∷ [])) → (isOperations (ruleMeaning c) ≡ true → any isOperations ls ≡ false)
           → Shows F rules (ls ++ (ruleMeaning c ∷ [])) (notedWith k c b x y)
           (metAfter (F .table user .count) (F .table resource .count) (F .roles) (knownTable F) (valueTable F) (recordOf F .holders) met c)
           (listedAfter (recordOf F .holders) (permissionTable F) listed c) grid (seenBy seen c) (againBy seen again c)
-      unfolding notedWith metAfter listedAfter seenBy againBy
-      shows-line Opens h o n = idle-line opens h o (λ w t i. refl) (λ i. refl) (λ m. refl) refl
-      shows-line (UserSingle a v) h o n = value-line 0 false a v (omega arith) h o
-      shows-line (UserSet a v) h o n = value-line 0 true a v (omega arith) h o
-      shows-line (ResourceSingle a v) h o n = value-line 1 false a v (omega arith) h o
-      shows-line (ResourceSet a v) h o n = value-line 1 true a v (omega arith) h o
-      shows-line (Operations m) h o n =
+      unfolding notedWith metAfter metWith listedAfter seenBy againBy Sided
+      shows-line Opens q h o n = idle-line opens h o (λ w t i. refl) (λ i. refl) (λ m. refl) refl
+      shows-line (Value v) q h o n =
+          subst
+          (λ (m : ℕ). Shows F rules (ls ++ (ruleMeaning (Value v) ∷ [])) (notedWith k (Value v) b x y)
+          (metMore met (placeBy (v .side) (v .attribute)) (meetingOf (v .side) (v .set) (v .attribute) (v .value) m (F .roles) (knownTable F) (valueTable F) (recordOf F .holders))) listed grid seen again)
+          (sym (count-shown (v .side))) (value-line (v .side) (v .set) (v .attribute) (v .value) q h o)
+      shows-line (Operations m) q h o n =
           let c = operations m in
           assembled c h o _ _ _ _ _ _ _ _ (met-same c (λ w t i. refl)) (asked-same c (λ w t i. refl)) (atoms-same c (λ i. refl)) (sym (operations-line ls m (n refl))) (listing-same c refl) (listed-same c refl) (seen-same c refl) (again-same c refl)
-      shows-line (Link t) h o n = linked t h o
-      shows-line (Part j m) h o n =
+      shows-line (Link t) q h o n = linked t h o
+      shows-line (Part j m) q h o n =
           let c = part j m in
           let t = list-means F Z rules ls j m h in
           assembled c h o _ _ _ _ _ _ _ _ (met-same c (λ w t i. refl)) (asked-same c (λ w t i. refl)) (atoms-same c (λ i. refl)) (operations-same c (λ n. refl))
@@ -437,4 +438,4 @@ module _ (F : Policy) (Z : Sized F) where
           (ap (addedPart (getD (recordOf F .holders) j 0) (permissionTable F) j m) (s .listed-shown) ∙ part-added F Z ls j m h)
           (ap (λ (u : List ℕ). seenAfter u j m) (s .seen-shown) ∙ t .0)
           (ap₂ (λ (u w : List ℕ). againAfter u w j m) (s .seen-shown) (s .again-shown) ∙ t .1)
-      shows-line Ends h o n = idle-line ends h o (λ w t i. refl) (λ i. refl) (λ m. refl) refl
+      shows-line Ends q h o n = idle-line ends h o (λ w t i. refl) (λ i. refl) (λ m. refl) refl

@@ -3,12 +3,14 @@
 ghost use lib.Dec.{eqb};
 ghost use mathlib.Core.Bool.{_&&_, not};
 ghost use mathlib.Core.Path.{_≡_};
-ghost use Prim.Native.Nat.{_+_, _^_, _≤_, _<_};
+ghost use Prim.Native.Nat.{_+_, _^_, _<_};
 ghost use Rattle.grant_grids.specs.Grid.{isSame};
-ghost use Rattle.rule_meeting.specs.Meeting.{meetingOf};
 ghost use Rattle.grant_blocks.specs.PartGrid.{joinedGrid};
-ghost use Rattle.rule_steps.specs.Kept.{begunWith, openedWith, countedWith, ruleGrid, closedWith, finishedWith, finishedGrid, mayClose, followsWith};
-ghost use Rattle.rule_steps.specs.Lines.{placeBy, pairNumber, atomNumber, notedWith, metMore, metAfter, PartWithin, listedAfter, seenBy, againBy};
+ghost use Rattle.rule_steps.specs.Tally.{begunWith, openedWith, countedWith, ruleGrid, closedWith, finishedWith, finishedGrid, mayClose, followsWith};
+ghost use Rattle.rule_steps.specs.LineSteps.{placeBy, pairNumber, atomNumber, notedWith, metAfter, PartWithin, listedAfter, seenBy, againBy};
+ghost use Rattle.role_record.specs.Record.{WithinLimits};
+ghost use Rattle.rule_commands.specs.Raw.{Sided};
+ghost use Rattle.rule_steps.specs.LineSteps.{metWith};
 use files::rule_byte;
 use grant_grids::Difference;
 use role_record::ByAttribute;
@@ -19,13 +21,18 @@ use role_record::BySide;
 use role_record::Grid;
 use role_record::Links;
 use role_record::RoleFile;
+use role_record::Sizes;
 use role_record::Values;
 use rule_commands::Atom;
+use rule_commands::ListedValue;
 use rule_commands::RuleCommand;
+
+// In the place of an atom's number where there is none: no set has it.
+const NO_ATOM: usize = 64;
 
 // The numbers that are kept: of the open rule the places that have values, the atoms, the operations (0 until there is a 26), whether a
 // part is listed, and the last command with its operands; of the rules before it how many there are, and the first stray one.
-pub struct Kept {
+pub struct Tally {
     pub inside: bool,
     pub asked: u64,
     pub atoms: u64,
@@ -40,10 +47,10 @@ pub struct Kept {
 }
 
 // Before the first command.
-pub fn begun() -> Kept
+pub fn begun() -> Tally
     ensures { λ r. ⌜ r ≡ begunWith ⌝ }
 {
-    Kept {
+    Tally {
         inside: false,
         asked: 0,
         atoms: 0,
@@ -59,10 +66,10 @@ pub fn begun() -> Kept
 }
 
 // Behind a 21: nothing of the rule is there yet.
-pub fn opened(k: Kept) -> Kept
+pub fn opened(k: Tally) -> Tally
     ensures { λ r. ⌜ r ≡ openedWith k ⌝ }
 {
-    Kept {
+    Tally {
         inside: true,
         asked: 0,
         atoms: 0,
@@ -78,7 +85,7 @@ pub fn opened(k: Kept) -> Kept
 }
 
 // One more rule is complete; it grants the same as its parts, or it is stray.
-fn counted(k: Kept, same: bool) -> Kept
+fn counted(k: Tally, same: bool) -> Tally
     requires { ⌜ k .rules + 1 < 2 ^ 64 ⌝ }
     ensures { λ r. ⌜ r ≡ countedWith k same ⌝ }
 {
@@ -106,23 +113,25 @@ fn is_same(d: Difference) -> bool
 
 // Closes the open rule: joins what it grants to what the rules before it do, and counts it.
 fn close<'a>(
-    k: Kept,
+    k: Tally,
     met: &'a ByPlace,
     listed: &'a Grid,
     kinds: &'a BySide,
     links: &'a Links,
-    users: usize,
-    resources: usize,
-    operations: usize,
+    sizes: Sizes,
     grid: &mut Grid,
-) -> Kept
-    requires { ⌜ (users ≤ 64) × (resources ≤ 64) × (operations ≤ 16) × (k .rules + 1 < 2 ^ 64) ⌝ }
+) -> Tally
+    requires { ⌜ WithinLimits sizes × (k .rules + 1 < 2 ^ 64) ⌝ }
     ensures { λ r. ⌜
-        (r ≡ closedWith k (now (met .entry)) (now (listed .entry)) (now (links .entry)) users resources operations)
+        (r
+        ≡ closedWith k (now (met .entry)) (now (listed .entry)) (now (links .entry)) (sizes .users)
+        (sizes .resources) (sizes .operations))
         × (now (grid .exit)
-        ≡ joinedGrid (ruleGrid k (now (met .entry)) (now (links .entry)) users resources)
+        ≡ joinedGrid (ruleGrid k (now (met .entry)) (now (links .entry)) (sizes .users) (sizes .resources))
         (now (grid .entry))) ⌝ }
 {
+    let users = sizes.users;
+    let resources = sizes.resources;
     let mut own = [0u64; RoleFile::USERS * RoleFile::OPERATIONS];
     rule_grants::rule_grid(
         met,
@@ -136,13 +145,13 @@ fn close<'a>(
         &mut own,
     );
     grant_blocks::join(&own, grid);
-    let d = grant_grids::first_difference(&own, listed, users, resources, operations);
+    let d = grant_grids::first_difference(&own, listed, users, resources, sizes.operations);
     let same = is_same(d);
     counted(k, same)
 }
 
 // Whether a 21 or 2F may stand here: the open rule, if there is one, has its operations and a part.
-pub fn may_close(k: Kept) -> bool
+pub fn may_close(k: Tally) -> bool
     ensures { λ r. ⌜ r ≡ mayClose k ⌝ }
 {
     if k.inside {
@@ -156,40 +165,31 @@ pub fn may_close(k: Kept) -> bool
 
 // Closes the open rule, if there is one.
 pub fn finish<'a>(
-    k: Kept,
+    k: Tally,
     met: &'a ByPlace,
     listed: &'a Grid,
     kinds: &'a BySide,
     links: &'a Links,
-    users: usize,
-    resources: usize,
-    operations: usize,
+    sizes: Sizes,
     grid: &mut Grid,
-) -> Kept
-    requires { ⌜ (users ≤ 64) × (resources ≤ 64) × (operations ≤ 16) × (k .rules + 1 < 2 ^ 64) ⌝ }
+) -> Tally
+    requires { ⌜ WithinLimits sizes × (k .rules + 1 < 2 ^ 64) ⌝ }
     ensures { λ r. ⌜
-        (r ≡ finishedWith k (now (met .entry)) (now (listed .entry)) (now (links .entry)) users resources operations)
+        (r
+        ≡ finishedWith k (now (met .entry)) (now (listed .entry)) (now (links .entry)) (sizes .users)
+        (sizes .resources) (sizes .operations))
         × (now (grid .exit)
-        ≡ finishedGrid k (now (met .entry)) (now (links .entry)) users resources (now (grid .entry))) ⌝ }
+        ≡ finishedGrid k (now (met .entry)) (now (links .entry)) (sizes .users) (sizes .resources)
+        (now (grid .entry))) ⌝ }
 {
     if k.inside {
-        return close(
-            k,
-            met,
-            listed,
-            kinds,
-            links,
-            users,
-            resources,
-            operations,
-            grid,
-        );
+        return close(k, met, listed, kinds, links, sizes, grid);
     }
     k
 }
 
 // Whether a command is a 26 in a rule that has one. A legal 26 is not zero.
-fn is_second(k: Kept, b: usize) -> bool
+fn is_second(k: Tally, b: usize) -> bool
     ensures { λ r. ⌜ r ≡ (eqb b 0x26 && not (eqb (k .operations) 0)) ⌝ }
 {
     if b == rule_byte::OPERATIONS {
@@ -199,7 +199,7 @@ fn is_second(k: Kept, b: usize) -> bool
 }
 
 // Whether a command other than 21 and 2F may stand here: a rule is open, the command comes after the last one, and it is no second 26.
-pub fn follows(k: Kept, b: usize, x: u64, y: u64) -> bool
+pub fn follows(k: Tally, b: usize, x: u64, y: u64) -> bool
     ensures { λ r. ⌜ r ≡ followsWith k b x y ⌝ }
 {
     if k.inside {
@@ -231,7 +231,7 @@ fn pair_number(a: usize, b: usize) -> usize
             return RoleFile::ATTRIBUTES * a + b;
         }
     }
-    64
+    NO_ATOM
 }
 
 fn atom_number(t: Atom) -> usize
@@ -245,7 +245,8 @@ fn atom_number(t: Atom) -> usize
 }
 
 // The numbers after a legal command of the open rule, which stood in the file as byte b with operands x and y.
-pub fn note(k: Kept, c: RuleCommand, b: usize, x: u64, y: u64) -> Kept
+pub fn note(k: Tally, c: RuleCommand, b: usize, x: u64, y: u64) -> Tally
+    requires { ⌜ Sided c ⌝ }
     ensures { λ r. ⌜ r ≡ notedWith k c b x y ⌝ }
 {
     let mut n = k;
@@ -253,23 +254,8 @@ pub fn note(k: Kept, c: RuleCommand, b: usize, x: u64, y: u64) -> Kept
     n.x = x;
     n.y = y;
     match c {
-        RuleCommand::UserSingle {
-            attribute,
-            value: _,
-        } => {
-            n.asked = sets::with(k.asked, place(0, attribute));
-        }
-        RuleCommand::UserSet { attribute, set: _ } => {
-            n.asked = sets::with(k.asked, place(0, attribute));
-        }
-        RuleCommand::ResourceSingle {
-            attribute,
-            value: _,
-        } => {
-            n.asked = sets::with(k.asked, place(1, attribute));
-        }
-        RuleCommand::ResourceSet { attribute, set: _ } => {
-            n.asked = sets::with(k.asked, place(1, attribute));
+        RuleCommand::Value(v) => {
+            n.asked = sets::with(k.asked, place(v.side, v.attribute));
         }
         RuleCommand::Operations(m) => {
             n.operations = m;
@@ -291,32 +277,26 @@ pub fn note(k: Kept, c: RuleCommand, b: usize, x: u64, y: u64) -> Kept
 
 // Those who meet a listed value join those who met one of the same attribute before.
 fn meet_value<'a>(
-    side: usize,
-    set: bool,
-    attribute: usize,
-    v: u64,
-    count: usize,
-    roles: usize,
+    v: ListedValue,
+    sizes: Sizes,
     known: &'a ByAttribute,
     values: &'a Values,
     holders: &'a ByRole,
     met: &mut ByPlace,
 )
-    requires { ⌜ (side < 2) × (count ≤ 64) × (roles ≤ 32) ⌝ }
+    requires { ⌜ (v .side < 2) × WithinLimits sizes ⌝ }
     ensures { λ _. ⌜
         now (met .exit)
-        ≡ metMore (now (met .entry)) (placeBy side attribute)
-        (meetingOf side set attribute v count roles (now (known .entry)) (now (values .entry))
-        (now (holders .entry))) ⌝ }
+        ≡ metWith (sizes .users) (sizes .resources) (sizes .roles) (now (known .entry)) (now (values .entry))
+        (now (holders .entry)) (now (met .entry)) v ⌝ }
 {
-    let at = place(side, attribute);
+    let at = place(v.side, v.attribute);
     let who = rule_meeting::meeting(
-        side,
-        set,
-        attribute,
-        v,
-        count,
-        roles,
+        v.side,
+        v.set,
+        v.attribute,
+        v.value,
+        sizes,
         known,
         values,
         holders,
@@ -327,76 +307,21 @@ fn meet_value<'a>(
 // The table of who meets which attribute's values, after a legal command of the open rule.
 pub fn meet_line<'a>(
     c: RuleCommand,
-    users: usize,
-    resources: usize,
-    roles: usize,
+    sizes: Sizes,
     known: &'a ByAttribute,
     values: &'a Values,
     holders: &'a ByRole,
     met: &mut ByPlace,
 )
-    requires { ⌜ (users ≤ 64) × (resources ≤ 64) × (roles ≤ 32) ⌝ }
+    requires { ⌜ Sided c × WithinLimits sizes ⌝ }
     ensures { λ _. ⌜
         now (met .exit)
-        ≡ metAfter users resources roles (now (known .entry)) (now (values .entry)) (now (holders .entry))
-        (now (met .entry)) c ⌝ }
+        ≡ metAfter (sizes .users) (sizes .resources) (sizes .roles) (now (known .entry)) (now (values .entry))
+        (now (holders .entry)) (now (met .entry)) c ⌝ }
 {
     match c {
-        RuleCommand::UserSingle { attribute, value } => {
-            meet_value(
-                0,
-                false,
-                attribute,
-                value,
-                users,
-                roles,
-                known,
-                values,
-                holders,
-                met,
-            );
-        }
-        RuleCommand::UserSet { attribute, set } => {
-            meet_value(
-                0,
-                true,
-                attribute,
-                set,
-                users,
-                roles,
-                known,
-                values,
-                holders,
-                met,
-            );
-        }
-        RuleCommand::ResourceSingle { attribute, value } => {
-            meet_value(
-                1,
-                false,
-                attribute,
-                value,
-                resources,
-                roles,
-                known,
-                values,
-                holders,
-                met,
-            );
-        }
-        RuleCommand::ResourceSet { attribute, set } => {
-            meet_value(
-                1,
-                true,
-                attribute,
-                set,
-                resources,
-                roles,
-                known,
-                values,
-                holders,
-                met,
-            );
+        RuleCommand::Value(v) => {
+            meet_value(v, sizes, known, values, holders, met);
         }
         RuleCommand::Operations(_) => {}
         RuleCommand::Link(_) => {}
@@ -409,42 +334,41 @@ pub fn meet_line<'a>(
     }
 }
 
-// The tables of the parts listed, after a legal command of the open rule.
-pub fn list_line<'a>(
+// The grid of the parts that the open rule lists, after a legal command of it.
+pub fn join_part<'a>(
     c: RuleCommand,
     holders: &'a ByRole,
     permissions: &'a ByRoleOperation,
-    listed: &'a mut Grid,
-    seen: &'a mut ByRole,
-    again: &'a mut ByRole,
+    listed: &mut Grid,
 )
     requires { ⌜ PartWithin c ⌝ }
     ensures { λ _. ⌜
-        (now (listed .exit) ≡ listedAfter (now (holders .entry)) (now (permissions .entry)) (now (listed .entry)) c)
-        × (now (seen .exit) ≡ seenBy (now (seen .entry)) c)
-        × (now (again .exit) ≡ againBy (now (seen .entry)) (now (again .entry)) c) ⌝ }
+        now (listed .exit) ≡ listedAfter (now (holders .entry)) (now (permissions .entry)) (now (listed .entry)) c ⌝ }
 {
     match c {
         RuleCommand::Part { role, operations } => {
             grant_blocks::add_part(holders, permissions, role, operations, listed);
+        }
+        RuleCommand::Value(_) => {}
+        RuleCommand::Operations(_) => {}
+        RuleCommand::Link(_) => {}
+        RuleCommand::Opens => {}
+        RuleCommand::Ends => {}
+    }
+}
+
+// The tables of the parts that the rules list, once and again, after a legal command of the open rule.
+pub fn list_part<'a>(c: RuleCommand, seen: &'a mut ByRole, again: &'a mut ByRole)
+    requires { ⌜ PartWithin c ⌝ }
+    ensures { λ _. ⌜
+        (now (seen .exit) ≡ seenBy (now (seen .entry)) c)
+        × (now (again .exit) ≡ againBy (now (seen .entry)) (now (again .entry)) c) ⌝ }
+{
+    match c {
+        RuleCommand::Part { role, operations } => {
             rule_listings::list(seen, again, role, operations);
         }
-        RuleCommand::UserSingle {
-            attribute: _,
-            value: _,
-        } => {}
-        RuleCommand::UserSet {
-            attribute: _,
-            set: _,
-        } => {}
-        RuleCommand::ResourceSingle {
-            attribute: _,
-            value: _,
-        } => {}
-        RuleCommand::ResourceSet {
-            attribute: _,
-            set: _,
-        } => {}
+        RuleCommand::Value(_) => {}
         RuleCommand::Operations(_) => {}
         RuleCommand::Link(_) => {}
         RuleCommand::Opens => {}

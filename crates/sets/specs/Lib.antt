@@ -4,6 +4,7 @@ pub mod Sets
 pub mod Lowest
 pub mod TestLaws
 pub mod SortedLaws
+pub mod ListLaws
 pub mod SetLaws
 pub mod LowestLaws
 pub mod MaskLaws

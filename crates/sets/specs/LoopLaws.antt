@@ -5,13 +5,13 @@ use Prim.Native.Nat.{ℕ, zero, suc, _+_, _^_, _≤_, _<_}
 use borrow.Author.Count.{below-more}
 use lib.ListN.{length, getD, set, length-map}
 use lib.Seq.{ext-getD, getD-set-same, getD-set-other}
-use mathlib.Core.Bool.{Bool, true, false, _&&_, _||_, and-assoc}
-use mathlib.Core.List.{List, [], _∷_, _++_, map}
+use mathlib.Core.Bool.{Bool, true, false, _&&_, _||_, and-assoc, and-true, or-false, or-assoc}
+use mathlib.Core.List.{List, map}
 use mathlib.Core.Path.{_≡_, refl, sym, ap, ap₂, _∙_}
 use native.Mathlib.Nat.{add-zero, add-suc, suc-add, zero-add}
-use native.Mathlib.Numerals.{add-one}
 use native.Mathlib.Omega.{arith}
-use Rattle.sets.specs.MaskLaws.{and-true, or-false, mask-unique, mask-same}
+use Rattle.sets.specs.ListLaws.{all-last, any-last, from-length, upTo-more}
+use Rattle.sets.specs.MaskLaws.{mask-unique, mask-same}
 use Rattle.sets.specs.Sets.{bit, maskOf, joining, narrowing}
 use Rattle.sets.specs.SetLaws.{bit-mask}
 use Rattle.sets.specs.Tests.{imp, all, any, from, upTo}
@@ -21,27 +21,10 @@ use Rattle.sets.specs.TestLaws.{never, fails, all-out, any-in, upTo-in}
 pub turn-within : (i n : ℕ) → i < n → i + 1 ≤ n
 turn-within i n h = omega arith
 
--- ---- the numbers below n + 1 are those below n, and n
-
-from-more : (k n : ℕ) → from k (suc n) ≡ from k n ++ ((k + n) ∷ [])
-from-more k zero = ap (λ (x : ℕ). x ∷ []) (sym (add-zero k))
-from-more k (suc n) = ap (λ (l : List ℕ). k ∷ l) (from-more (suc k) n ∙ ap (λ (x : ℕ). from (suc k) n ++ (x ∷ [])) (suc-add k n ∙ sym (add-suc k n)))
-
-pub upTo-more : (n : ℕ) → upTo (n + 1) ≡ upTo n ++ (n ∷ [])
-upTo-more n = ap upTo (add-one n) ∙ from-more 0 n ∙ ap (λ (x : ℕ). upTo n ++ (x ∷ [])) (zero-add n)
-
 -- ---- any
 
-or-joined : (a b c : Bool) → (a || (b || c)) ≡ ((a || b) || c)
-or-joined true b c = refl
-or-joined false b c = refl
-
-any-append : (f : ℕ → Bool) (l : List ℕ) (x : ℕ) → any f (l ++ (x ∷ [])) ≡ (any f l || f x)
-any-append f [] x = or-false (f x)
-any-append f (y ∷ l) x = ap (λ (b : Bool). f y || b) (any-append f l x) ∙ or-joined (f y) (any f l) (f x)
-
 pub any-more : (f : ℕ → Bool) (n : ℕ) → any f (upTo (n + 1)) ≡ (any f (upTo n) || f n)
-any-more f n = ap (any f) (upTo-more n) ∙ any-append f (upTo n) n
+any-more f n = ap (any f) (upTo-more n) ∙ any-last f (upTo n) n
 
 -- a loop that looks for one: it begins with none, goes on past one that fails, is left at one that passes, or ends
 pub any-none : (f : ℕ → Bool) → any f (upTo 0) ≡ false
@@ -58,16 +41,8 @@ any-end f i n h e = ap (λ (x : ℕ). any f (upTo x)) (sym e) ∙ h
 
 -- ---- all
 
-and-joined : (a b c : Bool) → (a && (b && c)) ≡ ((a && b) && c)
-and-joined true b c = refl
-and-joined false b c = refl
-
-all-append : (f : ℕ → Bool) (l : List ℕ) (x : ℕ) → all f (l ++ (x ∷ [])) ≡ (all f l && f x)
-all-append f [] x = and-true (f x)
-all-append f (y ∷ l) x = ap (λ (b : Bool). f y && b) (all-append f l x) ∙ and-joined (f y) (all f l) (f x)
-
 pub all-more : (f : ℕ → Bool) (n : ℕ) → all f (upTo (n + 1)) ≡ (all f (upTo n) && f n)
-all-more f n = ap (all f) (upTo-more n) ∙ all-append f (upTo n) n
+all-more f n = ap (all f) (upTo-more n) ∙ all-last f (upTo n) n
 
 -- a loop that tests all: it begins with all, goes on past one that passes, is left at one that fails, or ends
 pub all-none : (f : ℕ → Bool) → all f (upTo 0) ≡ true
@@ -88,7 +63,7 @@ pub join-none : (a : ℕ) (f : ℕ → Bool) (g : ℕ → ℕ) → a < 2 ^ 64 �
 join-none a f g h = mask-unique 64 a (joining a f g 0) h (λ u l. sym (or-false (bit a u)))
 
 one-more : (a : ℕ) (f : ℕ → Bool) (g : ℕ → ℕ) (n u : ℕ) → joining a f g (n + 1) u ≡ (joining a f g n u || (f n && bit (g n) u))
-one-more a f g n u = ap (λ (b : Bool). bit a u || b) (any-more (λ j. f j && bit (g j) u) n) ∙ or-joined (bit a u) _ (f n && bit (g n) u)
+one-more a f g n u = ap (λ (b : Bool). bit a u || b) (any-more (λ j. f j && bit (g j) u) n) ∙ sym (or-assoc (bit a u) _ (f n && bit (g n) u))
 
 -- a turn that takes one in by a call, `m = union(m, g)`
 pub join-in : (a : ℕ) (f : ℕ → Bool) (g : ℕ → ℕ) (n m m′ : ℕ) → m ≡ maskOf 64 (joining a f g n) → f n ≡ true → m′ ≡ maskOf 64 (λ k. bit m k || bit (g n) k)
@@ -137,11 +112,7 @@ narrow-end a f g i n m h e = h ∙ ap (λ (x : ℕ). maskOf 64 (narrowing a f g 
 -- ---- tables
 
 pub table-long : (n : ℕ) (f : ℕ → ℕ) → length (map f (upTo n)) ≡ n
-table-long n f = length-map (upTo n) f ∙ long 0 n
-  where
-    long : (k n : ℕ) → length (from k n) ≡ n
-    long k zero = refl
-    long k (suc n) = ap suc (long (suc k) n)
+table-long n f = length-map (upTo n) f ∙ from-length 0 n
 
 pub table-at : (n : ℕ) (f : ℕ → ℕ) (i : ℕ) → i < n → getD (map f (upTo n)) i 0 ≡ f i
 table-at n f i h = go 0 n i h ∙ ap f (zero-add i)

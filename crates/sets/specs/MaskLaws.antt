@@ -2,39 +2,27 @@
 -- operator computes: `1 << i` is `(1 * 2 ^ i) % 2 ^ 64`, `!b` is `(2 ^ 64 - 1) - b`.
 -- Assumes nothing.
 use Prim.Native.Nat.{ℕ, zero, suc, _+_, _*_, _/_, _%_, _^_, _≤_, _<_, max, _-_}
-use borrow.Author.Tests.{eqb-true, eqb-false, eq-eqb, ltb-true, ltb-false, lt-ltb, le-ltb}
+use borrow.Author.Tests.{eqb-true, eqb-false, eq-eqb, ltb-true, ltb-false, lt-ltb, le-ltb, not-true}
 use lib.Bits.{bitAnd, bitOr, or-step, and-mask, and-lt, or-lt}
 use lib.Count.{ones, ones-step, trailingZeros, under}
 use lib.Dec.{eqb, ltb}
 use lib.ListN.{length}
 use lib.Pow.{pow-pos, pow-mono, shl-exact}
-use mathlib.Core.Bool.{Bool, true, false, cond, _&&_, _||_, false≢true, not}
-use mathlib.Core.List.{List, [], _∷_, List·Memᴰ·head, List·Memᴰ·tail}
+use mathlib.Core.Bool.{Bool, true, false, cond, _&&_, _||_, false≢true, not, and-true, or-false}
+use mathlib.Core.List.{_∷_}
 use mathlib.Core.Path.{_≡_, refl, sym, ap, ap₂, _∙_}
 use native.Mathlib.Nat.{pow-suc, mod-lt, add-zero, add-suc, suc-add, zero-add, div-eq-of-lt, lt-of-lt-of-le, one-mul}
 use native.Mathlib.Numerals.{add-one}
 use native.Mathlib.Omega.{arith}
+use Rattle.sets.specs.ListLaws.{keep-most, keep-ext}
 use Rattle.sets.specs.Lowest.{lowestFrom}
 use Rattle.sets.specs.LowestLaws.{lowestFrom-misses}
 use Rattle.sets.specs.Sets.{bit, maskOf, size}
-use Rattle.sets.specs.SetLaws.{bit-zero, bit-suc, bit-and, bit-none, mask-ext, bit-one, bit-mask}
-use Rattle.sets.specs.Tests.{Is, _isIn_, any, keep, from, upTo}
-use Rattle.sets.specs.TestLaws.{never, test, fails, same, any-in, any-out, upTo-in, upTo-out, not-in, not-out}
-
--- ---- Bool
-
-pub and-true : (b : Bool) → (b && true) ≡ b
-and-true true = refl
-and-true false = refl
-
-pub or-false : (b : Bool) → (b || false) ≡ b
-or-false true = refl
-or-false false = refl
+use Rattle.sets.specs.SetLaws.{bit-zero, bit-suc, bit-and, bit-none, mask-ext, bit-one, bit-mask, digit}
+use Rattle.sets.specs.Tests.{Is, any, keep, from, upTo}
+use Rattle.sets.specs.TestLaws.{never, test, fails, same, any-in, any-out, upTo-in, upTo-out, not-in}
 
 -- ---- bits
-
-digit {ℓ} : {X : Type ℓ} (a : ℕ) → (a % 2 ≡ 0 → X) → (a % 2 ≡ 1 → X) → X
-digit a f g = let h = mod-lt a {m = 2} (omega arith) in test (eqb (a % 2) 0) (λ e. f (eqb-true (a % 2) 0 e)) (λ e. let d = eqb-false (a % 2) 0 e in g (omega arith))
 
 digit-or : (a b : ℕ) → eqb (max (a % 2) (b % 2)) 1 ≡ (eqb (a % 2) 1 || eqb (b % 2) 1)
 digit-or a b =
@@ -56,6 +44,10 @@ bit-or (suc n) a b = bit-suc (bitOr a b) n ∙ ap (λ (x : ℕ). bit x n) (or-ha
 pub bit-out : (n m i : ℕ) → m < 2 ^ n → n ≤ i → bit m i ≡ false
 unfolding bit
 bit-out n m i h l = ap (λ (x : ℕ). eqb (x % 2) 1) (div-eq-of-lt (lt-of-lt-of-le h (pow-mono l)))
+
+-- a set of n bits has members below n only
+pub bit-low : (n m i : ℕ) → m < 2 ^ n → Is (bit m i) → i < n
+bit-low n m i h b = test (ltb i n) (λ p. ltb-true i n p) (λ p. never b (bit-out n m i h (ltb-false i n p)))
 
 -- ---- maskOf
 
@@ -243,29 +235,16 @@ unfolding size
 count-law m h = count-from 64 0 m (bit m) h (λ i. ap (bit m) (zero-add i))
 
 -- a set has at most 64
-keep-most : (f : ℕ → Bool) (l : List ℕ) → length (keep f l) ≤ length l
-keep-most f [] = omega arith
-keep-most f (x ∷ xs) = go (f x) (keep-most f xs)
-  where
-    go : (b : Bool) → length (keep f xs) ≤ length xs → length (cond b (x ∷ keep f xs) (keep f xs)) ≤ length (x ∷ xs)
-    go true h = omega arith
-    go false h = omega arith
-
 pub size-most : (m : ℕ) → size m ≤ 64
 unfolding size
 size-most m = keep-most (bit m) (upTo 64)
 
 -- how many pass the test that a mask was made of
-keep-same : (f g : ℕ → Bool) (l : List ℕ) → ((a : ℕ) → a isIn l → f a ≡ g a) → keep f l ≡ keep g l
-keep-same f g [] h = refl
-keep-same f g (x ∷ xs) h =
-    ap₂ (λ (b : Bool) (k : List ℕ). cond b (x ∷ k) k) (h x (List·Memᴰ·head refl)) (keep-same f g xs (λ a m. h a (List·Memᴰ·tail m)))
-
 pub size-mask : (n : ℕ) (f : ℕ → Bool) → n ≤ 64 → size (maskOf n f) ≡ length (keep f (upTo n))
 size-mask n f l =
     sym (count-law (maskOf n f) (lt-of-lt-of-le (mask-lt n f) (pow-mono l)))
     ∙ count-from n 0 (maskOf n f) (bit (maskOf n f)) (mask-lt n f) (λ i. ap (bit (maskOf n f)) (zero-add i))
-    ∙ ap length (keep-same (bit (maskOf n f)) f (upTo n) (λ i m. bit-mask n f i (upTo-out n m)))
+    ∙ ap length (keep-ext (bit (maskOf n f)) f (upTo n) (λ i m. bit-mask n f i (upTo-out n m)))
 
 -- `trailing_zeros`
 least-from : (n k m : ℕ) (g : ℕ → Bool) → ((i : ℕ) → g (k + i) ≡ bit m i) → k + trailingZeros n m ≡ lowestFrom g k n
@@ -295,4 +274,4 @@ empty-law n m l = same (eqb m 0) (not (any (bit m) (upTo n))) there back
     there e = not-in (any (bit m) (upTo n)) (fails (any (bit m) (upTo n)) (λ h. let t = any-out (bit m) (upTo n) h in never (t .2) (ap (λ (x : ℕ). bit x (t .0)) (eqb-true m 0 e) ∙ bit-none (t .0))))
 
     back : Is (not (any (bit m) (upTo n))) → Is (eqb m 0)
-    back h = eq-eqb m 0 (bits-same n m 0 l (pow-pos n) (λ i k. fails (bit m i) (λ b. never (any-in (bit m) (upTo-in k) b) (not-out (any (bit m) (upTo n)) h)) ∙ sym (bit-none i)))
+    back h = eq-eqb m 0 (bits-same n m 0 l (pow-pos n) (λ i k. fails (bit m i) (λ b. never (any-in (bit m) (upTo-in k) b) (not-true (any (bit m) (upTo n)) h)) ∙ sym (bit-none i)))

@@ -5,7 +5,7 @@ use borrow.Author.Tests.{eqb-true, eqb-false, eq-eqb, ne-eqb, ltb-false}
 use lib.Bits.{bitAnd, and-le-r, and-lt}
 use lib.Count.{trailingZeros, under}
 use lib.Dec.{eqb, ltb, eqb·suc-zero, eqb·suc-suc}
-use mathlib.Core.Bool.{Bool, true, false, _&&_, _||_, not, and-false}
+use mathlib.Core.Bool.{Bool, true, false, _&&_, _||_, not, and-false, and-self, and-true, or-false}
 use mathlib.Core.Logic.{⊎-elim}
 use mathlib.Core.Path.{_≡_, refl, sym, ap, ap₂, _∙_}
 use native.Mathlib.Nat.{pow-suc}
@@ -14,7 +14,7 @@ use Rattle.sets.specs.LoopLaws.{all-found}
 use Rattle.sets.specs.Sets.{lessOne, joining, bit, subset, maskOf}
 use Rattle.sets.specs.Lowest.{lowestFrom}
 use Rattle.sets.specs.LowestLaws.{lowestFrom-some}
-use Rattle.sets.specs.MaskLaws.{and-true, or-false, bit-out, bit-maskOf, mask-unique, mask-same, least-law, least-most, empty-law}
+use Rattle.sets.specs.MaskLaws.{bit-out, bit-maskOf, mask-unique, mask-same, least-law, least-most, empty-law}
 use Rattle.sets.specs.SetLaws.{bit-zero, bit-suc, bit-and, bit-none, subset-in, bit-mask}
 use Rattle.sets.specs.Tests.{Is, imp, all, any, upTo}
 use Rattle.sets.specs.TestLaws.{and-in, and-l, and-r, or-l, or-r, or-out, never, test, fails, same, imp-in, imp-out, all-out, all-in, any-in, any-out, upTo-in, upTo-out, not-in}
@@ -26,10 +26,6 @@ unfolding trailingZeros
 clear-bits zero m k h p = absurd (omega arith)
 clear-bits (suc n) m k h p = bit-and k m (m - 1) ∙ go (m % 2) k refl (λ q j. clear-bits n (m / 2) j (omega (arith, pow-suc 2 n)) q)
   where
-    twice : (b : Bool) → (b && b) ≡ b
-    twice true = refl
-    twice false = refl
-
     go : (d k : ℕ) → m % 2 ≡ d → (0 < m / 2 → (j : ℕ) → bit (bitAnd (m / 2) (m / 2 - 1)) j ≡ (bit (m / 2) j && not (eqb j (trailingZeros n (m / 2)))))
         → (bit m k && bit (m - 1) k) ≡ (bit m k && not (eqb k (under d (trailingZeros n (m / 2)))))
     go zero zero e r = let z = bit-zero m ∙ ne-eqb (m % 2) 1 (omega arith) in rw z refl
@@ -41,7 +37,7 @@ clear-bits (suc n) m k h p = bit-and k m (m - 1) ∙ go (m % 2) k refl (λ q j. 
     go (suc zero) zero e r = ap (λ (b : Bool). bit m 0 && b) (bit-zero (m - 1) ∙ ne-eqb ((m - 1) % 2) 1 (omega arith))
     go (suc zero) (suc k) e r =
         let d : (m - 1) / 2 ≡ m / 2 = omega arith in
-        ap (λ (b : Bool). bit m (suc k) && b) (bit-suc (m - 1) k ∙ ap (λ (x : ℕ). bit x k) d ∙ sym (bit-suc m k)) ∙ twice (bit m (suc k))
+        ap (λ (b : Bool). bit m (suc k) && b) (bit-suc (m - 1) k ∙ ap (λ (x : ℕ). bit x k) d ∙ sym (bit-suc m k)) ∙ and-self (bit m (suc k))
         ∙ sym (ap (λ (b : Bool). bit m (suc k) && not b) (eqb·suc-zero k) ∙ and-true (bit m (suc k)))
     go (suc (suc d)) k e r = absurd (omega arith)
 

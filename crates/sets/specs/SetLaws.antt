@@ -5,6 +5,7 @@ use borrow.Author.Tests.{eqb-true, eqb-false, eq-eqb, ne-eqb}
 use lib.Arith.{bin-ind}
 use lib.Bits.{bitAnd, and-step}
 use lib.Dec.{eqb, eqb·suc-zero, eqb·zero-suc, eqb·suc-suc}
+use lib.Pow.{pow-add}
 use mathlib.Core.Bool.{Bool, true, false, cond, _&&_, false≢true}
 use mathlib.Core.Path.{_≡_, refl, sym, ap, ap₂, _∙_}
 use native.Mathlib.Nat.{pow-suc, mod-lt, div-div-eq-div-mul, pow-succ', div-one, mul-mod-left, mul-div-cancel}
@@ -22,7 +23,7 @@ unfolding bit
 bit-suc a n = ap (λ (x : ℕ). eqb (x % 2) 1) (ap (λ (k : ℕ). a / k) (pow-succ' 2 n) ∙ sym (div-div-eq-div-mul a 2 (2 ^ n)))
 
 -- a digit is 0 or 1
-digit {ℓ} : {X : Type ℓ} (a : ℕ) → (a % 2 ≡ 0 → X) → (a % 2 ≡ 1 → X) → X
+pub digit {ℓ} : {X : Type ℓ} (a : ℕ) → (a % 2 ≡ 0 → X) → (a % 2 ≡ 1 → X) → X
 digit a f g = let h = mod-lt a {m = 2} (omega arith) in test (eqb (a % 2) 0) (λ e. f (eqb-true (a % 2) 0 e)) (λ e. let d = eqb-false (a % 2) 0 e in g (omega arith))
 
 -- the two sets' bits, one by one
@@ -109,3 +110,8 @@ bit-mask zero f i h = absurd (omega arith)
 bit-mask (suc n) f zero h = bit-zero _ ∙ flag (f 0) (maskOf n (λ i. f (suc i))) .0
 bit-mask (suc n) f (suc i) h =
     bit-suc _ i ∙ ap (λ (x : ℕ). bit x i) (flag (f 0) (maskOf n (λ i. f (suc i))) .1) ∙ bit-mask n (λ i. f (suc i)) i (omega arith)
+
+-- `m >> n`
+pub bit-down : (m n j : ℕ) → bit (m / 2 ^ n) j ≡ bit m (n + j)
+unfolding bit
+bit-down m n j = ap (λ (x : ℕ). eqb (x % 2) 1) (div-div-eq-div-mul m (2 ^ n) (2 ^ j) ∙ ap (λ (x : ℕ). m / x) (sym (pow-add 2 n j)))

@@ -1,10 +1,10 @@
 -- The laws of Tests: what a passed test says, and how to pass one.
 -- Assumes nothing.
 use Prim.Native.Nat.{ℕ, zero, suc, _+_, _≤_, _<_}
-use borrow.Author.Tests.{eqb-true, eqb-false, eq-eqb}
-use lib.Dec.{eqb}
+use borrow.Author.Tests.{eqb-true, eqb-false, eq-eqb, ltb-true, lt-ltb}
+use lib.Dec.{eqb, ltb}
 use lib.ListN.{length, getD}
-use mathlib.Core.Bool.{Bool, true, false, cond, _&&_, _||_, false≢true, not}
+use mathlib.Core.Bool.{Bool, true, false, cond, _&&_, _||_, false≢true, not, Bool·beq}
 use mathlib.Core.List.{List, [], _∷_, List·Memᴰ·head, List·Memᴰ·tail, List·Memᴰ·not-nil, List·Memᴰ·append-cases, Memᴰ·append-left, Memᴰ·append-right, map, List·Memᴰ·cases-cons}
 use mathlib.Core.Logic.{_⊎_, inl, inr}
 use mathlib.Core.Option.{Option, none, some}
@@ -178,10 +178,6 @@ getD-in (x ∷ xs) d (suc i) h = List·Memᴰ·tail (getD-in xs d i (omega arith
 pub not-in : (b : Bool) → b ≡ false → Is (not b)
 not-in b h = rw h
 
-pub not-out : (b : Bool) → Is (not b) → b ≡ false
-not-out true h = sym h
-not-out false h = refl
-
 -- a test of each member is a test of each place
 pub any-places {ℓ} : {A : Type ℓ} (f : A → Bool) (d : A) (k : ℕ) (l : List A) (g : ℕ → A) → ((i : ℕ) → i < length l → g (k + i) ≡ getD l i d) → any (λ i. f (g i)) (from k (length l)) ≡ any f l
 any-places f d k [] g h = refl
@@ -197,3 +193,34 @@ any-ext f g (x ∷ xs) h = ap₂ _||_ (h x (List·Memᴰ·head refl)) (any-ext f
 pub isSome-out {ℓ} : {A : Type ℓ} (o : Option A) → Is (isSome o) → (x : A) × (o ≡ some x)
 isSome-out none h = absurd (false≢true h)
 isSome-out (some x) h = (x, refl)
+
+-- three tests pass together
+pub and-three : (a b c : Bool) → Is (a && b && c) → Is a × Is b × Is c
+and-three a b c h = let p = and-l (a && b) c h in (and-l a b p, and-r a b p, and-r (a && b) c h)
+
+-- a third test is the same where the first two pass
+pub and-third : (a b c d : Bool) → (Is a → Is b → c ≡ d) → (a && (b && c)) ≡ (a && (b && d))
+and-third true true c d h = h refl refl
+and-third true false c d h = refl
+and-third false b c d h = refl
+
+-- tests whose contraries are the same
+pub not-same : (a b : Bool) → not a ≡ not b → a ≡ b
+not-same true true h = refl
+not-same true false h = sym h
+not-same false true h = sym h
+not-same false false h = refl
+
+-- the equality of the code is the equivalence of tests
+pub beq-iff : (a b : Bool) → Bool·beq a b ≡ iff a b
+beq-iff true true = refl
+beq-iff true false = refl
+beq-iff false true = refl
+beq-iff false false = refl
+
+pub eqb-turned : (a b : ℕ) → eqb a b ≡ eqb b a
+eqb-turned a b = same (eqb a b) (eqb b a) (λ h. eq-eqb b a (sym (eqb-true a b h))) (λ h. eq-eqb a b (sym (eqb-true b a h)))
+
+-- a number but the last is below the next bound where it is below this
+pub below-next : (a n : ℕ) → (a ≡ n → ⊥) → ltb a n ≡ ltb a (n + 1)
+below-next a n h = same (ltb a n) (ltb a (n + 1)) (λ k. lt-ltb a (n + 1) (let l = ltb-true a n k in omega arith)) (λ k. lt-ltb a n (let l = ltb-true a (n + 1) k in omega arith))

@@ -6,10 +6,11 @@ use mathlib.Core.Bool.{Bool, true, false, cond}
 use mathlib.Core.List.{List, [], _∷_, _++_, map}
 use mathlib.Core.Path.{_≡_, refl, sym, ap, _∙_}
 use native.Mathlib.Omega.{arith}
+use Rattle.role_record.specs.Cells.{roleCells}
 use Rattle.role_record.specs.Record.{Sized, recordOf}
 use Rattle.files.specs.Calls.{minedBytes, minedCounts}
 use Rattle.files.specs.RuleFile.{encode, encodeAll, opens}
-use Rattle.write_file.specs.FileTable.{keptAt, keptHead, keptTable, ruleAt, costAt, fileBytes, measuredOf}
+use Rattle.write_file.specs.FileTable.{keptAt, keptHead, keptTable, costWith, ruleWith, fileBytes, measuredOf}
 use Rattle.role_record.specs.RecordLaws.{table-get}
 use Rattle.mine_matches.specs.Matches.{knownIn, matchesIn}
 use Rattle.grant_grids.specs.Links.{linksOf}
@@ -17,17 +18,18 @@ use Rattle.policy.specs.Covering.{levelOf}
 use Rattle.policy.specs.Merging.{union}
 use Rattle.policy.specs.Policy.{Policy, settingOf}
 use Rattle.policy.specs.Thinning.{ruleCost}
-use Rattle.write_lists.specs.RuleLists.{ruleCostIn}
-use Rattle.write_rule.specs.RuleTable.{ruleBytesIn}
-use Rattle.write_rule.specs.WriterLaws.{written-bytes, written-cost}
-use Rattle.mine_distinct.specs.Distinct.{distinctIn, havingIn, insideIn}
+use Rattle.write_theory.specs.RuleLists.{ruleCostIn}
+use Rattle.write_theory.specs.RuleTable.{ruleBytesIn}
+use Rattle.write_theory.specs.WriterLaws.{written-bytes, written-cost}
+use Rattle.mine_distinct.specs.InsideValues.{distinctIn, havingIn, insideIn}
+use Rattle.sets.specs.ListLaws.{each-map}
 use Rattle.sets.specs.Tests.{Is, keep, each, upTo, sum}
 use Rattle.mine_groups.specs.MergedLaws.{heads-each, heads-sum, heads-count, parts-count}
 use Rattle.mine_seats.specs.Seats.{wordsAt, isHeadAt}
 use Rattle.mine_groups.specs.Scratch.{Merged}
-use Rattle.mine_groups.specs.SeatLaws.{bytes-seats, counts-seats}
-use Rattle.mine_groups.specs.Seats.{seatBlock, seatGroups, seatsOf, seatMerges, seatRule, seatLines}
-use Rattle.mine_thin.specs.KeptLaws.{kept-means}
+use Rattle.mine_groups.specs.SeatGroupLaws.{bytes-seats, counts-seats}
+use Rattle.mine_groups.specs.SeatGroups.{seatBlock, seatGroups, seatsOf, seatMerges, seatRule, seatLines}
+use Rattle.mine_thin.specs.KeptPlacesLaws.{kept-means}
 use Rattle.mine_theory.specs.Words.Flags.{keptPlaces}
 use Rattle.write_file.specs.declared.Measured.{Measured}
 
@@ -49,10 +51,6 @@ sum-if p f (x ∷ l) = go (p x) (sum-if p f l)
     go true e = ap (λ (n : ℕ). f x + n) e
     go false e = let d : 0 + sum (λ i. cond (p i) (f i) 0) l ≡ sum (λ i. cond (p i) (f i) 0) l = omega arith in d ∙ e
 
-each-mapped : {A B C : Type 0} (f : B → List C) (g : A → B) (l : List A) → each (λ x. f (g x)) l ≡ each f (map g l)
-each-mapped f g [] = refl
-each-mapped f g (x ∷ l) = ap (λ r. f (g x) ++ r) (each-mapped f g l)
-
 module _ (F : Policy) (Z : Sized F) (t : List ℕ) (M : Merged F t) where
   -- the table of what is kept, by the tables of the policy's record
   abbrev pub keptIn : List ℕ
@@ -65,10 +63,10 @@ module _ (F : Policy) (Z : Sized F) (t : List ℕ) (M : Merged F t) where
   block i = M .groups .group i
 
   -- the places kept are those of the written rule
-  kept-so : (i : ℕ) → i < 512 → Is (M .groups .alive i) → kept i ≡ keptPlaces (settingOf F) (wordsAt t i) (levelOf (settingOf F) (union (settingOf F) (seatBlock F) (block i)))
+  kept-so : (i : ℕ) → i < roleCells → Is (M .groups .alive i) → kept i ≡ keptPlaces (settingOf F) (wordsAt t i) (levelOf (settingOf F) (union (settingOf F) (seatBlock F) (block i)))
   unfolding keptTable keptHead keptAt
   kept-so i h a =
-      table-get 512 (keptHead (linksOf F) (matchesIn F) (knownIn F) (recordOf F .attributes) (recordOf F .users) (recordOf F .resources) (recordOf F .operations) t) i h
+      table-get roleCells (keptHead (linksOf F) (matchesIn F) (knownIn F) (recordOf F .attributes) (recordOf F .users) (recordOf F .resources) (recordOf F .operations) t) i h
       ∙ ap (λ (b : Bool). cond b (keptAt (linksOf F) (matchesIn F) (knownIn F) (recordOf F .attributes) (recordOf F .users) (recordOf F .resources) (recordOf F .operations) t i) 0) (M .shown .heads i h ∙ a)
       ∙ rw (M .shown .words i h a, M .shown .level i h a) (kept-means F Z (union (settingOf F) (seatBlock F) (block i)) (levelOf (settingOf F) (union (settingOf F) (seatBlock F) (block i))))
 
@@ -78,10 +76,10 @@ module _ (F : Policy) (Z : Sized F) (t : List ℕ) (M : Merged F t) where
   abbrev costOf : ℕ → ℕ
   costOf i = ruleCostIn (distinctIn F) (havingIn F) (insideIn F) (recordOf F .kinds) t i (kept i)
 
-  rule-so : (i : ℕ) → i < 512 → Is (M .groups .alive i) → bytesOf i ≡ each (encode 2) (opens ∷ seatLines F (block i))
+  rule-so : (i : ℕ) → i < roleCells → Is (M .groups .alive i) → bytesOf i ≡ each (encode 2) (opens ∷ seatLines F (block i))
   rule-so i h a = written-bytes F Z t (M .groups) (M .shown) i h a (kept i) (kept-so i h a)
 
-  cost-so : (i : ℕ) → i < 512 → Is (M .groups .alive i) → costOf i ≡ ruleCost (settingOf F) (seatRule F (block i))
+  cost-so : (i : ℕ) → i < roleCells → Is (M .groups .alive i) → costOf i ≡ ruleCost (settingOf F) (seatRule F (block i))
   cost-so i h a = written-cost F Z t (M .groups) (M .shown) i h a (kept i) (kept-so i h a)
 
   abbrev tables-bytes : List ℕ
@@ -89,13 +87,13 @@ module _ (F : Policy) (Z : Sized F) (t : List ℕ) (M : Merged F t) where
 
   all-encoded : each (λ g. each (encode 2) (opens ∷ seatLines F g)) (seatGroups F) ++ (0x2F ∷ []) ≡ encodeAll 2 (map (seatLines F) (seatGroups F))
   unfolding encodeAll encode
-  all-encoded = ap (λ r. r ++ (0x2F ∷ [])) (each-mapped (λ ls. each (encode 2) (opens ∷ ls)) (seatLines F) (seatGroups F))
+  all-encoded = ap (λ r. r ++ (0x2F ∷ [])) (sym (each-map (λ ls. each (encode 2) (opens ∷ ls)) (seatLines F) (seatGroups F)))
 
   -- THE LAW: the bytes
   pub file-means : fileBytes keptIn (distinctIn F) (havingIn F) (insideIn F) (recordOf F .kinds) (recordOf F .permissions) (recordOf F .operations) t ≡ minedBytes 2 F
-  unfolding fileBytes ruleAt
+  unfolding fileBytes ruleWith
   file-means =
-      ap (λ r. r ++ (0x2F ∷ [])) (each-if (isHeadAt t) bytesOf (upTo 512) ∙ heads-each F t M (λ g. each (encode 2) (opens ∷ seatLines F g)) bytesOf rule-so)
+      ap (λ r. r ++ (0x2F ∷ [])) (each-if (isHeadAt t) bytesOf (upTo roleCells) ∙ heads-each F t M (λ g. each (encode 2) (opens ∷ seatLines F g)) bytesOf rule-so)
       ∙ all-encoded
       ∙ sym (bytes-seats F (Z .few) (Z .operable))
 
@@ -105,11 +103,11 @@ module _ (F : Policy) (Z : Sized F) (t : List ℕ) (M : Merged F t) where
   -- THE LAW: the counts
   pub measure-means : (measured-of : Measured) → measured-of ≡ measuredOf keptIn (distinctIn F) (havingIn F) (insideIn F) (recordOf F .kinds) (recordOf F .permissions) (recordOf F .operations) t
       → (measured-of .bytes ≡ length (minedBytes 2 F)) × (minedCounts 2 F ≡ record { size = measured-of .bytes; parts = measured-of .parts; rules = measured-of .rules; merges = seatMerges F; cost = measured-of .cost })
-  unfolding measuredOf costAt
+  unfolding measuredOf costWith
   measure-means m e =
       let sized : m .bytes ≡ length (minedBytes 2 F) = ap (λ (x : Measured). x .bytes) e ∙ ap length file-means in
       let ruled : m .rules ≡ length (seatGroups F) = ap (λ (x : Measured). x .rules) e ∙ heads-count F t M in
       let parted : m .parts ≡ length (seatsOf F) = ap (λ (x : Measured). x .parts) e ∙ parts-count F t M in
-      let costed : m .cost ≡ sum (λ g. ruleCost (settingOf F) (seatRule F g)) (seatGroups F) = ap (λ (x : Measured). x .cost) e ∙ sum-if (isHeadAt t) costOf (upTo 512) ∙ heads-sum F t M (λ g. ruleCost (settingOf F) (seatRule F g)) costOf cost-so in
+      let costed : m .cost ≡ sum (λ g. ruleCost (settingOf F) (seatRule F g)) (seatGroups F) = ap (λ (x : Measured). x .cost) e ∙ sum-if (isHeadAt t) costOf (upTo roleCells) ∙ heads-sum F t M (λ g. ruleCost (settingOf F) (seatRule F g)) costOf cost-so in
       let long : length (encodeAll 2 (map (seatLines F) (seatGroups F))) ≡ m .bytes = ap length (sym (bytes-seats F (Z .few) (Z .operable))) ∙ sym sized in
       (sized, counts-seats F (Z .few) (Z .operable) ∙ rw (long, ← parted, ← ruled, ← costed) refl)

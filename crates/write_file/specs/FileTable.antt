@@ -5,12 +5,13 @@ use Prim.Native.Nat.{ℕ}
 use lib.ListN.{length, getD}
 use mathlib.Core.Bool.{cond}
 use mathlib.Core.List.{List, [], _∷_, _++_}
+use Rattle.role_record.specs.Cells.{roleCells}
 use Rattle.role_record.specs.Record.{tableOf}
-use Rattle.write_lists.specs.RuleLists.{ruleCostIn}
-use Rattle.write_rule.specs.RuleTable.{ruleBytesIn}
+use Rattle.write_theory.specs.RuleLists.{ruleCostIn}
+use Rattle.write_theory.specs.RuleTable.{ruleBytesIn}
 use Rattle.sets.specs.Tests.{keep, each, upTo, sum}
 use Rattle.mine_seats.specs.Seats.{restAt, levelIn, wordsAt, isPartAt, isHeadAt}
-use Rattle.mine_thin.specs.Kept.{keptIn}
+use Rattle.mine_thin.specs.KeptPlaces.{keptIn}
 use Rattle.write_file.specs.declared.Measured.{Measured}
 
 -- the places that the rule of a seat's group keeps
@@ -22,26 +23,33 @@ unfoldable pub keptHead : (links matches known attributes : List ℕ) → (users
 keptHead links matches known attributes users resources operations t i = cond (isHeadAt t i) (keptAt links matches known attributes users resources operations t i) 0
 
 unfoldable pub keptTable : (links matches known attributes : List ℕ) → (users resources operations : ℕ) → List ℕ → List ℕ
-keptTable links matches known attributes users resources operations t = tableOf 512 (keptHead links matches known attributes users resources operations t)
+keptTable links matches known attributes users resources operations t = tableOf roleCells (keptHead links matches known attributes users resources operations t)
 
--- what the rule of a seat's group costs; nothing where the seat is no head
-unfoldable pub costAt : (kept distinct having inside kinds t : List ℕ) → ℕ → ℕ
-costAt kept distinct having inside kinds t i = cond (isHeadAt t i) (ruleCostIn distinct having inside kinds t i (getD kept i 0)) 0
+-- what the rule of a seat's group costs that keeps these places; nothing where the seat is no head
+unfoldable pub costWith : (distinct having inside kinds t : List ℕ) → (head kept : ℕ) → ℕ
+costWith distinct having inside kinds t head kept = cond (isHeadAt t head) (ruleCostIn distinct having inside kinds t head kept) 0
+
+-- its bytes; none where the seat is no head
+unfoldable pub ruleWith : (distinct having inside kinds permissions : List ℕ) → ℕ → List ℕ → (head kept : ℕ) → List ℕ
+ruleWith distinct having inside kinds permissions operations t head kept = cond (isHeadAt t head) (ruleBytesIn distinct having inside kinds permissions operations t head kept) []
+
+-- both by the table of the places that each rule keeps
+abbrev pub costAt : (kept distinct having inside kinds t : List ℕ) → ℕ → ℕ
+costAt kept distinct having inside kinds t i = costWith distinct having inside kinds t i (getD kept i 0)
 
 module _ (kept distinct having inside kinds permissions : List ℕ) (operations : ℕ) (t : List ℕ) where
-  -- its bytes; none where the seat is no head
-  unfoldable pub ruleAt : ℕ → List ℕ
-  ruleAt i = cond (isHeadAt t i) (ruleBytesIn distinct having inside kinds permissions operations t i (getD kept i 0)) []
+  abbrev pub ruleAt : ℕ → List ℕ
+  ruleAt i = ruleWith distinct having inside kinds permissions operations t i (getD kept i 0)
 
   -- the rule file: the rules in the order of their heads, and behind them 2F
   unfoldable pub fileBytes : List ℕ
-  fileBytes = each ruleAt (upTo 512) ++ (0x2F ∷ [])
+  fileBytes = each ruleAt (upTo roleCells) ++ (0x2F ∷ [])
 
   -- what is counted
   unfoldable pub measuredOf : Measured
   measuredOf = record {
     bytes = length fileBytes;
-    rules = length (keep (isHeadAt t) (upTo 512));
-    cost = sum (costAt kept distinct having inside kinds t) (upTo 512);
-    parts = length (keep (isPartAt t) (upTo 512));
+    rules = length (keep (isHeadAt t) (upTo roleCells));
+    cost = sum (costAt kept distinct having inside kinds t) (upTo roleCells);
+    parts = length (keep (isPartAt t) (upTo roleCells));
   }

@@ -1,3 +1,3 @@
 pub mod FileTable
 pub mod FileLaws
-pub mod CountLaws
+pub mod MeasureLaws

@@ -3,9 +3,11 @@ ghost use lib.ListN.{length};
 ghost use mathlib.Core.Bool.{cond};
 ghost use mathlib.Core.Path.{_≡_};
 ghost use Prim.Native.Nat.{_≤_, _<_};
-ghost use Rattle.write_file.specs.FileTable.{keptHead, keptTable, ruleAt, costAt, fileBytes, measuredOf};
+ghost use Rattle.write_file.specs.FileTable.{keptHead, keptTable, fileBytes, measuredOf, costWith, ruleWith};
+ghost use Rattle.mine_seats.specs.Seats.{scratchWords};
+ghost use Rattle.role_record.specs.Cells.{roleCells};
 ghost use Rattle.write_lines.specs.Writing.{wrote};
-ghost use Rattle.write_lists.specs.Roles.{rolesTable};
+ghost use Rattle.write_roles.specs.GroupRoles.{rolesFor, rolesTable};
 use files::rule_byte;
 use role_record::ByPlace;
 use role_record::ByPlaceMember;
@@ -14,7 +16,9 @@ use role_record::BySide;
 use role_record::CountBySide;
 use role_record::Links;
 use role_record::RoleFile;
-use write_lists::Size;
+use role_record::Sizes;
+use write_sizes::Size;
+use write_theory::Outline;
 
 // The last byte, as it is stored.
 const ENDS: u8 = rule_byte::ENDS as u8;
@@ -33,34 +37,23 @@ pub struct Measured {
 fn kept_head<'a>(
     links: &'a Links,
     matches: &'a ByPlaceMember,
-    known: &'a ByPlace,
+    knowing: &'a ByPlace,
     attributes: &'a CountBySide,
-    users: usize,
-    resources: usize,
-    operations: usize,
+    sizes: Sizes,
     scratch: &'a [u64],
     i: usize,
 ) -> u64
-    requires { ⌜ (users ≤ 64) × (resources ≤ 64) × (i < 512) × (length (now scratch) ≡ 2048) ⌝ }
+    requires { ⌜
+        (sizes .users ≤ 64) × (sizes .resources ≤ 64) × (i < roleCells) × (length (now scratch) ≡ scratchWords) ⌝ }
     ensures { λ r. ⌜
         r
-        ≡ keptHead (now (links .entry)) (now (matches .entry)) (now (known .entry)) (now (attributes .entry)) users
-        resources operations (now (scratch .entry)) i ⌝ }
+        ≡ keptHead (now (links .entry)) (now (matches .entry)) (now (knowing .entry)) (now (attributes .entry))
+        (sizes .users) (sizes .resources) (sizes .operations) (now (scratch .entry)) i ⌝ }
 {
     if mine_seats::is_head(scratch, i) {
         let g = mine_seats::group_at(scratch, i);
         let level = mine_seats::level_at(scratch, i);
-        return mine_thin::kept_places(
-            links,
-            matches,
-            known,
-            attributes,
-            g,
-            level,
-            users,
-            resources,
-            operations,
-        );
+        return mine_thin::kept_places(links, matches, knowing, attributes, g, level, sizes);
     }
     0
 }
@@ -69,32 +62,24 @@ fn kept_head<'a>(
 fn fill_kept<'a>(
     links: &'a Links,
     matches: &'a ByPlaceMember,
-    known: &'a ByPlace,
+    knowing: &'a ByPlace,
     attributes: &'a CountBySide,
-    users: usize,
-    resources: usize,
-    operations: usize,
+    sizes: Sizes,
     scratch: &'a [u64],
     out: &mut [u64],
 )
-    requires { ⌜ (users ≤ 64) × (resources ≤ 64) × (length (now scratch) ≡ 2048) × (length (now out) ≡ 512) ⌝ }
+    requires { ⌜
+        (sizes .users ≤ 64)
+        × (sizes .resources ≤ 64)
+        × (length (now scratch) ≡ scratchWords)
+        × (length (now out) ≡ roleCells) ⌝ }
     ensures { λ _. ⌜
         now (out .exit)
-        ≡ keptTable (now (links .entry)) (now (matches .entry)) (now (known .entry)) (now (attributes .entry)) users
-        resources operations (now (scratch .entry)) ⌝ }
+        ≡ keptTable (now (links .entry)) (now (matches .entry)) (now (knowing .entry)) (now (attributes .entry))
+        (sizes .users) (sizes .resources) (sizes .operations) (now (scratch .entry)) ⌝ }
 {
     for i in 0..RoleFile::PARTS {
-        out[i] = kept_head(
-            links,
-            matches,
-            known,
-            attributes,
-            users,
-            resources,
-            operations,
-            scratch,
-            i,
-        );
+        out[i] = kept_head(links, matches, knowing, attributes, sizes, scratch, i);
     }
 }
 
@@ -102,70 +87,56 @@ fn fill_kept<'a>(
 pub fn kept_places<'a>(
     links: &'a Links,
     matches: &'a ByPlaceMember,
-    known: &'a ByPlace,
+    knowing: &'a ByPlace,
     attributes: &'a CountBySide,
-    users: usize,
-    resources: usize,
-    operations: usize,
+    sizes: Sizes,
     scratch: &'a [u64],
     out: &mut ByRoleOperation,
 )
-    requires { ⌜ (users ≤ 64) × (resources ≤ 64) × (length (now scratch) ≡ 2048) ⌝ }
+    requires { ⌜ (sizes .users ≤ 64) × (sizes .resources ≤ 64) × (length (now scratch) ≡ scratchWords) ⌝ }
     ensures { λ _. ⌜
         now (out .exit)
-        ≡ keptTable (now (links .entry)) (now (matches .entry)) (now (known .entry)) (now (attributes .entry)) users
-        resources operations (now (scratch .entry)) ⌝ }
+        ≡ keptTable (now (links .entry)) (now (matches .entry)) (now (knowing .entry)) (now (attributes .entry))
+        (sizes .users) (sizes .resources) (sizes .operations) (now (scratch .entry)) ⌝ }
 {
-    fill_kept(
-        links,
-        matches,
-        known,
-        attributes,
-        users,
-        resources,
-        operations,
-        scratch,
-        out,
-    );
+    fill_kept(links, matches, knowing, attributes, sizes, scratch, out);
 }
 
 // ---- one seat
 
-// Writes the rule of a seat's group at the front of a slice; nothing where the seat is no head.
+// Writes a rule at the front of a slice; nothing where its seat is no head.
 fn write_seat<'a>(
-    kept: &'a ByRoleOperation,
     distinct: &'a ByPlaceMember,
     having: &'a ByPlaceMember,
     inside: &'a ByPlaceMember,
     kinds: &'a BySide,
     permissions: &'a ByRoleOperation,
-    roles: &'a ByRoleOperation,
     operations: usize,
     scratch: &'a [u64],
-    i: usize,
+    rule: Outline,
     out: &mut [u8],
 ) -> usize
     requires { ⌜
         (operations ≤ 16)
-        × (length (now scratch) ≡ 2048)
-        × (now roles ≡ rolesTable (now scratch))
-        × (i < 512)
+        × (length (now scratch) ≡ scratchWords)
+        × (rule .head < roleCells)
+        × (rule .roles ≡ rolesFor (now scratch) (rule .head))
         × (length
-        (ruleAt (now kept) (now distinct) (now having) (now inside) (now kinds) (now permissions) operations
-        (now scratch) i)
+        (ruleWith (now distinct) (now having) (now inside) (now kinds) (now permissions) operations (now scratch)
+        (rule .head) (rule .kept))
         ≤ length (now out)) ⌝ }
     ensures { λ r. ⌜
         (now (out .exit)
         ≡ wrote
-        (ruleAt (now (kept .entry)) (now (distinct .entry)) (now (having .entry)) (now (inside .entry))
-        (now (kinds .entry)) (now (permissions .entry)) operations (now (scratch .entry)) i)
+        (ruleWith (now (distinct .entry)) (now (having .entry)) (now (inside .entry)) (now (kinds .entry))
+        (now (permissions .entry)) operations (now (scratch .entry)) (rule .head) (rule .kept))
         (now (out .entry)))
         × (r
         ≡ length
-        (ruleAt (now (kept .entry)) (now (distinct .entry)) (now (having .entry)) (now (inside .entry))
-        (now (kinds .entry)) (now (permissions .entry)) operations (now (scratch .entry)) i)) ⌝ }
+        (ruleWith (now (distinct .entry)) (now (having .entry)) (now (inside .entry)) (now (kinds .entry))
+        (now (permissions .entry)) operations (now (scratch .entry)) (rule .head) (rule .kept))) ⌝ }
 {
-    if mine_seats::is_head(scratch, i) {
+    if mine_seats::is_head(scratch, rule.head) {
         return write_rule::write_rule(
             distinct,
             having,
@@ -174,41 +145,40 @@ fn write_seat<'a>(
             permissions,
             operations,
             scratch,
-            i,
-            kept[i],
-            roles[i],
+            rule,
             out,
         );
     }
     0
 }
 
-// How long the rule of a seat's group is and what it costs; nothing where the seat is no head.
+// How long a rule is and what it costs; nothing where its seat is no head.
 fn size_seat<'a>(
-    kept: &'a ByRoleOperation,
     distinct: &'a ByPlaceMember,
     having: &'a ByPlaceMember,
     inside: &'a ByPlaceMember,
     kinds: &'a BySide,
     permissions: &'a ByRoleOperation,
-    roles: &'a ByRoleOperation,
     operations: usize,
     scratch: &'a [u64],
-    i: usize,
+    rule: Outline,
 ) -> Size
     requires { ⌜
-        (operations ≤ 16) × (length (now scratch) ≡ 2048) × (i < 512) × (now roles ≡ rolesTable (now scratch)) ⌝ }
+        (operations ≤ 16)
+        × (length (now scratch) ≡ scratchWords)
+        × (rule .head < roleCells)
+        × (rule .roles ≡ rolesFor (now scratch) (rule .head)) ⌝ }
     ensures { λ r. ⌜
         (r .bytes
         ≡ length
-        (ruleAt (now (kept .entry)) (now (distinct .entry)) (now (having .entry)) (now (inside .entry))
-        (now (kinds .entry)) (now (permissions .entry)) operations (now (scratch .entry)) i))
+        (ruleWith (now (distinct .entry)) (now (having .entry)) (now (inside .entry)) (now (kinds .entry))
+        (now (permissions .entry)) operations (now (scratch .entry)) (rule .head) (rule .kept)))
         × (r .cost
-        ≡ costAt (now (kept .entry)) (now (distinct .entry)) (now (having .entry)) (now (inside .entry))
-        (now (kinds .entry)) (now (scratch .entry)) i) ⌝ }
+        ≡ costWith (now (distinct .entry)) (now (having .entry)) (now (inside .entry)) (now (kinds .entry))
+        (now (scratch .entry)) (rule .head) (rule .kept)) ⌝ }
 {
-    if mine_seats::is_head(scratch, i) {
-        return write_rule::rule_size(
+    if mine_seats::is_head(scratch, rule.head) {
+        return write_sizes::rule_size(
             distinct,
             having,
             inside,
@@ -216,9 +186,7 @@ fn size_seat<'a>(
             permissions,
             operations,
             scratch,
-            i,
-            kept[i],
-            roles[i],
+            rule,
         );
     }
     Size { bytes: 0, cost: 0 }
@@ -240,11 +208,14 @@ pub fn measure<'a>(
     inside: &'a ByPlaceMember,
     kinds: &'a BySide,
     permissions: &'a ByRoleOperation,
-    roles: &'a ByRoleOperation,
+    group_roles: &'a ByRoleOperation,
     operations: usize,
     scratch: &'a [u64],
 ) -> Measured
-    requires { ⌜ (operations ≤ 16) × (length (now scratch) ≡ 2048) × (now roles ≡ rolesTable (now scratch)) ⌝ }
+    requires { ⌜
+        (operations ≤ 16)
+        × (length (now scratch) ≡ scratchWords)
+        × (now «group_roles» ≡ rolesTable (now scratch)) ⌝ }
     ensures { λ r. ⌜
         r
         ≡ measuredOf (now (kept .entry)) (now (distinct .entry)) (now (having .entry)) (now (inside .entry))
@@ -255,17 +226,20 @@ pub fn measure<'a>(
     let mut cost: usize = 0;
     let mut parts: usize = 0;
     for i in 0..RoleFile::PARTS {
+        let rule = Outline {
+            head: i,
+            kept: kept[i],
+            roles: group_roles[i],
+        };
         let size = size_seat(
-            kept,
             distinct,
             having,
             inside,
             kinds,
             permissions,
-            roles,
             operations,
             scratch,
-            i,
+            rule,
         );
         bytes += size.bytes;
         cost += size.cost;
@@ -288,15 +262,15 @@ pub fn write_rules<'a>(
     inside: &'a ByPlaceMember,
     kinds: &'a BySide,
     permissions: &'a ByRoleOperation,
-    roles: &'a ByRoleOperation,
+    group_roles: &'a ByRoleOperation,
     operations: usize,
     scratch: &'a [u64],
     out: &mut [u8],
 )
     requires { ⌜
         (operations ≤ 16)
-        × (length (now scratch) ≡ 2048)
-        × (now roles ≡ rolesTable (now scratch))
+        × (length (now scratch) ≡ scratchWords)
+        × (now «group_roles» ≡ rolesTable (now scratch))
         × (length
         (fileBytes (now kept) (now distinct) (now having) (now inside) (now kinds) (now permissions) operations
         (now scratch))
@@ -310,17 +284,20 @@ pub fn write_rules<'a>(
 {
     let mut at: usize = 0;
     for i in 0..RoleFile::PARTS {
+        let rule = Outline {
+            head: i,
+            kept: kept[i],
+            roles: group_roles[i],
+        };
         at += write_seat(
-            kept,
             distinct,
             having,
             inside,
             kinds,
             permissions,
-            roles,
             operations,
             scratch,
-            i,
+            rule,
             &mut out[at..],
         );
     }

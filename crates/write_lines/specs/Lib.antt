@@ -1,3 +1,3 @@
 pub mod Writing
 pub mod WritingLaws
-pub mod LineLaws
+pub mod ValueLineLaws

@@ -9,6 +9,7 @@ use mathlib.Core.Path.{_≡_, refl, sym, ap, ap₂, _∙_, subst}
 use native.Mathlib.Nat.{add-suc, suc-add, zero-add}
 use native.Mathlib.Omega.{arith}
 use Rattle.write_lines.specs.Writing.{wrote}
+use Rattle.sets.specs.ListLaws.{from-next}
 use Rattle.sets.specs.Tests.{each, from, upTo}
 
 -- what `&mut out[at..]` lends
@@ -83,12 +84,6 @@ all-written whole o out at w =
     (sym (w .far) ∙ ap length e, w .is ∙ ap (λ (l : List ℕ). wrote l o) e)
 
 -- ---- a loop that writes a run for each number below n
-
-from-next : (i n : ℕ) → i < n → from i (n - i) ≡ i ∷ from (i + 1) (n - (i + 1))
-from-next i n h =
-    let e : n - i ≡ suc (n - (i + 1)) = omega arith in
-    let d : suc i ≡ i + 1 = omega arith in
-    ap (from i) e ∙ ap (λ (k : ℕ). i ∷ from k (n - (i + 1))) d
 
 from-end : (i n : ℕ) → i ≡ n → from i (n - i) ≡ []
 from-end i n h = let e : n - i ≡ 0 = omega arith in ap (from i) e

@@ -9,7 +9,7 @@ ghost use Rattle.files.specs.RuleFile.{valueByte};
 ghost use Rattle.write_lines.specs.Writing.{wrote};
 ghost use Rattle.mine_theory.specs.Lines.RuleLines.{valueBytes, partBytes};
 ghost use Rattle.sets.specs.Tests.{each, upTo};
-ghost use Rattle.mine_theory.specs.Words.Flags.{placeSide, placeAttribute};
+ghost use Rattle.role_record.specs.Places.{placeSide, placeAttribute};
 use files::rule_byte;
 use role_record::ByMember;
 use role_record::RoleFile;

@@ -1,5 +1,2 @@
-pub mod RuleTable
 pub mod SectionLaws
-pub mod WriterLaws
-pub mod VisitLaws
-pub mod SizeLaws
+pub mod RoleVisitLaws

@@ -1,26 +1,28 @@
 -- The sections of a rule's bytes, in the steps in which they are written, and how long they may become.
 -- Assumes nothing.
 use Prim.Native.Nat.{ℕ, zero, suc, _+_, _*_, _/_, _%_, _≤_, _<_}
-use borrow.Author.Tests.{eq-eqb, ne-eqb}
 use lib.Dec.{eqb}
 use lib.ListN.{length, getD, drop, length-append}
 use mathlib.Core.Bool.{Bool, true, false, cond, _&&_, Bool·beq}
 use mathlib.Core.List.{List, [], _∷_, _++_, append-assoc, append-nil}
-use mathlib.Core.Path.{_≡_, refl, sym, ap, ap₂, _∙_}
+use mathlib.Core.Path.{_≡_, refl, sym, ap, ap₂, _∙_, subst}
 use native.Mathlib.Omega.{arith}
 use Rattle.files.specs.RoleFile.{sideBy}
 use Rattle.write_lines.specs.Writing.{wrote}
-use Rattle.write_lines.specs.WritingLaws.{runs-list}
+use Rattle.write_lines.specs.WritingLaws.{tailOf, backIn, length-wrote, Writing, write-on, runs-list}
 use Rattle.policy.specs.Rules.{Which, user, resource}
-use Rattle.mine_theory.specs.Lines.ListLaws.{length-each, sum-each, sum-most, sum-both}
+use Rattle.mine_theory.specs.Lines.RuleBytesLaws.{value-length}
 use Rattle.mine_theory.specs.Lines.RuleLines.{linkBytes, valueBytes, partBytes, kindPlace}
-use Rattle.write_lists.specs.ListingLaws.{listed-most, classes-most}
-use Rattle.write_lists.specs.RuleLists.{setPlace, listedAt, classesAt}
-use Rattle.write_rule.specs.RuleTable.{keptAs, placeBytesIn, kindBytesIn, kindBytesAt, conjunctBytesIn, atomBytesAt, atomBytesIn, roleBytesIn, partBytesIn, ruleBytesIn, sectionBytesIn}
+use Rattle.write_theory.specs.ListingLaws.{listed-most, classes-most}
+use Rattle.write_theory.specs.RuleLists.{setPlace, listedAt, classesAt}
+use Rattle.write_theory.specs.RuleTable.{keptAs, placeBytesIn, kindBytesIn, kindBytesAt, conjunctBytesIn, atomBytesAt, atomBytesIn, roleBytesIn, partBytesIn, operationBytesIn, ruleBytesIn}
 use Rattle.mine_seats.specs.Seats.{operationsAt}
+use Rattle.sets.specs.ListLaws.{length-each, sum-each, sum-most, sum-both, from-length}
 use Rattle.sets.specs.Sets.{bit}
-use Rattle.sets.specs.Tests.{Is, iff, each, from, upTo}
-use Rattle.mine_theory.specs.Words.Flags.{placeSide, placeAttribute}
+use Rattle.sets.specs.TestLaws.{beq-iff}
+use Rattle.sets.specs.Tests.{Is, iff, each, upTo}
+use Rattle.role_record.specs.Cells.{rowCells}
+use Rattle.role_record.specs.Places.{placeSide, placeAttribute}
 
 -- bytes that were written, under another name
 pub written-as : (bytes names out o : List ℕ) (r : ℕ) → bytes ≡ names → (r ≡ length bytes) × (out ≡ wrote bytes o) → (r ≡ length names) × (out ≡ wrote names o)
@@ -41,13 +43,7 @@ module _ (kinds : List ℕ) (kept : ℕ) (set : Bool) (i : ℕ) where
   -- one is, of this kind or the other
   pub kept-kind : (b : Bool) → Is (bit kept i) → b ≡ setPlace kinds i → Bool·beq b set ≡ keptAs kinds kept set i
   unfolding keptAs
-  kept-kind b h e = alike b set ∙ ap₂ (λ (x y : Bool). x && iff y set) (sym h) e
-    where
-      alike : (x y : Bool) → Bool·beq x y ≡ iff x y
-      alike true true = refl
-      alike true false = refl
-      alike false true = refl
-      alike false false = refl
+  kept-kind b h e = beq-iff b set ∙ ap₂ (λ (x y : Bool). x && iff y set) (sym h) e
 
 module _ (distinct having inside kinds : List ℕ) (t : List ℕ) (head kept : ℕ) where
   module _ (w : Which) (set : Bool) (i : ℕ) where
@@ -121,54 +117,42 @@ four-joined a b c d r = sym
 
 module _ (distinct having inside kinds permissions : List ℕ) (operations : ℕ) (t : List ℕ) (head kept : ℕ) where
   -- section by section
-  pub rule-sections : each (sectionBytesIn distinct having inside kinds permissions operations t head kept) (upTo 5) ≡ ruleBytesIn distinct having inside kinds permissions operations t head kept
-  unfolding ruleBytesIn sectionBytesIn conjunctBytesIn kindBytesAt
+  pub rule-sections : ruleBytesIn distinct having inside kinds permissions operations t head kept ≡ (0x21 ∷ []) ++ (conjunctBytesIn distinct having inside kinds t head kept ++ (operationBytesIn t head ++ (atomBytesIn kept ++ (partBytesIn permissions operations t head ++ []))))
+  unfolding ruleBytesIn operationBytesIn conjunctBytesIn kindBytesAt
   rule-sections =
-      sym (ap (λ (l : List ℕ). 0x21 ∷ l)
+      ap (λ (l : List ℕ). 0x21 ∷ l)
       (four-joined (kindBytesIn distinct having inside kinds t head kept user false) (kindBytesIn distinct having inside kinds t head kept user true) (kindBytesIn distinct having inside kinds t head kept resource false) (kindBytesIn distinct having inside kinds t head kept resource true)
       ((0x26 ∷ operationsAt t head % 256 ∷ operationsAt t head / 256 % 256 ∷ []) ++ (atomBytesIn kept ++ partBytesIn permissions operations t head))
-      ∙ ap (λ (l : List ℕ). conjunctBytesIn distinct having inside kinds t head kept ++ ((0x26 ∷ operationsAt t head % 256 ∷ operationsAt t head / 256 % 256 ∷ []) ++ (atomBytesIn kept ++ l))) (sym (append-nil (partBytesIn permissions operations t head)))))
+      ∙ ap (λ (l : List ℕ). conjunctBytesIn distinct having inside kinds t head kept ++ ((0x26 ∷ operationsAt t head % 256 ∷ operationsAt t head / 256 % 256 ∷ []) ++ (atomBytesIn kept ++ l))) (sym (append-nil (partBytesIn permissions operations t head))))
 
-  module _ (i : ℕ) where
-    -- what opens the rule
-    pub section-opens : i ≡ 0 → 0x21 ∷ [] ≡ sectionBytesIn distinct having inside kinds permissions operations t head kept i
-    unfolding sectionBytesIn
-    section-opens e = rw (eq-eqb i 0 e) refl
+-- the line of the operations
+pub operations-line : {ops : ℕ} (t : List ℕ) (head : ℕ) → ops ≡ operationsAt t head → 0x26 ∷ ops % 256 ∷ ops / 256 % 256 ∷ [] ≡ operationBytesIn t head
+unfolding operationBytesIn
+operations-line t head e = ap (λ (x : ℕ). 0x26 ∷ x % 256 ∷ x / 256 % 256 ∷ []) e
 
-    -- its conjuncts
-    pub section-conjuncts : (i ≡ 0 → ⊥) → i ≡ 1 → conjunctBytesIn distinct having inside kinds t head kept ≡ sectionBytesIn distinct having inside kinds permissions operations t head kept i
-    unfolding sectionBytesIn
-    section-conjuncts a e = rw (ne-eqb i 0 a, eq-eqb i 1 e) refl
+-- what opens the rule is written, at the front of the whole output
+pub opened : (whole o out left e : List ℕ) → whole ≡ e ++ left → length whole ≤ length o → out ≡ wrote e o → Writing whole o out (length e) left
+opened whole o out left e q h w =
+    let l = ap length q ∙ length-append e left in
+    record { done = e; far = refl; is = w; joined = sym q; long = ap length w ∙ length-wrote e o (omega (arith, l)); room = omega (arith, l) }
 
-    -- its operations
-    pub section-operations : {ops : ℕ} → (i ≡ 0 → ⊥) → (i ≡ 1 → ⊥) → i ≡ 2 → ops ≡ operationsAt t head
-        → 0x26 ∷ ops % 256 ∷ ops / 256 % 256 ∷ [] ≡ sectionBytesIn distinct having inside kinds permissions operations t head kept i
-    unfolding sectionBytesIn
-    section-operations a b e o = rw (ne-eqb i 0 a, ne-eqb i 1 b, eq-eqb i 2 e) (ap (λ (x : ℕ). 0x26 ∷ x % 256 ∷ x / 256 % 256 ∷ []) o)
+-- there is room for it
+pub opening-room : (whole left : List ℕ) (n : ℕ) → whole ≡ (0x21 ∷ []) ++ left → length whole ≤ n → 1 ≤ n
+opening-room whole left n q h = let l = ap length q in omega (arith, l, h)
 
-    -- its atoms
-    pub section-atoms : (i ≡ 0 → ⊥) → (i ≡ 1 → ⊥) → (i ≡ 2 → ⊥) → i ≡ 3 → atomBytesIn kept ≡ sectionBytesIn distinct having inside kinds permissions operations t head kept i
-    unfolding sectionBytesIn
-    section-atoms a b c e = rw (ne-eqb i 0 a, ne-eqb i 1 b, ne-eqb i 2 c, eq-eqb i 3 e) refl
+-- what is written is within the output
+pub at-within : (whole o out : List ℕ) (at : ℕ) (left : List ℕ) → Writing whole o out at left → at ≤ length out
+at-within whole o out at left w = let r = w .room in let l = w .long in omega (arith, r, l)
 
-    -- its parts
-    pub section-parts : (i ≡ 0 → ⊥) → (i ≡ 1 → ⊥) → (i ≡ 2 → ⊥) → (i ≡ 3 → ⊥) → partBytesIn permissions operations t head ≡ sectionBytesIn distinct having inside kinds permissions operations t head kept i
-    unfolding sectionBytesIn
-    section-parts a b c d = rw (ne-eqb i 0 a, ne-eqb i 1 b, ne-eqb i 2 c, ne-eqb i 3 d) refl
+-- a section is written in what is lent
+pub section-on : (whole o out left e : List ℕ) (at k : ℕ) (tail : List ℕ) → Writing whole o out at (e ++ left) → (k ≡ length e) × (tail ≡ wrote e (tailOf out at)) → Writing whole o (backIn out at tail) (at + k) left
+section-on whole o out left e at k tail w p = subst (λ (n : ℕ). Writing whole o (backIn out at tail) (at + n) left) (sym (p .0)) (write-on whole o out left e at tail w (p .1))
 
 -- ---- how long it may become
 
-from-long : (k n : ℕ) → length (from k n) ≡ n
-from-long k zero = refl
-from-long k (suc n) = ap suc (from-long (suc k) n)
-
-value-length : (w : Which) (set : Bool) (a v : ℕ) → length (valueBytes w set a v) ≡ cond set 10 4
-value-length w true a v = refl
-value-length w false a v = refl
-
 -- a run for each number below a bound
 runs-most : (m : ℕ) (f : ℕ → List ℕ) (n : ℕ) → ((i : ℕ) → length (f i) ≤ m) → length (each f (upTo n)) ≤ m * n
-runs-most m f n h = within (length-each f (upTo n)) (sum-most m (λ i. length (f i)) (upTo n) (λ i k. h i)) (from-long 0 n)
+runs-most m f n h = within (length-each f (upTo n)) (sum-most m (λ i. length (f i)) (upTo n) (λ i k. h i)) (from-length 0 n)
   where
     within : {x y z : ℕ} → x ≡ y → y ≤ m * z → z ≡ n → x ≤ m * n
     within e k d = rw (e, ← d) k
@@ -221,7 +205,7 @@ parts-most permissions operations t head =
     runs-most 64 (roleBytesIn permissions operations t head) 32 (λ k.
     within (length-each (partBytes k) (classesAt permissions operations t head k)) (sum-each 4 (λ n. length (partBytes k n)) (classesAt permissions operations t head k) (λ n m. refl)) (classes-most permissions operations t head k))
   where
-    within : {x y n : ℕ} → x ≡ y → y ≡ 4 * n → n ≤ 16 → x ≤ 64
+    within : {x y n : ℕ} → x ≡ y → y ≡ 4 * n → n ≤ rowCells → x ≤ 64
     within e d h = omega arith
 
 -- a rule has at most 12288 bytes, whatever the tables hold

@@ -6,7 +6,7 @@ use native.Mathlib.Numerals.{add-one}
 use native.Mathlib.Omega.{arith}
 use Rattle.files.specs.Answer.{told}
 use Rattle.files.specs.Calls.{judge, verdictTold}
-use Rattle.bench_judge.specs.Checksum.{plus, sampleOf, total}
+use Rattle.bench_judge.specs.JudgeChecksum.{plus, sampleOf, total}
 use Rattle.bench_judge.proofs.checksum.Statement.{statement}
 use Rattle.bench_judge.proofs.checksum.Tie as tie
 

@@ -4,7 +4,7 @@ use borrow.Author.Needs.{needs}
 use mathlib.Core.List.{[], _∷_}
 use mathlib.Core.Path.{_≡_, refl}
 use native.Mathlib.Omega.{arith}
-use Rattle.bench_judge.specs.Checksum.{plus, weightOf}
+use Rattle.bench_judge.specs.JudgeChecksum.{plus, weightOf}
 use Rattle.sets.specs.Tests.{sum}
 use Rattle.bench_judge.proofs.weight.Statement.{statement}
 use Rattle.bench_judge.proofs.weight.Tie as tie

@@ -7,7 +7,7 @@ use native.Mathlib.Numerals.{add-one}
 use native.Mathlib.Omega.{arith}
 use Rattle.files.specs.Answer.{told}
 use Rattle.files.specs.Calls.{countValues, mineAnswer}
-use Rattle.bench_mine.specs.Checksum.{plus, sampleOf, total}
+use Rattle.bench_mine.specs.MineChecksum.{plus, sampleOf, total}
 use Rattle.bench_mine.proofs.checksum.Statement.{statement}
 use Rattle.bench_mine.proofs.checksum.Tie as tie
 

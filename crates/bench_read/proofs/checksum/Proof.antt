@@ -6,7 +6,7 @@ use native.Mathlib.Numerals.{add-one}
 use native.Mathlib.Omega.{arith}
 use Rattle.files.specs.RoleFile.{readRoles}
 use Rattle.role_file.specs.Reading.{loadedOf}
-use Rattle.bench_read.specs.Checksum.{plus, sampleOf, total}
+use Rattle.bench_read.specs.ReadChecksum.{plus, sampleOf, total}
 use Rattle.bench_read.proofs.checksum.Statement.{statement}
 use Rattle.bench_read.proofs.checksum.Tie as tie
 

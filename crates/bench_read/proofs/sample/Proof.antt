@@ -1,5 +1,5 @@
 -- Each sum is what the words add up to. Assumes nothing.
-use Rattle.bench_read.specs.Checksum.{sampleOf}
+use Rattle.bench_read.specs.ReadChecksum.{sampleOf}
 use borrow.Author.Needs.{needs}
 use Rattle.bench_read.proofs.sample.Statement.{statement}
 use Rattle.bench_read.proofs.sample.Tie as tie

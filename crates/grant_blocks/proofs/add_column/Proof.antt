@@ -6,12 +6,13 @@ use mathlib.Core.Logic.{⊎-elim}
 use mathlib.Core.Path.{_≡_, sym, _∙_}
 use native.Mathlib.Omega.{arith}
 use Rattle.grant_blocks.specs.PartGridLaws.{columnSoFar, column-none, column-in, column-out, column-end, column-so-long}
+use Rattle.role_record.specs.Cells.{userCells}
 use Rattle.sets.specs.LoopLaws.{turn-within}
 use Rattle.grant_blocks.proofs.add_column.Statement.{statement}
 use Rattle.grant_blocks.proofs.add_column.Tie as tie
 
 abbrev Inv-loop : tie.InvT-loop
-Inv-loop holding permissions role operation grid₀ u₀ grid u = (u ≤ 64) × (length grid ≡ 1024) × (grid ≡ columnSoFar permissions role holding grid₀ operation u)
+Inv-loop holding permissions role operation grid₀ u₀ grid u = (u ≤ 64) × (length grid ≡ userCells) × (grid ≡ columnSoFar permissions role holding grid₀ operation u)
 
 abbrev μ-loop : tie.MeasureT-loop
 μ-loop holding permissions role operation grid₀ u₀ grid u = 64 - u

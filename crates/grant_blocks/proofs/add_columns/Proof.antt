@@ -6,15 +6,16 @@ use mathlib.Core.Logic.{⊎-elim}
 use mathlib.Core.Path.{_≡_, sym, _∙_}
 use native.Mathlib.Omega.{arith}
 use Rattle.grant_blocks.specs.PartGridLaws.{partSoFar, part-none, part-in, part-out, part-end, part-so-long}
+use Rattle.role_record.specs.Cells.{rowCells, userCells}
 use Rattle.sets.specs.LoopLaws.{turn-within}
 use Rattle.grant_blocks.proofs.add_columns.Statement.{statement}
 use Rattle.grant_blocks.proofs.add_columns.Tie as tie
 
 abbrev Inv-loop : tie.InvT-loop
-Inv-loop holding permissions role class grid₀ o₀ grid o = (o ≤ 16) × (length grid ≡ 1024) × (grid ≡ partSoFar permissions role holding grid₀ class o)
+Inv-loop holding permissions role class grid₀ o₀ grid o = (o ≤ rowCells) × (length grid ≡ userCells) × (grid ≡ partSoFar permissions role holding grid₀ class o)
 
 abbrev μ-loop : tie.MeasureT-loop
-μ-loop holding permissions role class grid₀ o₀ grid o = 16 - o
+μ-loop holding permissions role class grid₀ o₀ grid o = rowCells - o
 
 loop-holds : tie.Need-loop-holds Inv-loop μ-loop
 loop-holds c =
@@ -32,7 +33,7 @@ loop-again c =
     (λ w. part-out (a .permissions .now) (a .role) (a .holding) (a .grid .now) (a .class) (turn .o) (turn .grid) _ (turn .inv .2)
     (sym (c .before .has .ensures) ∙ w .0 .left) (w .1))
     (c .if1 .came) in (
-      turn-within (turn .o) 16 (c .before .before .loop-test .taken),
+      turn-within (turn .o) rowCells (c .before .before .loop-test .taken),
       part-so-long (a .permissions .now) (a .role) (a .holding) (a .grid .now) (a .class) (turn .o + 1) (c .if1 .grid) next,
       next,
     )

@@ -7,16 +7,17 @@ use mathlib.Core.Path.{_≡_, refl}
 use native.Mathlib.Omega.{arith}
 use Rattle.grant_blocks.specs.PartGrid.{joinedWord}
 use Rattle.grant_blocks.specs.PartGridLaws.{joined-unique, word-joined}
+use Rattle.role_record.specs.Cells.{userCells}
 use Rattle.sets.specs.LoopLaws.{store-next, store-rest}
 use Rattle.grant_blocks.proofs.join_words.Statement.{statement}
 use Rattle.grant_blocks.proofs.join_words.Tie as tie
 
 abbrev Inv-loop : tie.InvT-loop
 Inv-loop from to₀ i₀ to i =
-    (i ≤ 1024) × (length to ≡ 1024) × ((j : ℕ) → j < i → getD to j 0 ≡ joinedWord (getD to₀ j 0) (getD from j 0)) × ((j : ℕ) → i ≤ j → getD to j 0 ≡ getD to₀ j 0)
+    (i ≤ userCells) × (length to ≡ userCells) × ((j : ℕ) → j < i → getD to j 0 ≡ joinedWord (getD to₀ j 0) (getD from j 0)) × ((j : ℕ) → i ≤ j → getD to j 0 ≡ getD to₀ j 0)
 
 abbrev μ-loop : tie.MeasureT-loop
-μ-loop from to₀ i₀ to i = 1024 - i
+μ-loop from to₀ i₀ to i = userCells - i
 
 loop-holds : tie.Need-loop-holds Inv-loop μ-loop
 loop-holds c = (search needs, search needs, below-none _, (λ j l. refl))

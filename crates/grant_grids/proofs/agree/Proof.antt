@@ -1,5 +1,5 @@
 -- The invariant: the words of the operations before o are the same. Assumes nothing.
-use Prim.Native.Nat.{ℕ, _+_, _*_, _-_, _≤_}
+use Prim.Native.Nat.{ℕ, _-_, _≤_}
 use borrow.Author.Needs.{needs}
 use borrow.Author.Tests.{eq-eqb, ne-eqb}
 use lib.Dec.{eqb}
@@ -10,13 +10,14 @@ use mathlib.Core.Path.{_≡_, sym}
 use native.Mathlib.Omega.{arith}
 use Rattle.grant_grids.specs.Grid.{sameWords}
 use Rattle.grant_grids.specs.GridLaws.{fewer-words}
+use Rattle.role_record.specs.Cells.{rowCells, cellAt}
 use Rattle.sets.specs.LoopLaws.{turn-within, all-none, all-on, all-found, all-end}
 use Rattle.sets.specs.Tests.{all, upTo}
 use Rattle.grant_grids.proofs.agree.Statement.{statement}
 use Rattle.grant_grids.proofs.agree.Tie as tie
 
 abbrev same-word : List ℕ → List ℕ → ℕ → ℕ → Bool
-same-word a b u o = eqb (getD a (16 * u + o) 0) (getD b (16 * u + o) 0)
+same-word a b u o = eqb (getD a (cellAt u o) 0) (getD b (cellAt u o) 0)
 
 abbrev Inv-loop : tie.InvT-loop
 Inv-loop a b user operations o₀ o = (o ≤ operations) × (all (same-word a b user) (upTo o) ≡ true)
@@ -27,7 +28,7 @@ abbrev μ-loop : tie.MeasureT-loop
 returns : tie.Need-returns Inv-loop μ-loop
 returns c =
     let start = c .before .before in
-    fewer-words (start .args .a .now) (start .args .b .now) (start .args .user) (start .args .operations) 16 (start .pre .1) (c .before .alike .ensures) (c .if1 .taken)
+    fewer-words (start .args .a .now) (start .args .b .now) (start .args .user) (start .args .operations) rowCells (start .pre .1) (c .before .alike .ensures) (c .if1 .taken)
 
 loop-holds : tie.Need-loop-holds Inv-loop μ-loop
 loop-holds c =

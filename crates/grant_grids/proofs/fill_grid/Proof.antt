@@ -7,12 +7,13 @@ use native.Mathlib.Omega.{arith}
 use Rattle.grant_grids.specs.Grid.{gridOf, grantedBy}
 use Rattle.grant_grids.specs.GridLaws.{grid-long}
 use Rattle.grant_grids.specs.UpdateLaws.{roles-none, roles-next, roles-end}
+use Rattle.role_record.specs.Cells.{userCells}
 use Rattle.sets.specs.LoopLaws.{turn-within}
 use Rattle.grant_grids.proofs.fill_grid.Statement.{statement}
 use Rattle.grant_grids.proofs.fill_grid.Tie as tie
 
 abbrev Inv-loop : tie.InvT-loop
-Inv-loop holders permissions roles out₀ k₀ out k = (k ≤ roles) × (length out ≡ 1024) × (out ≡ gridOf (grantedBy holders permissions k))
+Inv-loop holders permissions roles out₀ k₀ out k = (k ≤ roles) × (length out ≡ userCells) × (out ≡ gridOf (grantedBy holders permissions k))
 
 abbrev μ-loop : tie.MeasureT-loop
 μ-loop holders permissions roles out₀ k₀ out k = roles - k

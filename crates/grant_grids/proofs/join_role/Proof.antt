@@ -6,12 +6,13 @@ use mathlib.Core.Logic.{⊎-elim}
 use mathlib.Core.Path.{_≡_, sym, _∙_}
 use native.Mathlib.Omega.{arith}
 use Rattle.grant_grids.specs.UpdateLaws.{roleSoFar, role-none, role-in, role-out, role-end, role-so-long}
+use Rattle.role_record.specs.Cells.{userCells}
 use Rattle.sets.specs.LoopLaws.{turn-within}
 use Rattle.grant_grids.proofs.join_role.Statement.{statement}
 use Rattle.grant_grids.proofs.join_role.Tie as tie
 
 abbrev Inv-loop : tie.InvT-loop
-Inv-loop holding permissions role grid₀ u₀ grid u = (u ≤ 64) × (length grid ≡ 1024) × (grid ≡ roleSoFar holding permissions role grid₀ u)
+Inv-loop holding permissions role grid₀ u₀ grid u = (u ≤ 64) × (length grid ≡ userCells) × (grid ≡ roleSoFar holding permissions role grid₀ u)
 
 abbrev μ-loop : tie.MeasureT-loop
 μ-loop holding permissions role grid₀ u₀ grid u = 64 - u

@@ -3,7 +3,7 @@ use borrow.Author.Needs.{needs}
 use borrow.Author.Tests.{eq-eqb, ne-eqb, lt-ltb, le-ltb}
 use mathlib.Core.Bool.{true, false}
 use mathlib.Core.Path.{refl, sym, _∙_}
-use Rattle.grant_parts.specs.PartLaws.{part-by-tests}
+use Rattle.grant_parts.specs.PartTableLaws.{part-by-tests}
 use Rattle.grant_parts.proofs.is_part.Statement.{statement}
 use Rattle.grant_parts.proofs.is_part.Tie as tie
 

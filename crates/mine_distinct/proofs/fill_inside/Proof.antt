@@ -4,7 +4,7 @@ use borrow.Author.Count.{below-none}
 use lib.ListN.{length, getD}
 use mathlib.Core.Path.{_≡_}
 use native.Mathlib.Omega.{arith}
-use Rattle.mine_distinct.specs.Filling.{insideWord}
+use Rattle.mine_distinct.specs.InsideFilling.{insideWord}
 use Rattle.role_record.specs.Record.{tableOf}
 use Rattle.sets.specs.LoopLaws.{store-next, table-unique}
 use borrow.Author.Needs.{needs}
@@ -23,7 +23,7 @@ loop-holds c = (search needs, search needs, below-none _)
 loop-again : tie.Need-loop-again Inv-loop μ-loop
 loop-again c =
     let turn = c .before .before .loop in
-    let a = c .before .before .before .before .before .before .args in (
+    let a = c .before .before .before .before .args in (
       search needs,
       search needs,
       store-next (turn .inside) (turn .w) (c .inside-word .result) (λ j. insideWord (a .kinds .now) (a .distinct .now) (a .having .now) (j / 64) (j % 64)) (turn .inv .2) (c .inside-word .ensures) (omega arith),
@@ -33,7 +33,7 @@ returns : tie.Need-returns Inv-loop μ-loop
 unfolding tableOf
 returns c =
     let end = c .before .loop in
-    let a = c .before .before .before .before .before .args in
+    let a = c .before .before .before .args in
     table-unique 896 (end .inside) (λ j. insideWord (a .kinds .now) (a .distinct .now) (a .having .now) (j / 64) (j % 64)) (end .inv .1) (λ j l. end .inv .2 j (omega arith))
 
 pub fill-inside-spec : {M : Type 1} → statement M

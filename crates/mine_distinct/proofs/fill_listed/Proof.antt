@@ -4,7 +4,7 @@ use lib.ListN.{length, length-set}
 use mathlib.Core.Logic.{⊎-elim}
 use mathlib.Core.Path.{_≡_, sym, ap, _∙_}
 use native.Mathlib.Omega.{arith}
-use Rattle.mine_distinct.specs.ListedLaws.{ListingBy, by-begin, by-room, by-in, by-out, by-end}
+use Rattle.mine_distinct.specs.DistinctListedLaws.{ListingBy, by-begin, by-room, by-in, by-out, by-end}
 use Rattle.sets.specs.LoopLaws.{turn-within}
 use borrow.Author.Needs.{needs}
 use Rattle.mine_distinct.proofs.fill_listed.Statement.{statement}

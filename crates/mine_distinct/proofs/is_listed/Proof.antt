@@ -1,5 +1,5 @@
 -- Assumes nothing.
-use Rattle.mine_distinct.specs.ListedLaws.{nobody-has, somebody-has}
+use Rattle.mine_distinct.specs.DistinctListedLaws.{nobody-has, somebody-has}
 use borrow.Author.Needs.{needs}
 use Rattle.mine_distinct.proofs.is_listed.Statement.{statement}
 use Rattle.mine_distinct.proofs.is_listed.Tie as tie

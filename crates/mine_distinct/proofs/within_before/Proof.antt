@@ -6,7 +6,7 @@ use mathlib.Core.List.{List}
 use mathlib.Core.Logic.{⊎-elim}
 use mathlib.Core.Path.{_≡_, sym, _∙_}
 use native.Mathlib.Omega.{arith}
-use Rattle.mine_distinct.specs.Filling.{withinBefore}
+use Rattle.mine_distinct.specs.InsideFilling.{withinBefore}
 use Rattle.policy.specs.Thinning.{strictly}
 use Rattle.sets.specs.LoopLaws.{turn-within, join-none, join-in, join-out, join-end}
 use Rattle.sets.specs.Sets.{joining, subset, maskOf}
@@ -28,14 +28,14 @@ abbrev μ-loop : tie.MeasureT-loop
 
 loop-holds : tie.Need-loop-holds Inv-loop μ-loop
 loop-holds c =
-    let a = c .before .before .before .args in
+    let a = c .before .args in
     (search needs, join-none 0 (within (a .distinct .now) (a .place) (a .number)) (who (a .having .now) (a .place)) (omega arith))
 
 loop-again : tie.Need-loop-again Inv-loop μ-loop
 loop-again c =
     let d = c .before in
     let turn = d .before .before .before .loop in
-    let a = d .before .before .before .before .before .before .before .args in (
+    let a = d .before .before .before .before .before .args in (
       turn-within (turn .l) (a .number) (d .before .before .loop-test .taken),
       ⊎-elim
           (λ w. join-in 0 (within (a .distinct .now) (a .place) (a .number)) (who (a .having .now) (a .place)) (turn .l) (turn .m) _ (turn .inv .1) (sym (d .strictly-within .ensures) ∙ w .0 .taken) (w .3 ∙ w .2 .ensures))
@@ -47,7 +47,7 @@ returns : tie.Need-returns Inv-loop μ-loop
 unfolding withinBefore
 returns c =
     let end = c .before .loop in
-    let a = c .before .before .before .before .before .args in
+    let a = c .before .before .before .args in
     join-end 0 (within (a .distinct .now) (a .place) (a .number)) (who (a .having .now) (a .place)) (end .l) (a .number) (end .m) (end .inv .1) (omega arith)
 
 pub within-before-spec : {M : Type 1} → statement M

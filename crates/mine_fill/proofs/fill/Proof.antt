@@ -7,15 +7,17 @@ use native.Mathlib.Omega.{arith}
 use Rattle.mine_fill.specs.FillLaws.{filled-turn}
 use Rattle.mine_fill.specs.Fill.{FilledTo}
 use Rattle.mine_seats.specs.SeatLaws.{stored-long}
+use Rattle.mine_seats.specs.Seats.{scratchWords}
+use Rattle.role_record.specs.Cells.{roleCells}
 use Rattle.mine_fill.proofs.fill.Statement.{statement}
 use Rattle.mine_fill.proofs.fill.Tie as tie
 
 abbrev Inv-loop : tie.InvT-loop
-Inv-loop scratch₀ links matches known attributes holders permissions users resources operations roles k₀ scratch k =
-    (k ≤ 512) × (length scratch ≡ 2048) × FilledTo links matches known attributes holders permissions users resources operations roles scratch k
+Inv-loop scratch₀ links matches known attributes holders permissions sizes k₀ scratch k =
+    (k ≤ roleCells) × (length scratch ≡ scratchWords) × FilledTo links matches known attributes holders permissions (sizes .users) (sizes .resources) (sizes .operations) (sizes .roles) scratch k
 
 abbrev μ-loop : tie.MeasureT-loop
-μ-loop scratch₀ links matches known attributes holders permissions users resources operations roles k₀ scratch k = 512 - k
+μ-loop scratch₀ links matches known attributes holders permissions sizes k₀ scratch k = roleCells - k
 
 loop-holds : tie.Need-loop-holds Inv-loop μ-loop
 loop-holds c = (search needs, search needs, λ k l. absurd (omega arith))
@@ -29,12 +31,12 @@ loop-again c =
     let s = part .seat-of .result in (
       search needs,
       ap length (put .store .ensures) ∙ stored-long (turn .scratch) (turn .k) (s .users) (s .resources) (s .operations) (s .rest) ∙ turn .inv .1,
-      filled-turn (a .links .now) (a .matches .now) (a .known .now) (a .attributes .now) (a .holders .now) (a .permissions .now) (a .users) (a .resources) (a .operations) (a .roles) (turn .scratch) (turn .k) (turn .inv .1) (part .before .loop-test .taken) (turn .inv .2)
+      filled-turn (a .links .now) (a .matches .now) (a .knowing .now) (a .attributes .now) (a .holders .now) (a .permissions .now) (a .sizes .users) (a .sizes .resources) (a .sizes .operations) (a .sizes .roles) (turn .scratch) (turn .k) (turn .inv .1) (part .before .loop-test .taken) (turn .inv .2)
           (part .seat-of .ensures) (put .store .ensures),
     )
 
 same-length : tie.Need-same-length Inv-loop μ-loop
-same-length c = c .before .loop .inv .1 ∙ sym (c .before .before .before .pre .6)
+same-length c = c .before .loop .inv .1 ∙ sym (c .before .before .before .pre .3)
 
 returns : tie.Need-returns Inv-loop μ-loop
 returns c = (c .before .loop .inv .1, λ k l. c .before .loop .inv .2 k (omega arith))

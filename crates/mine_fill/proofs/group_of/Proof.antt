@@ -2,8 +2,8 @@
 use borrow.Author.Needs.{needs}
 use mathlib.Core.Path.{refl}
 use Rattle.mine_fill.specs.Fill.{seatWords}
-use Rattle.mine_pairs.specs.FitLaws.{words-same}
 use Rattle.mine_fill.proofs.group_of.Statement.{statement}
+use Rattle.mine_theory.specs.Words.WordLaws.{words-same}
 use Rattle.mine_fill.proofs.group_of.Tie as tie
 
 returns : tie.Need-returns

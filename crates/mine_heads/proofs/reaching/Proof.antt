@@ -20,14 +20,14 @@ abbrev reachesIt : List ℕ → ℕ → Words → ℕ → Bool
 reachesIt scratch word W k = reaches (wordsAt scratch (64 * word + k)) W
 
 abbrev Inv-loop : tie.InvT-loop
-Inv-loop scratch slots word g m₀ rest₀ m rest =
-    (m < 2 ^ 64) × (rest < 2 ^ 64) × (maskOf 64 (keeping (reachesIt scratch word (wordsIn g)) m rest) ≡ maskOf 64 (λ k. bit slots k && reachesIt scratch word (wordsIn g) k))
+Inv-loop scratch seats word g m₀ rest₀ m rest =
+    (m < 2 ^ 64) × (rest < 2 ^ 64) × (maskOf 64 (keeping (reachesIt scratch word (wordsIn g)) m rest) ≡ maskOf 64 (λ k. bit seats k && reachesIt scratch word (wordsIn g) k))
 
 abbrev μ-loop : tie.MeasureT-loop
-μ-loop scratch slots word g m₀ rest₀ m rest = rest
+μ-loop scratch seats word g m₀ rest₀ m rest = rest
 
 loop-holds : tie.Need-loop-holds Inv-loop μ-loop
-loop-holds c = let a = c .before .args in (search needs, search needs, reaching-begin (reachesIt (a .scratch .now) (a .word) (wordsIn (a .g))) (a .slots))
+loop-holds c = let a = c .before .args in (search needs, search needs, reaching-begin (reachesIt (a .scratch .now) (a .word) (wordsIn (a .g))) (a .seats))
 
 add-group-at : tie.Need-add-group-at Inv-loop μ-loop
 add-group-at c = let t = least-in (c .before .before .loop .rest) (c .before .before .loop .inv .1) _ (c .least .ensures) (c .before .loop-test .taken) in omega arith

@@ -10,7 +10,7 @@ join-requires : tie.Need-join-requires
 join-requires c κs =
     let second = c .before .before .before in
     let first = second .before in
-    let start = first .before .before .before .before .before .before .before .before .before in
+    let start = first .before .before .before .before .before .before .before .before in
     let o = in-order (start .pre .3) (first .lower .ensures) (second .higher .ensures) in
     (o .0, o .1, start .pre .3 .low, start .pre .2)
 
@@ -18,7 +18,7 @@ unmark-requires : tie.Need-unmark-requires
 unmark-requires c κs =
     let second = c .before .before .before .before .before .before .before in
     let first = second .before in
-    let start = first .before .before .before .before .before .before .before .before .before in
+    let start = first .before .before .before .before .before .before .before .before in
     in-order (start .pre .3) (first .lower .ensures) (second .higher .ensures) .1
 
 mark-again-requires : tie.Need-mark-again-requires
@@ -27,14 +27,14 @@ mark-again-requires c κs =
     let joined = unmarked .before .before .before .before in
     let second = joined .before .before .before .before in
     let first = second .before in
-    let start = first .before .before .before .before .before .before .before .before .before in
+    let start = first .before .before .before .before .before .before .before .before in
     let o = in-order (start .pre .3) (first .lower .ensures) (second .higher .ensures) in
     (o .0, o .1, joined .join .ensures .long, marks-joined (o .0) (o .1) (joined .join .ensures) (o .2) (start .pre .4 .marks) (unmarked .unmark .ensures))
 
 same-length : tie.Need-same-length
 same-length c =
     let joined = c .before .before .before .before .before .before .before .before in
-    let start = joined .before .before .before .before .before .before .before .before .before .before .before .before .before .before in
+    let start = joined .before .before .before .before .before .before .before .before .before .before .before .before .before in
     joined .join .ensures .long ∙ sym (start .pre .2)
 
 returns : tie.Need-returns
@@ -45,18 +45,18 @@ returns c =
     let second = group .before .before in
     let first = second .before in
     let added = first .before in
-    let things = added .before .before .before in
-    let people = things .before .before in
-    let start = people .before .before .before in
+    let resources = added .before .before in
+    let users = resources .before .before in
+    let start = users .before .before .before in
     let a = start .args in
     let o = in-order (start .pre .3) (first .lower .ensures) (second .higher .ensures) in
     let old = start .pre .4 in
-    let m = added .add-group .ensures (usersAt (a .scratch .now) (a .c)) (resourcesAt (a .scratch .now) (a .c)) (old .met .of-users) (old .met .of-resources) in (
+    let m = added .widen .ensures (usersAt (a .scratch .now) (a .c)) (resourcesAt (a .scratch .now) (a .c)) (old .group) in (
       first .lower .ensures,
       joined-same (second .higher .ensures) (joined .join .ensures),
       record {
         marks = marks-joined (o .0) (o .1) (joined .join .ensures) (o .2) (old .marks) (unmarked .unmark .ensures);
-        met = group-joined (a .matches .now) (a .c) (a .found .seat) (added .add-group .last .1 .1 .1 .0) (added .add-group .last .1 .1 .1 .1 .0) (joined .join .ensures) (first .lower .ensures) (second .higher .ensures) (people .users-at .ensures) (things .resources-at .ensures) (m .0) (m .1);
+        group = group-joined (a .matches .now) (a .c) (a .found .seat) (added .widen .last .1 .1 .1 .0) (joined .join .ensures) (first .lower .ensures) (second .higher .ensures) (users .users-at .ensures) (resources .resources-at .ensures) m;
         reach = c .mark-again .ensures (a .scratch .now) (a .c) (a .found .level) (joined .join .ensures) (o .2) (one-of (a .c) (a .found .seat) (first .lower .ensures) (second .higher .ensures)) (group .group-at .ensures) (old .reach);
       },
     )

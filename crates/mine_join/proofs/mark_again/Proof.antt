@@ -1,8 +1,7 @@
 -- Assumes nothing.
 use Prim.Native.Nat.{ℕ, _^_, _<_}
 use borrow.Author.Needs.{needs}
-use mathlib.Core.Path.{_≡_, sym, ap, _∙_, subst}
-use native.Mathlib.Omega.{arith}
+use mathlib.Core.Path.{sym, ap, _∙_, subst}
 use Rattle.mine_join.specs.JoinedLaws.{open-joined}
 use Rattle.mine_theory.specs.Words.Words.{Words}
 use Rattle.mine_join.proofs.mark_again.Statement.{statement}

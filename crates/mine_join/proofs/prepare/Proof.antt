@@ -7,14 +7,14 @@ use Rattle.mine_join.proofs.prepare.Tie as tie
 returns : tie.Need-returns
 returns c =
     let added = c .before .before in
-    let things = added .before .before .before in
-    let people = things .before in
-    let start = people .before .before in
+    let resources = added .before .before in
+    let users = resources .before in
+    let start = users .before .before in
     let a = start .args in
-    let m = added .add-group .ensures 0 0 (start .pre .3) (start .pre .4) in
+    let m = added .widen .ensures 0 0 (start .pre .3) in
     record {
       marks = start .pre .2;
-      met = group-first (a .matches .now) (a .scratch .now) (a .c) (added .add-group .last .1 .1 .1 .0) (added .add-group .last .1 .1 .1 .1 .0) (people .users-at .ensures) (things .resources-at .ensures) (m .0) (m .1);
+      group = group-first (a .matches .now) (a .scratch .now) (a .c) (added .widen .last .1 .1 .1 .0) (users .users-at .ensures) (resources .resources-at .ensures) m;
       reach = c .mark-open .ensures;
     }
 

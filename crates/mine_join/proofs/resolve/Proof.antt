@@ -4,15 +4,17 @@ use borrow.Author.Needs.{needs}
 use lib.ListN.{length}
 use mathlib.Core.Path.{_≡_, sym, _∙_}
 use native.Mathlib.Omega.{arith}
+use Rattle.mine_seats.specs.Seats.{scratchWords}
+use Rattle.role_record.specs.Cells.{roleCells}
 use Rattle.mine_join.specs.JoinedLaws.{ResolvedTo, resolve-none, resolve-turn, resolve-end}
 use Rattle.mine_join.proofs.resolve.Statement.{statement}
 use Rattle.mine_join.proofs.resolve.Tie as tie
 
 abbrev Inv-loop : tie.InvT-loop
-Inv-loop scratch₀ k₀ scratch k = (k ≤ 512) × (length scratch ≡ 2048) × ResolvedTo scratch₀ scratch k
+Inv-loop scratch₀ k₀ scratch k = (k ≤ roleCells) × (length scratch ≡ scratchWords) × ResolvedTo scratch₀ scratch k
 
 abbrev μ-loop : tie.MeasureT-loop
-μ-loop scratch₀ k₀ scratch k = 512 - k
+μ-loop scratch₀ k₀ scratch k = roleCells - k
 
 loop-holds : tie.Need-loop-holds Inv-loop μ-loop
 loop-holds c = let start = c .before in (search needs, search needs, resolve-none (start .args .scratch .now) (start .pre))

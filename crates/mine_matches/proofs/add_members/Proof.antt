@@ -4,7 +4,7 @@ use borrow.Author.Needs.{needs}
 use lib.ListN.{length}
 use mathlib.Core.Path.{_≡_, sym, ap, _∙_}
 use native.Mathlib.Omega.{arith}
-use Rattle.mine_matches.specs.Matches.{both, Met}
+use Rattle.mine_matches.specs.Matches.{bothMembers, Met}
 use Rattle.sets.specs.Sets.{lessOne}
 use Rattle.sets.specs.MemberLaws.{least-in, less-less}
 use Rattle.mine_matches.specs.MetLaws.{Adds, adds-begin, adds-turn, adds-end}
@@ -12,7 +12,7 @@ use Rattle.mine_matches.proofs.add_members.Statement.{statement}
 use Rattle.mine_matches.proofs.add_members.Tie as tie
 
 abbrev Inv-loop : tie.InvT-loop
-Inv-loop matches side members met₀ left₀ met left = (left < 2 ^ 64) × (length met ≡ 6) × ((m : ℕ) → Met matches side m met₀ → Adds matches side met left (both m members))
+Inv-loop matches side members met₀ left₀ met left = (left < 2 ^ 64) × (length met ≡ 6) × ((m : ℕ) → Met matches side m met₀ → Adds matches side met left (bothMembers m members))
 
 abbrev μ-loop : tie.MeasureT-loop
 μ-loop matches side members met₀ left₀ met left = left
@@ -44,15 +44,15 @@ loop-again c =
     let t = least-in (turn .left) (turn .inv .0) _ (d .least .ensures) (d .before .loop-test .taken) in (
       search needs,
       c .before .before .before .add-member .ensures .0,
-      (λ m h. adds-turn (a .matches .now) (a .side) (turn .met) (c .before .before .before .add-member .last .1 .1 .1 .0) (turn .left) (c .without-least .result) (both m (a .members)) (d .least .result) (turn .inv .0) (t .0) (t .1) (c .before .before .before .add-member .ensures .1)
+      (λ m h. adds-turn (a .matches .now) (a .side) (turn .met) (c .before .before .before .add-member .last .1 .1 .1 .0) (turn .left) (c .without-least .result) (bothMembers m (a .members)) (d .least .result) (turn .inv .0) (t .0) (t .1) (c .before .before .before .add-member .ensures .1)
           (c .without-least .ensures ∙ ap (lessOne (turn .left)) (sym (d .least .ensures))) (turn .inv .2 m h)),
     )
 
 returns : tie.Need-returns Inv-loop μ-loop
-returns c m h =
+returns c =
     let end = c .before .loop in
     let a = c .before .before .before .args in
-    adds-end (a .matches .now) (a .side) (end .met) (end .left) (both m (a .members)) (omega arith) (end .inv .2 m h)
+    (end .inv .1, λ m h. adds-end (a .matches .now) (a .side) (end .met) (end .left) (bothMembers m (a .members)) (omega arith) (end .inv .2 m h))
 
 pub add-members-spec : {M : Type 1} → statement M
 add-members-spec =

@@ -5,7 +5,7 @@ use lib.ListN.{length, getD}
 use mathlib.Core.Path.{_≡_}
 use native.Mathlib.Omega.{arith}
 use Rattle.mine_matches.specs.Matches.{knownFor}
-use Rattle.mine_matches.specs.TableLaws.{known-unique}
+use Rattle.mine_matches.specs.MatchTableLaws.{known-unique}
 use Rattle.sets.specs.LoopLaws.{store-next}
 use borrow.Author.Needs.{needs}
 use Rattle.mine_matches.proofs.fill_known.Statement.{statement}

@@ -1,22 +1,24 @@
 -- Assumes nothing.
 use denote.Ref.{now}
-use Rattle.mine_matches.specs.TableLaws.{count-room, known-everybody, known-listed}
+use Rattle.mine_matches.specs.MatchTableLaws.{count-room}
 use borrow.Author.Needs.{needs}
 use Rattle.mine_matches.proofs.known_at.Statement.{statement}
+use mathlib.Core.Path.{ap, _∙_}
+use Prim.Native.Nat.{ℕ}
+use lib.Dec.{ltb}
+use Rattle.mine_matches.specs.MatchTableLaws.{known-there}
+use Rattle.sets.specs.Sets.{maskOf}
 use Rattle.mine_matches.proofs.known_at.Tie as tie
 
 returns : tie.Need-returns
 returns c =
-    let start = c .before .before .before in
+    let k = c .before in
+    let b = k .before in
+    let n = b .before in
+    let start = n .before in
     let a = start .args in
-    known-everybody (a .users) (a .resources) (now (a .known)) (a .place) _ _ (c .before .before .count-at .ensures) (count-room (a .users) (a .resources) (a .place) (start .pre .0) (start .pre .1)) (c .if1 .taken) (c .before .below .ensures)
-
-returns-2 : tie.Need-returns-2
-returns-2 c =
-    let d = c .before .before in
-    let start = d .before .before .before in
-    let a = start .args in
-    known-listed (a .users) (a .resources) (now (a .known)) (a .place) _ _ _ (d .before .before .count-at .ensures) (count-room (a .users) (a .resources) (a .place) (start .pre .0) (start .pre .1)) (d .if1 .left) (d .before .below .ensures) (c .meet .ensures)
+    known-there (a .users) (a .resources) (now (a .known)) (a .place) (b .below .result) (k .knowing .result) _ (count-room (a .users) (a .resources) (a .place) (start .pre .0) (start .pre .1))
+    (b .below .ensures ∙ ap (λ (x : ℕ). maskOf 64 (λ k. ltb k x)) (n .count-at .ensures)) (k .knowing .ensures) (c .meet .ensures)
 
 pub known-at-spec : {M : Type 1} → statement M
 known-at-spec =
@@ -24,10 +26,6 @@ known-at-spec =
     (tie.spec
     (λ c κs. search needs)
     (λ c κs. search needs)
-    returns
-    (λ c. search needs)
-    (λ c. search needs)
-    (λ c. search needs)
-    (λ c. search needs)
     (λ c κs. search needs)
-    returns-2)
+    (λ c κs. search needs)
+    returns)

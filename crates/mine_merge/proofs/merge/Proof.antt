@@ -4,8 +4,10 @@ use borrow.Author.Needs.{needs}
 use lib.ListN.{length}
 use mathlib.Core.Path.{_≡_, sym, _∙_}
 use native.Mathlib.Omega.{arith}
+use Rattle.mine_seats.specs.Seats.{scratchWords}
+use Rattle.role_record.specs.Cells.{roleCells}
 use Rattle.role_record.specs.Record.{Sized}
-use Rattle.mine_merge.specs.CountLaws.{heads-first}
+use Rattle.mine_merge.specs.HeadCountLaws.{heads-first}
 use Rattle.mine_merge.specs.Progress.{Settled}
 use Rattle.mine_merge.specs.ProgressLaws.{paired-tables, settled-begin, settled-end}
 use Rattle.mine_heads.specs.Heads.{Marked}
@@ -15,12 +17,12 @@ use Rattle.mine_merge.proofs.merge.Statement.{statement}
 use Rattle.mine_merge.proofs.merge.Tie as tie
 
 abbrev Inv-loop : tie.InvT-loop
-Inv-loop scratch₀ links matches known attributes holders permissions users resources operations roles heads₀ merges₀ front₀ scratch heads merges front =
-    (front ≤ 512) × (length scratch ≡ 2048) × (merges + headCount scratch ≤ 512) × Marked heads scratch
-    × ((F : Policy) → Sized F → Tables F links matches known attributes holders permissions users resources operations roles → Settled F scratch merges front)
+Inv-loop scratch₀ links matches known attributes holders permissions sizes heads₀ merges₀ front₀ scratch heads merges front =
+    (front ≤ roleCells) × (length scratch ≡ scratchWords) × (merges + headCount scratch ≤ roleCells) × Marked heads scratch
+    × ((F : Policy) → Sized F → Tables F links matches known attributes holders permissions (sizes .users) (sizes .resources) (sizes .operations) (sizes .roles) → Settled F scratch merges front)
 
 abbrev μ-loop : tie.MeasureT-loop
-μ-loop scratch₀ links matches known attributes holders permissions users resources operations roles heads₀ merges₀ front₀ scratch heads merges front = 512 - front
+μ-loop scratch₀ links matches known attributes holders permissions sizes heads₀ merges₀ front₀ scratch heads merges front = roleCells - front
 
 mark-requires : tie.Need-mark-requires Inv-loop μ-loop
 mark-requires c κs = (search needs, c .before .before .before .before .fill .ensures .0)
@@ -34,7 +36,7 @@ settle-requires : tie.Need-settle-requires Inv-loop μ-loop
 settle-requires c κs =
     let turn = c .before .before .before in
     let begin = turn .before .before .before .before .before .before .before .before .before .before in
-    (begin .pre .0, begin .pre .1, omega (arith, begin .pre .2), begin .pre .4, begin .pre .5, c .before .before .loop-test .taken, turn .loop .inv .1, turn .loop .inv .3)
+    (begin .pre .0, begin .pre .1, begin .pre .2, c .before .before .loop-test .taken, turn .loop .inv .1, turn .loop .inv .3)
 
 add-merges : tie.Need-add-merges Inv-loop μ-loop
 add-merges c =
@@ -57,7 +59,7 @@ resolve-requires : tie.Need-resolve-requires Inv-loop μ-loop
 resolve-requires c κs = c .before .before .loop .inv .1
 
 same-length : tie.Need-same-length Inv-loop μ-loop
-same-length c = let resolved = c .before .before in resolved .resolve .ensures .long ∙ sym (resolved .before .before .before .before .before .before .before .before .before .before .before .before .before .pre .6)
+same-length c = let resolved = c .before .before in resolved .resolve .ensures .long ∙ sym (resolved .before .before .before .before .before .before .before .before .before .before .before .before .before .pre .3)
 
 returns : tie.Need-returns Inv-loop μ-loop
 returns c =

@@ -1,34 +1,139 @@
+-- The invariant: what the search for a partner of the seat will find, for every policy whose tables these are. The heads become fewer.
 -- Assumes nothing.
 use borrow.Author.Needs.{needs}
-use mathlib.Core.Path.{sym, _∙_}
-use Rattle.mine_search.specs.MetLaws.{none-met}
+use mathlib.Core.Path.{sym, _∙_, _≡_, refl}
 use Rattle.mine_merge.proofs.settle_head.Statement.{statement}
+use Prim.Native.Nat.{ℕ, _+_, _≤_, max, min}
+use lib.ListN.{length}
+use native.Mathlib.Omega.{arith}
+use Rattle.mine_seats.specs.Seats.{scratchWords}
+use Rattle.role_record.specs.Cells.{roleCells}
+use Rattle.role_record.specs.Record.{Sized}
+use Rattle.mine_merge.specs.HeadCountLaws.{heads-most, heads-fewer}
+use Rattle.mine_merge.specs.Progress.{Settled}
+use Rattle.mine_merge.specs.ProgressLaws.{Going, going-begin, going-turn, going-end}
+use Rattle.mine_merge.specs.Steps.{Paired, headCount}
+use Rattle.mine_join.specs.Joins.{Prepared}
+use Rattle.mine_search.specs.PartnerSearch.{pairAt, Finds}
+use Rattle.mine_search.specs.PartnerSearchLaws.{partner-first, partner-later, Chosen, chosen-partner, chosen-behind, Taking, taking}
+use Rattle.policy.specs.Policy.{Policy}
+use Rattle.mine_matches.specs.MetLaws.{none-met}
 use Rattle.mine_merge.proofs.settle_head.Tie as tie
 
-prepare-requires : tie.Need-prepare-requires
+abbrev Inv-loop : tie.InvT-loop
+Inv-loop scratch₀ heads₀ links matches known attributes sizes start met₀ ready₀ merges₀ seeking₀ scratch heads met ready merges seeking =
+    (length scratch ≡ scratchWords) × (seeking .seat ≤ start) × (seeking .from ≤ roleCells) × (merges + headCount scratch ≤ headCount scratch₀)
+    × ((r level : ℕ) → Finds links matches known attributes (sizes .users) (sizes .resources) (sizes .operations) scratch (seeking .seat) (seeking .from) r level
+    → Chosen (pairAt links matches known attributes (sizes .users) (sizes .resources) (sizes .operations) scratch) (seeking .seat) r
+    × ((F : Policy) → Sized F → Paired F links matches known attributes (sizes .users) (sizes .resources) (sizes .operations) → (made : ℕ) → Settled F scratch₀ made start → Going F scratch (made + merges) (start + 1) (seeking .seat) r))
+    × Prepared matches scratch heads ready met (seeking .seat)
+
+abbrev μ-loop : tie.MeasureT-loop
+μ-loop scratch₀ heads₀ links matches known attributes sizes start met₀ ready₀ merges₀ seeking₀ scratch heads met ready merges seeking = headCount scratch
+
+prepare-requires : tie.Need-prepare-requires Inv-loop μ-loop
 prepare-requires c κs =
+    let begin = c .before .before .before .before .before in
+    (begin .pre .3, begin .pre .4, begin .pre .5, none-met (begin .args .matches .now))
+
+loop-holds : tie.Need-loop-holds Inv-loop μ-loop
+loop-holds c =
     let begin = c .before .before .before .before .before .before in
-    (begin .pre .5, begin .pre .6, begin .pre .7, none-met (begin .args .matches .now) 0, none-met (begin .args .matches .now) 1)
+    let a = begin .args in
+    let p = begin .pre in (
+      p .4,
+      omega arith,
+      omega (arith, p .3),
+      omega arith,
+      (λ r level found.
+          let later = partner-later (a .links .now) (a .matches .now) (a .knowing .now) (a .attributes .now) (a .sizes .users) (a .sizes .resources) (a .sizes .operations) (a .scratch .now) (a .start) (found .first) in (
+            chosen-behind (pairAt (a .links .now) (a .matches .now) (a .knowing .now) (a .attributes .now) (a .sizes .users) (a .sizes .resources) (a .sizes .operations) (a .scratch .now)) (a .start) later,
+            (λ F Z P made S. going-begin F Z (a .links .now) (a .matches .now) (a .knowing .now) (a .attributes .now) (a .sizes .users) (a .sizes .resources) (a .sizes .operations) P (a .scratch .now) made (a .start) r (p .3) later S),
+          )),
+      c .prepare .ensures,
+    )
 
-first-partner-requires : tie.Need-first-partner-requires
+first-partner-requires : tie.Need-first-partner-requires Inv-loop μ-loop
 first-partner-requires c κs =
-    let ready = c .before .before .before .before in
-    let p = ready .before .before .before .before .before .before .before .pre in
-    (p .0, p .1, p .2, p .3, p .4, p .5, search needs, p .6, ready .prepare .ensures .reach, ready .prepare .ensures .met)
+    let turn = c .before .before .before in
+    let p = turn .before .before .before .before .before .before .before .pre in
+    let inv = turn .loop .inv in
+    (p .0, p .1, p .2, omega (arith, inv .1, p .3), inv .2, inv .0, inv .5 .reach, inv .5 .group)
 
-join-on-requires : tie.Need-join-on-requires
-join-on-requires c κs =
-    let found = c .before .before .before .before .before in
-    let ready = found .before .before .before .before .before in
-    let p = ready .before .before .before .before .before .before .before .pre in
-    (p .0, p .1, p .2, p .3, p .4, p .5, p .6, ready .prepare .ensures, found .first-partner .ensures)
+same-length : tie.Need-same-length Inv-loop μ-loop
+same-length c = let turn = c .before .before .before .before .before .before in turn .loop .inv .0 ∙ sym (turn .before .before .before .before .before .before .before .pre .4)
 
-same-length : tie.Need-same-length
-same-length c =
+returns : tie.Need-returns Inv-loop μ-loop
+returns c =
+    let found = c .before .before in
+    let turn = found .before .before .before .before in
+    let p = turn .before .before .before .before .before .before .before .pre in
+    let inv = turn .loop .inv in
+    let end = inv .4 _ _ (found .first-partner .ensures) in
+    (inv .0, inv .3, inv .5 .marks, λ F Z P made S. going-end F (end .1 F Z P made S) (omega (arith, inv .1)) (omega (arith, inv .1, p .3)) (omega (arith, c .if1 .taken)))
+
+-- the two seats in order
+taken : (c : tie.Else1 Inv-loop μ-loop) (i : ℕ) → let found = c .before .before in let turn = found .before .before .before .before in let a = turn .before .before .before .before .before .before .before .args in let l = turn .loop in let other = found .first-partner .result in
+    i ≡ min (l .seeking .seat) (other .seat) → Taking (a .links .now) (a .matches .now) (a .knowing .now) (a .attributes .now) (a .sizes .users) (a .sizes .resources) (a .sizes .operations) (l .scratch) (l .seeking .seat) i (max (l .seeking .seat) (other .seat)) (other .level)
+taken c i e =
+    let found = c .before .before in
+    let turn = found .before .before .before .before in
+    let begin = turn .before .before .before .before .before .before .before in
+    let a = begin .args in
+    let l = turn .loop in
+    let other = found .first-partner .result in
+    let finds = found .first-partner .ensures in
+    taking (a .links .now) (a .matches .now) (a .knowing .now) (a .attributes .now) (a .sizes .users) (a .sizes .resources) (a .sizes .operations) (l .scratch) (l .seeking .seat) i (max (l .seeking .seat) (other .seat)) (other .level) (l .inv .4 _ _ finds .0) (finds .leveled) (omega (arith, c .if1 .left)) (omega (arith, l .inv .1, begin .pre .3)) e refl
+
+join-found-requires : tie.Need-join-found-requires Inv-loop μ-loop
+join-found-requires c κs =
+    let else = c .before .before .before .before in
+    let turn = else .before .before .before .before .before .before in
+    let l = turn .loop in
+    let o = taken else _ refl in
+    (omega (arith, l .inv .1, turn .before .before .before .before .before .before .before .pre .3), omega (arith, else .if1 .left), l .inv .0, record { order = o .order; below = o .below; low = o .low; head = o .first }, l .inv .5)
+
+add-merges : tie.Need-add-merges Inv-loop μ-loop
+add-merges c =
+    let turn = c .before .before .before .before .before .before .before .before .before .before .before .before .before in
+    let most = heads-most (turn .before .before .before .before .before .before .before .args .scratch .now) in
+    omega (arith, most, turn .loop .inv .3)
+
+loop-less : tie.Need-loop-less Inv-loop μ-loop
+loop-less c =
     let joined = c .before .before in
-    let found = joined .before .before .before .before .before .before in
-    let ready = found .before .before .before .before .before in
-    joined .join-on .ensures .0 ∙ sym (ready .before .before .before .before .before .before .before .pre .6)
+    let o = taken (joined .before .before .before .before .before) _ (joined .join-found .ensures .0) in
+    let fewer = heads-fewer (o .order) (joined .join-found .ensures .1) (o .first) (o .below) (o .second) in
+    omega (arith, fewer)
+
+loop-again : tie.Need-loop-again Inv-loop μ-loop
+loop-again c =
+    let joined = c .before .before in
+    let else = joined .before .before .before .before .before in
+    let found = else .before .before in
+    let turn = found .before .before .before .before in
+    let begin = turn .before .before .before .before .before .before .before in
+    let a = begin .args in
+    let p = begin .pre in
+    let l = turn .loop in
+    let other = found .first-partner .result in
+    let i = joined .join-found .result in
+    let first = joined .join-found .ensures .0 in
+    let both = joined .join-found .ensures .1 in
+    let o = taken else i first in
+    let fewer = heads-fewer (o .order) both (o .first) (o .below) (o .second) in (
+      both .long,
+      omega (arith, o .back, l .inv .1),
+      omega arith,
+      omega (arith, fewer, l .inv .3),
+      (λ r level finds.
+          let next = partner-first (a .links .now) (a .matches .now) (a .knowing .now) (a .attributes .now) (a .sizes .users) (a .sizes .resources) (a .sizes .operations) (joined .join-found .last .0) i (finds .first) (omega (arith, o .order, o .below)) in (
+            chosen-partner (pairAt (a .links .now) (a .matches .now) (a .knowing .now) (a .attributes .now) (a .sizes .users) (a .sizes .resources) (a .sizes .operations) (joined .join-found .last .0)) i next,
+            (λ F Z P made S. going-turn F Z (a .links .now) (a .matches .now) (a .knowing .now) (a .attributes .now) (a .sizes .users) (a .sizes .resources) (a .sizes .operations) P (l .scratch) (joined .join-found .last .0) (made + l .merges) (made + (l .merges + 1)) (a .start + 1) (l .seeking .seat) (other .seat) i (max (l .seeking .seat) (other .seat)) (other .level) r (omega arith) (omega (arith, l .inv .1)) (omega (arith, l .inv .1, p .3)) (omega (arith, else .if1 .left))
+                first refl (o .leveled) both next (l .inv .4 _ _ (found .first-partner .ensures) .1 F Z P made S)),
+          )),
+      joined .join-found .ensures .2,
+    )
 
 pub settle-head-spec : {M : Type 1} → statement M
-settle-head-spec = tie.close (tie.spec prepare-requires (λ c. search needs) first-partner-requires join-on-requires same-length (λ c. search needs))
+settle-head-spec = tie.close (tie.spec Inv-loop μ-loop prepare-requires (λ c. search needs) loop-holds first-partner-requires same-length returns join-found-requires add-merges loop-less loop-again)

@@ -11,7 +11,7 @@ use Rattle.grant_links.specs.Linked.{linkedWith}
 use Rattle.sets.specs.MemberLaws.{least-in, less-less, all-turn, all-left, all-done}
 use Rattle.sets.specs.Sets.{bit, lessOne}
 use Rattle.sets.specs.Tests.{imp, all, upTo}
-use Rattle.mine_pairs.specs.JoinLaws.{free-members, free-nothing}
+use Rattle.mine_pairs.specs.MayJoinLaws.{free-members, free-nothing}
 use Rattle.mine_pairs.specs.Pairing.{cornerFree}
 use Rattle.mine_pairs.proofs.corner_free.Statement.{statement}
 use Rattle.mine_pairs.proofs.corner_free.Tie as tie

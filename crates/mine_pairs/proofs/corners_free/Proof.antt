@@ -1,6 +1,6 @@
 -- Assumes nothing.
 use borrow.Author.Needs.{needs}
-use Rattle.mine_pairs.specs.JoinLaws.{corners-refused, corners-rest}
+use Rattle.mine_pairs.specs.MayJoinLaws.{corners-refused, corners-rest}
 use Rattle.mine_pairs.specs.Pairing.{wordsIn}
 use Rattle.mine_pairs.proofs.corners_free.Statement.{statement}
 use Rattle.mine_pairs.proofs.corners_free.Tie as tie

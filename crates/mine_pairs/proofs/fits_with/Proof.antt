@@ -3,9 +3,10 @@ use Prim.Native.Nat.{ℕ}
 use borrow.Author.Needs.{needs}
 use mathlib.Core.Bool.{_&&_}
 use mathlib.Core.Path.{sym, ap, _∙_}
+use native.Mathlib.Omega.{arith}
 use Rattle.sets.specs.Sets.{bit, maskOf}
 use Rattle.mine_pairs.specs.ExactLaws.{besides-decide}
-use Rattle.mine_pairs.specs.JoinLaws.{first-fails, second-decides}
+use Rattle.mine_pairs.specs.MayJoinLaws.{first-fails, second-decides}
 use Rattle.mine_pairs.specs.LookedLaws.{strangers-same}
 use Rattle.mine_pairs.specs.Pairing.{wordsIn, rimFree}
 use Rattle.mine_pairs.proofs.fits_with.Statement.{statement}
@@ -19,14 +20,14 @@ returns c =
     let both = sets .before .before in
     let start = both .before .before .before in
     let a = start .args in
-    second-decides (start .pre .5) (c .before .before .if2 .taken)
+    second-decides (start .pre .3) (c .before .before .if2 .taken)
     (c .rim-free .ensures ∙ ap (λ (x : ℕ). rimFree (a .links .now) x (both .before .before .union .result) (both .before .union2 .result) (a .who) (a .what)) (c .before .meet2 .ensures))
-    ∙ sym (besides-decide (a .links .now) (wordsIn (a .g)) (wordsIn (a .h)) (a .who) (a .what) (a .users) (a .resources) (a .operations) (record {
-      many = start .pre .0;
-      much = start .pre .1;
-      few = start .pre .2;
-      who-low = start .pre .3;
-      what-low = start .pre .4;
+    ∙ sym (besides-decide (a .links .now) (wordsIn (a .g)) (wordsIn (a .h)) (a .who) (a .what) (a .sizes .users) (a .sizes .resources) (a .sizes .operations) (record {
+      many = start .pre .0 .0;
+      much = start .pre .0 .1;
+      few = omega (arith, start .pre .0 .2);
+      who-low = start .pre .1;
+      what-low = start .pre .2;
       people = both .before .before .union .ensures;
       things = both .before .union2 .ensures;
       operations = both .union3 .ensures;
@@ -45,13 +46,13 @@ returns-2 c =
     let both = sets .before .before in
     let start = both .before .before .before in
     let a = start .args in
-    first-fails (rimFree (a .links .now) (maskOf 64 (λ k. bit (a .g .atoms) k && bit (a .h .atoms) k)) (both .before .before .union .result) (both .before .union2 .result) (a .who) (a .what)) (start .pre .5) (c .if2 .left)
-    ∙ sym (besides-decide (a .links .now) (wordsIn (a .g)) (wordsIn (a .h)) (a .who) (a .what) (a .users) (a .resources) (a .operations) (record {
-      many = start .pre .0;
-      much = start .pre .1;
-      few = start .pre .2;
-      who-low = start .pre .3;
-      what-low = start .pre .4;
+    first-fails (rimFree (a .links .now) (maskOf 64 (λ k. bit (a .g .atoms) k && bit (a .h .atoms) k)) (both .before .before .union .result) (both .before .union2 .result) (a .who) (a .what)) (start .pre .3) (c .if2 .left)
+    ∙ sym (besides-decide (a .links .now) (wordsIn (a .g)) (wordsIn (a .h)) (a .who) (a .what) (a .sizes .users) (a .sizes .resources) (a .sizes .operations) (record {
+      many = start .pre .0 .0;
+      much = start .pre .0 .1;
+      few = omega (arith, start .pre .0 .2);
+      who-low = start .pre .1;
+      what-low = start .pre .2;
       people = both .before .before .union .ensures;
       things = both .before .union2 .ensures;
       operations = both .union3 .ensures;
@@ -68,9 +69,7 @@ grants-just-requires c κs =
     let start = both .before .before .before in
     let a = start .args in (
       start .pre .0,
-      start .pre .1,
-      start .pre .2,
-      strangers-same (a .links .now) (wordsIn (a .g)) (wordsIn (a .h)) (a .who) (a .what) (a .users) _ _ (start .pre .0) (both .before .before .union .ensures) (c .union4 .ensures),
+      strangers-same (a .links .now) (wordsIn (a .g)) (wordsIn (a .h)) (a .who) (a .what) (a .sizes .users) _ _ (start .pre .0 .0) (both .before .before .union .ensures) (c .union4 .ensures),
     )
 
 pub fits-with-spec : {M : Type 1} → statement M

@@ -1,6 +1,6 @@
 -- Assumes nothing.
 use borrow.Author.Needs.{needs}
-use Rattle.mine_pairs.specs.JoinLaws.{first-fails, second-decides}
+use Rattle.mine_pairs.specs.MayJoinLaws.{first-fails, second-decides}
 use Rattle.mine_pairs.specs.Pairing.{wordsIn, cornersFree, mayJoin}
 use Rattle.mine_pairs.proofs.may_join.Statement.{statement}
 use Rattle.mine_pairs.proofs.may_join.Tie as tie

@@ -2,7 +2,7 @@
 use borrow.Author.Needs.{needs}
 use mathlib.Core.Path.{_∙_}
 use Rattle.sets.specs.Sets.{subset}
-use Rattle.mine_pairs.specs.JoinLaws.{first-fails, second-decides, reaches-plain, reaches-both}
+use Rattle.mine_pairs.specs.MayJoinLaws.{first-fails, second-decides, reaches-plain, reaches-both}
 use Rattle.mine_pairs.specs.Pairing.{wordsIn}
 use Rattle.mine_pairs.proofs.reaches.Statement.{statement}
 use Rattle.mine_pairs.proofs.reaches.Tie as tie

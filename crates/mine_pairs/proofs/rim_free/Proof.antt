@@ -2,7 +2,7 @@
 use Prim.Native.Nat.{ℕ}
 use borrow.Author.Needs.{needs}
 use mathlib.Core.Path.{ap, _∙_}
-use Rattle.mine_pairs.specs.JoinLaws.{first-fails, second-decides}
+use Rattle.mine_pairs.specs.MayJoinLaws.{first-fails, second-decides}
 use Rattle.mine_pairs.specs.Pairing.{less, cornerFree, rimFree}
 use Rattle.mine_pairs.proofs.rim_free.Statement.{statement}
 use Rattle.mine_pairs.proofs.rim_free.Tie as tie

@@ -1,6 +1,6 @@
 -- Assumes nothing.
 use borrow.Author.Needs.{needs}
-use Rattle.mine_pairs.specs.LevelLaws.{own-asked, own-not-asked}
+use Rattle.mine_pairs.specs.PairLevelLaws.{own-asked, own-not-asked}
 use Rattle.mine_pairs.proofs.with_own.Statement.{statement}
 use Rattle.mine_pairs.proofs.with_own.Tie as tie
 

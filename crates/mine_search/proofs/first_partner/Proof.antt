@@ -1,23 +1,24 @@
--- The invariant: no seat from the first on and before k is a partner, and k is a head or 512. Assumes nothing.
+-- The invariant: no seat from the first on and before k is a partner, and k is a head or past the last seat. Assumes nothing.
 use Prim.Native.Nat.{_-_}
 use borrow.Author.Needs.{needs}
 use native.Mathlib.Omega.{arith}
-use Rattle.mine_search.specs.SearchLaws.{Looking, looking, looking-on, looking-found, looking-end, finds-none, first-later}
+use Rattle.role_record.specs.Cells.{roleCells}
+use Rattle.mine_search.specs.PartnerSearchLaws.{Looking, looking, looking-on, looking-found, looking-end, finds-none, first-later}
 use Rattle.mine_search.proofs.first_partner.Statement.{statement}
 use Rattle.mine_search.proofs.first_partner.Tie as tie
 
 abbrev Inv-loop : tie.InvT-loop
-Inv-loop scratch ready links matches «met_users» «met_resources» known attributes users resources operations c from g k₀ k = Looking links matches known attributes users resources operations ready scratch c from k
+Inv-loop scratch ready links matches met known attributes sizes seeking g k₀ k = Looking links matches known attributes (sizes .users) (sizes .resources) (sizes .operations) ready scratch (seeking .seat) (seeking .from) k
 
 abbrev μ-loop : tie.MeasureT-loop
-μ-loop scratch ready links matches «met_users» «met_resources» known attributes users resources operations c from g k₀ k = 512 - k
+μ-loop scratch ready links matches met known attributes sizes seeking g k₀ k = roleCells - k
 
 loop-holds : tie.Need-loop-holds Inv-loop μ-loop
 loop-holds c =
     let group = c .before in
     let start = group .before .before .before .before in
     let a = start .args in
-    looking (a .links .now) (a .matches .now) (a .known .now) (a .attributes .now) (a .users) (a .resources) (a .operations) (a .ready .now) (a .scratch .now) (a .c) (a .from) (start .pre .8) (group .group-at .ensures) (omega arith) (start .pre .6) (λ n p q. absurd (omega arith)) (c .next-near .ensures)
+    looking (a .links .now) (a .matches .now) (a .knowing .now) (a .attributes .now) (a .sizes .users) (a .sizes .resources) (a .sizes .operations) (a .ready .now) (a .scratch .now) (a .seeking .seat) (a .seeking .from) (start .pre .6) (group .group-at .ensures) (omega arith) (start .pre .4) (λ n p q. absurd (omega arith)) (c .next-near .ensures)
 
 returns : tie.Need-returns Inv-loop μ-loop
 returns c =
@@ -25,7 +26,7 @@ returns c =
     let turn = told .before in
     let head = turn .before .before .before .before in
     let a = head .before .before .before .args in
-    looking-found (a .links .now) (a .matches .now) (a .known .now) (a .attributes .now) (a .users) (a .resources) (a .operations) (a .ready .now) (a .scratch .now) (a .c) (a .from) (head .before .is-head .ensures) (head .if1 .taken) (turn .before .loop .inv) (turn .loop-test .taken) (told .level-beside .ensures) (c .if2 .taken)
+    looking-found (a .links .now) (a .matches .now) (a .knowing .now) (a .attributes .now) (a .sizes .users) (a .sizes .resources) (a .sizes .operations) (a .ready .now) (a .scratch .now) (a .seeking .seat) (a .seeking .from) (head .before .is-head .ensures) (head .if1 .taken) (turn .before .loop .inv) (turn .loop-test .taken) (told .level-beside .ensures) (c .if2 .taken)
 
 loop-less : tie.Need-loop-less Inv-loop μ-loop
 loop-less c =
@@ -43,18 +44,18 @@ loop-again c =
     let start = head .before .before .before in
     let a = start .args in
     let l = turn .before .loop in
-    looking (a .links .now) (a .matches .now) (a .known .now) (a .attributes .now) (a .users) (a .resources) (a .operations) (a .ready .now) (a .scratch .now) (a .c) (a .from) (start .pre .8) (group .group-at .ensures) (omega (arith, l .inv .head (turn .loop-test .taken) .0)) (omega (arith, turn .loop-test .taken))
-    (looking-on (a .links .now) (a .matches .now) (a .known .now) (a .attributes .now) (a .users) (a .resources) (a .operations) (a .ready .now) (a .scratch .now) (a .c) (a .from) (head .before .is-head .ensures) (head .if1 .taken) (l .inv) (turn .loop-test .taken) (told .level-beside .ensures) (refused .if2 .left)) (c .next-near2 .ensures)
+    looking (a .links .now) (a .matches .now) (a .knowing .now) (a .attributes .now) (a .sizes .users) (a .sizes .resources) (a .sizes .operations) (a .ready .now) (a .scratch .now) (a .seeking .seat) (a .seeking .from) (start .pre .6) (group .group-at .ensures) (omega (arith, l .inv .head (turn .loop-test .taken) .0)) (omega (arith, turn .loop-test .taken))
+    (looking-on (a .links .now) (a .matches .now) (a .knowing .now) (a .attributes .now) (a .sizes .users) (a .sizes .resources) (a .sizes .operations) (a .ready .now) (a .scratch .now) (a .seeking .seat) (a .seeking .from) (head .before .is-head .ensures) (head .if1 .taken) (l .inv) (turn .loop-test .taken) (told .level-beside .ensures) (refused .if2 .left)) (c .next-near2 .ensures)
 
 returns-2 : tie.Need-returns-2 Inv-loop μ-loop
 returns-2 c =
     let a = c .before .before .before .before .before .before .before .args in
-    looking-end (a .links .now) (a .matches .now) (a .known .now) (a .attributes .now) (a .users) (a .resources) (a .operations) (a .ready .now) (a .scratch .now) (a .c) (a .from) (c .before .loop .inv) (c .loop-test .left)
+    looking-end (a .links .now) (a .matches .now) (a .knowing .now) (a .attributes .now) (a .sizes .users) (a .sizes .resources) (a .sizes .operations) (a .ready .now) (a .scratch .now) (a .seeking .seat) (a .seeking .from) (c .before .loop .inv) (c .loop-test .left)
 
 returns-3 : tie.Need-returns-3 Inv-loop μ-loop
 returns-3 c =
     let a = c .before .before .before .args in
-    finds-none (a .links .now) (a .matches .now) (a .known .now) (a .attributes .now) (a .users) (a .resources) (a .operations) (a .ready .now) (a .scratch .now) (a .c) (a .from) (c .before .is-head .ensures) (c .if1 .left)
+    finds-none (a .links .now) (a .matches .now) (a .knowing .now) (a .attributes .now) (a .sizes .users) (a .sizes .resources) (a .sizes .operations) (a .ready .now) (a .scratch .now) (a .seeking .seat) (a .seeking .from) (c .before .is-head .ensures) (c .if1 .left)
 
 pub first-partner-spec : {M : Type 1} → statement M
 first-partner-spec =

@@ -3,10 +3,11 @@ use Prim.Native.Nat.{ℕ}
 use borrow.Author.Needs.{needs}
 use mathlib.Core.Path.{sym, ap₂, subst}
 use native.Mathlib.Omega.{arith}
-use Rattle.mine_matches.specs.Matches.{both, Met}
-use Rattle.mine_search.specs.SearchLaws.{level-told}
+use Rattle.mine_matches.specs.Matches.{bothMembers, Met}
+use Rattle.mine_search.specs.PartnerSearchLaws.{level-told}
 use Rattle.mine_theory.specs.Words.Words.{Words}
 use Rattle.mine_search.proofs.level_if_joined.Statement.{statement}
+use lib.ListN.{drop}
 use Rattle.mine_search.proofs.level_if_joined.Tie as tie
 
 level-of-pair-requires : tie.Need-level-of-pair-requires
@@ -20,11 +21,11 @@ level-of-pair-requires c κs =
       p .0,
       p .1,
       p .2,
-      p .3,
-      p .4,
       omega arith,
-      subst (λ (m : ℕ). Met (a .matches .now) 0 m (a .met-users .now)) (sym (ap₂ (λ (W X : Words). both (W .users) (X .users)) g h)) (p .8),
-      subst (λ (m : ℕ). Met (a .matches .now) 1 m (a .met-resources .now)) (sym (ap₂ (λ (W X : Words). both (W .resources) (X .resources)) g h)) (p .9),
+      (
+        subst (λ (m : ℕ). Met (a .matches .now) 0 m (a .met .now)) (sym (ap₂ (λ (W X : Words). bothMembers (W .users) (X .users)) g h)) (p .6 .0),
+        subst (λ (m : ℕ). Met (a .matches .now) 1 m (drop 6 (a .met .now))) (sym (ap₂ (λ (W X : Words). bothMembers (W .resources) (X .resources)) g h)) (p .6 .1),
+      ),
     )
 
 returns : tie.Need-returns
@@ -33,7 +34,7 @@ returns c =
     let first = second .before in
     let most = first .before in
     let a = most .before .before .before .before .args in
-    level-told (a .links .now) (a .matches .now) (a .known .now) (a .attributes .now) (a .users) (a .resources) (a .operations) (a .scratch .now) (a .i) (a .j) (first .group-at .ensures) (second .group-at2 .ensures) (most .before .before .level-at .ensures) (most .before .level-at2 .ensures) (most .higher .ensures) (c .level-of-pair .ensures)
+    level-told (a .links .now) (a .matches .now) (a .knowing .now) (a .attributes .now) (a .sizes .users) (a .sizes .resources) (a .sizes .operations) (a .scratch .now) (a .i) (a .j) (first .group-at .ensures) (second .group-at2 .ensures) (most .before .before .level-at .ensures) (most .before .level-at2 .ensures) (most .higher .ensures) (c .level-of-pair .ensures)
 
 pub level-if-joined-spec : {M : Type 1} → statement M
 level-if-joined-spec =

@@ -6,8 +6,10 @@ use mathlib.Core.Path.{_≡_}
 use native.Mathlib.Omega.{arith}
 use Rattle.role_record.specs.Record.{tableOf}
 use Rattle.sets.specs.LoopLaws.{turn-within}
-use Rattle.mine_tables.specs.Tables.{turns, matchPlace, matchesBy}
-use Rattle.mine_tables.specs.TurnLaws.{turns-next, turns-end, match-long}
+use Rattle.grant_tables.specs.Tables.{turns}
+use Rattle.grant_tables.specs.LinkTurnLaws.{turns-next, turns-end}
+use Rattle.mine_tables.specs.Matching.{matchPlace, matchesBy}
+use Rattle.mine_tables.specs.MatchingLaws.{match-long}
 use Rattle.role_record.specs.RecordLaws.{cleared, cleared-long}
 use Rattle.mine_tables.proofs.fill_matches.Statement.{statement}
 use Rattle.mine_tables.proofs.fill_matches.Tie as tie
@@ -32,8 +34,8 @@ loop-again c =
     let a = after .before .before .before .before .before .before .before .before .before .args in
     let e = after .match-place .ensures in (
       turn-within (turn .place) 14 (after .before .before .loop-test .taken),
-      match-long (a .distinct .now) (a .having .now) (a .known .now) (a .kinds .now) (turn .place) (turn .out) _ (turn .inv .1) e,
-      turns-next (matchPlace (a .distinct .now) (a .having .now) (a .known .now) (a .kinds .now)) (tableOf 896 (λ i. 0)) (turn .place) (turn .out) _ (turn .inv .2) e,
+      match-long (a .distinct .now) (a .having .now) (a .knowing .now) (a .kinds .now) (turn .place) (turn .out) _ (turn .inv .1) e,
+      turns-next (matchPlace (a .distinct .now) (a .having .now) (a .knowing .now) (a .kinds .now)) (tableOf 896 (λ i. 0)) (turn .place) (turn .out) _ (turn .inv .2) e,
     )
 
 returns : tie.Need-returns Inv-loop μ-loop
@@ -41,7 +43,7 @@ unfolding matchesBy
 returns c =
     let end = c .before .loop in
     let a = c .before .before .before .before .before .before .before .args in
-    turns-end (matchPlace (a .distinct .now) (a .having .now) (a .known .now) (a .kinds .now)) (tableOf 896 (λ i. 0)) (end .place) 14 (end .out) (end .inv .2) (omega arith)
+    turns-end (matchPlace (a .distinct .now) (a .having .now) (a .knowing .now) (a .kinds .now)) (tableOf 896 (λ i. 0)) (end .place) 14 (end .out) (end .inv .2) (omega arith)
 
 pub fill-matches-spec : {M : Type 1} → statement M
 fill-matches-spec =

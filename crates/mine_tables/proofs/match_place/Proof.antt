@@ -5,9 +5,12 @@ use lib.ListN.{length}
 use mathlib.Core.Path.{_≡_, refl}
 use native.Mathlib.Omega.{arith}
 use Rattle.sets.specs.LoopLaws.{turn-within}
-use Rattle.mine_tables.specs.Tables.{turns, numberOf, matchValue, matchPlace}
-use Rattle.mine_tables.specs.TurnLaws.{turns-next, turns-end, spread-keeps, number-most, match-turn}
+use Rattle.grant_tables.specs.Tables.{valueCount}
 use Rattle.mine_tables.proofs.match_place.Statement.{statement}
+use Rattle.grant_tables.specs.Tables.{turns}
+use Rattle.grant_tables.specs.LinkTurnLaws.{turns-next, turns-end, spread-keeps, number-most}
+use Rattle.mine_tables.specs.Matching.{matchValue, matchPlace}
+use Rattle.mine_tables.specs.MatchingLaws.{match-turn}
 use Rattle.mine_tables.proofs.match_place.Tie as tie
 
 abbrev Inv-loop : tie.InvT-loop
@@ -32,8 +35,8 @@ loop-again c =
       turn-within (turn .k) _ (word .before .before .before .loop-test .taken),
       turn .inv .1,
       spread-keeps 896 (a .place) _ _ (turn .out) _ e (turn .inv .2),
-      turns-next (matchValue (a .distinct .now) (a .having .now) (a .known .now) (a .kinds .now) (a .place)) (a .out .now) (turn .k) (turn .out) _ (turn .inv .3)
-          (match-turn (a .distinct .now) (a .having .now) (a .known .now) (a .kinds .now) (a .place) (turn .k) _ _ _ (turn .out) _ (turn .inv .2) (who .meet2 .ensures) (word .before .met-by .ensures) (word .meet .ensures) e),
+      turns-next (matchValue (a .distinct .now) (a .having .now) (a .knowing .now) (a .kinds .now) (a .place)) (a .out .now) (turn .k) (turn .out) _ (turn .inv .3)
+          (match-turn (a .distinct .now) (a .having .now) (a .knowing .now) (a .kinds .now) (a .place) (turn .k) _ _ _ (turn .out) _ (turn .inv .2) (who .meet2 .ensures) (word .before .met-by .ensures) (word .meet .ensures) e),
     )
 
 returns : tie.Need-returns Inv-loop μ-loop
@@ -42,7 +45,7 @@ returns c =
     let end = c .before .loop in
     let counted = c .before .before in
     let a = counted .before .before .args in
-    turns-end (matchValue (a .distinct .now) (a .having .now) (a .known .now) (a .kinds .now) (a .place)) (a .out .now) (end .k) (numberOf (a .having .now) (a .place)) (end .out) (end .inv .3)
+    turns-end (matchValue (a .distinct .now) (a .having .now) (a .knowing .now) (a .kinds .now) (a .place)) (a .out .now) (end .k) (valueCount (a .having .now) (a .place)) (end .out) (end .inv .3)
     (let q = counted .number .ensures in omega arith)
 
 pub match-place-spec : {M : Type 1} → statement M

@@ -7,7 +7,7 @@ use Rattle.mine_tables.proofs.matches.Tie as tie
 returns : tie.Need-returns
 returns c =
     let a = c .before .before .args in
-    λ knowing values holders users resources roles hu hr ek ed eh. matches-means (a .distinct .now) (a .having .now) (a .known .now) (a .kinds .now) knowing values holders users resources roles _ hu hr (c .fill-matches .ensures) ek ed eh
+    λ knowing values holders users resources roles hu hr ek ed eh. matches-means (a .distinct .now) (a .having .now) (a .knowing .now) (a .kinds .now) knowing values holders users resources roles _ hu hr (c .fill-matches .ensures) ek ed eh
 
 pub matches-spec : {M : Type 1} → statement M
 matches-spec =

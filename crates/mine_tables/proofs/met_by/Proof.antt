@@ -1,6 +1,7 @@
 -- Assumes nothing.
 use borrow.Author.Needs.{needs}
-use Rattle.mine_tables.specs.TurnLaws.{number-most, met-least, met-other}
+use Rattle.grant_tables.specs.LinkTurnLaws.{number-most}
+use Rattle.mine_tables.specs.MatchingLaws.{met-least, met-other}
 use Rattle.mine_tables.proofs.met_by.Statement.{statement}
 use Rattle.mine_tables.proofs.met_by.Tie as tie
 

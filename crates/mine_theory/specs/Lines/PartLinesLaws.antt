@@ -1,9 +1,9 @@
 -- The lines of a rule's parts: role by role, and within a role ascending by operation set.
 -- Assumes nothing.
-use Prim.Native.Nat.{ℕ, _/_, _%_, _<_}
+use Prim.Native.Nat.{ℕ, _<_}
 use borrow.Author.Tests.{eqb-true, eq-eqb}
 use lib.Dec.{eqb, ltb}
-use mathlib.Core.List.{List, [], _∷_, _++_, map}
+use mathlib.Core.List.{List, _∷_, _++_, map, map-map}
 use mathlib.Core.Path.{_≡_, refl, sym, ap, _∙_}
 use native.Mathlib.Omega.{arith}
 use Rattle.files.specs.ReadBackLaws.{lines-strict}
@@ -14,19 +14,16 @@ use Rattle.policy.specs.Roles.{Part}
 use Rattle.policy.specs.RuleLaws.{Lawful}
 use Rattle.policy.specs.Rules.{Setting, Block}
 use Rattle.policy.specs.Thinning.{written}
-use Rattle.mine_theory.specs.Lines.ListLaws.{each-ext, sort-is, sort-map}
 use Rattle.mine_theory.specs.Lines.RuleLines.{ruleLines, ofRole, partLinesOf}
 use Rattle.mine_theory.specs.Lines.RuleLinesLaws.{role-first, part-next, lines-sorted}
+use Rattle.role_record.specs.Cells.{cellRow, cellOperation, roleCells}
+use Rattle.sets.specs.ListLaws.{each-ext, sort-is, sort-map}
 use Rattle.sets.specs.Sorted.{sort}
 use Rattle.sets.specs.SortedLaws.{sort-in, sort-out, sort-rising, each-rising, numbers, from-rising}
 use Rattle.sets.specs.Tests.{Is, _isIn_, each, upTo}
 use Rattle.sets.specs.TestLaws.{keep-in, keep-out, each-in, each-out, upTo-in, map-in, map-out}
 use Rattle.mine_theory.specs.Words.Flags.{keptPlaces}
 use Rattle.mine_theory.specs.Words.Words.{Roomy, wordsOf}
-
-map-map : {A B C : Type 0} (f : B → C) (g : A → B) (l : List A) → map f (map g l) ≡ map (λ a. f (g a)) l
-map-map f g [] = refl
-map-map {C = C} f g (x ∷ xs) = ap (λ (l : List C). f (g x) ∷ l) (map-map f g xs)
 
 -- lines of parts, each of role k, ascend by operation set
 pub role-lines : (cls : ℕ → ℕ) (k : ℕ) (g : List ℕ) → sort precedes (map (λ i. part k (cls i)) g) ≡ map (part k) (sort ltb (map cls g))
@@ -35,14 +32,14 @@ role-lines cls k g = ap (sort precedes) (sym (map-map (part k) cls g)) ∙ sort-
 module _ (cls : ℕ → ℕ) (g : List ℕ) where
   -- the line of a seat
   abbrev seatLine : ℕ → RuleCommand
-  seatLine i = part (i / 16) (cls i)
+  seatLine i = part (cellRow i) (cls i)
 
   -- lines of parts are lines 28
-  pub part-lines-only : Every (λ c. Is (isPartLine c)) (map (λ i. part (i / 16) (cls i)) g)
+  pub part-lines-only : Every (λ c. Is (isPartLine c)) (map (λ i. part (cellRow i) (cls i)) g)
   part-lines-only c m = ap isPartLine (map-out seatLine g m .2)
 
   -- the lines of the roles one after the other
-  pub part-lines-roles : Every (λ i. i < 512) g → partLinesOf cls g ≡ each (λ k. sort precedes (map (λ i. part k (cls i)) (ofRole g k))) (upTo 32)
+  pub part-lines-roles : Every (λ i. i < roleCells) g → partLinesOf cls g ≡ each (λ k. sort precedes (map (λ i. part k (cls i)) (ofRole g k))) (upTo 32)
   unfolding partLinesOf
   part-lines-roles low =
       sort-is precedes lines-strict (map seatLine g)
@@ -62,24 +59,24 @@ module _ (cls : ℕ → ℕ) (g : List ℕ) where
       there c t =
           let l = low (t .0) (t .1) in
           rw (t .2)
-          (each-in (λ k. sort precedes (map (λ i. part k (cls i)) (ofRole g k))) (upTo-in {n = 32} {i = t .0 / 16} (omega arith))
-          (sort-in precedes lines-strict (map-in (λ i. part (t .0 / 16) (cls i)) (keep-in (λ i. eqb (i / 16) (t .0 / 16)) (t .1) (eq-eqb (t .0 / 16) (t .0 / 16) refl)))))
+          (each-in (λ k. sort precedes (map (λ i. part k (cls i)) (ofRole g k))) (upTo-in {n = 32} {i = cellRow (t .0)} (omega arith))
+          (sort-in precedes lines-strict (map-in (λ i. part (cellRow (t .0)) (cls i)) (keep-in (λ i. eqb (cellRow i) (cellRow (t .0))) (t .1) (eq-eqb (cellRow (t .0)) (cellRow (t .0)) refl)))))
 
       back : (c : RuleCommand) (k : ℕ) → (i : ℕ) × (i isIn ofRole g k) × (c ≡ part k (cls i)) → c isIn map seatLine g
       back c k t =
-          let s = keep-out (λ i. eqb (i / 16) k) g (t .1) in
-          rw (t .2 ∙ ap (λ (n : ℕ). part n (cls (t .0))) (sym (eqb-true (t .0 / 16) k (s .1)))) (map-in seatLine (s .0))
+          let s = keep-out (λ i. eqb (cellRow i) k) g (t .1) in
+          rw (t .2 ∙ ap (λ (n : ℕ). part n (cls (t .0))) (sym (eqb-true (cellRow (t .0)) k (s .1)))) (map-in seatLine (s .0))
 
   -- and by operation set within each
-  pub part-lines-sorted : Every (λ i. i < 512) g → partLinesOf cls g ≡ each (λ k. map (part k) (sort ltb (map cls (ofRole g k)))) (upTo 32)
+  pub part-lines-sorted : Every (λ i. i < roleCells) g → partLinesOf cls g ≡ each (λ k. map (part k) (sort ltb (map cls (ofRole g k)))) (upTo 32)
   part-lines-sorted low = part-lines-roles low ∙ each-ext (λ k. sort precedes (map (λ i. part k (cls i)) (ofRole g k))) (λ k. map (part k) (sort ltb (map cls (ofRole g k)))) (upTo 32) (λ k m. role-lines cls k (ofRole g k))
 
 -- the part of a seat
 abbrev pub partOf : ℕ → Part
-partOf i = record { role = i / 16; lead = i % 16 }
+partOf i = record { role = cellRow i; lead = cellOperation i }
 
 -- the lines of a written rule and of a list of seats, sorted
 pub seats-sorted : (P : Setting) → Roomy P → Lawful P → (B : Block) → Is (fits P B 3) → (cls : ℕ → ℕ) (g : List ℕ)
-    → sort precedes (each (condLines P) (written P B .conds) ++ (operations (written P B .ops) ∷ map (λ i. part (i / 16) (cls i)) g)) ≡ ruleLines P (wordsOf P B) (keptPlaces P (wordsOf P B) (levelOf P B)) (partLinesOf cls g)
+    → sort precedes (each (condLines P) (written P B .conds) ++ (operations (written P B .ops) ∷ map (λ i. part (cellRow i) (cls i)) g)) ≡ ruleLines P (wordsOf P B) (keptPlaces P (wordsOf P B) (levelOf P B)) (partLinesOf cls g)
 unfolding partLinesOf
-seats-sorted P Z L B fit cls g = lines-sorted P Z L B fit (map (λ i. part (i / 16) (cls i)) g) (part-lines-only cls g)
+seats-sorted P Z L B fit cls g = lines-sorted P Z L B fit (map (λ i. part (cellRow i) (cls i)) g) (part-lines-only cls g)

@@ -15,18 +15,20 @@ use Rattle.policy.specs.MergeLaws.{Every}
 use Rattle.policy.specs.RuleLaws.{Lawful}
 use Rattle.policy.specs.Rules.{Which, Setting, Cond, Block, user, resource}
 use Rattle.policy.specs.Thinning.{trimCond, written, singleCost, setCost, ruleCost}
-use Rattle.mine_theory.specs.Lines.ListLaws.{each-ext, each-append, each-only, each-cond, length-each, each-each, each-map, sum-ext, sum-kept, sum-both}
 use Rattle.mine_theory.specs.Lines.PartLinesLaws.{part-lines-sorted}
 use Rattle.mine_theory.specs.Lines.RuleLines.{kindPlace, writtenValues, attributeLines, isKind, kindLines, atomLines, ruleLines, ofRole, partLinesOf, valueBytes, partBytes, atomSet, linkBytes}
 use Rattle.mine_theory.specs.Lines.RuleLinesLaws.{attribute-byte, written-conjunct}
+use Rattle.sets.specs.ListLaws.{each-ext, each-append, each-only, each-cond, length-each, each-each, each-map, sum-ext, sum-kept, sum-both}
 use Rattle.sets.specs.MaskLaws.{size-mask}
 use Rattle.sets.specs.Sets.{bit, size}
 use Rattle.sets.specs.Sorted.{sort}
 use Rattle.sets.specs.TestLaws.{upTo-out}
 use Rattle.sets.specs.Tests.{Is, each, only, upTo, sum}
 use Rattle.mine_theory.specs.Words.FlagLaws.{written-cost}
-use Rattle.mine_theory.specs.Words.Flags.{placeSide, placeAttribute, condAt, keptPlaces, placesCost}
+use Rattle.mine_theory.specs.Words.Flags.{condAt, keptPlaces, placesCost}
 use Rattle.mine_theory.specs.Words.Words.{Words, Roomy, wordsOf}
+use Rattle.role_record.specs.Cells.{roleCells}
+use Rattle.role_record.specs.Places.{placeSide, placeAttribute}
 
 -- a byte stands for itself, and nothing follows the last operand
 two-operands : (b x : ℕ) (l : List ℕ) → x < 256 → b ∷ (x % 256 ∷ (l ++ [])) ≡ b ∷ x ∷ l
@@ -57,7 +59,7 @@ encode-part k n h = two-operands 0x28 k (spread 2 n) h
 
 -- ---- lengths
 
-value-length : (w : Which) (set : Bool) (a v : ℕ) → length (valueBytes w set a v) ≡ cond set 10 4
+pub value-length : (w : Which) (set : Bool) (a v : ℕ) → length (valueBytes w set a v) ≡ cond set 10 4
 value-length w true a v = refl
 value-length w false a v = refl
 
@@ -73,7 +75,7 @@ pub role-bytes : (k : ℕ) → k < 256 → (ns : List ℕ) → each (encode 2) (
 role-bytes k l ns = each-map (encode 2) (part k) ns ∙ each-ext (λ n. encode 2 (part k n)) (partBytes k) ns (λ n m. encode-part k n l)
 
 -- the lines of a list of seats: role by role, ascending by operation set
-pub parts-bytes : (cls : ℕ → ℕ) (g : List ℕ) → Every (λ i. i < 512) g → each (encode 2) (partLinesOf cls g) ≡ each (λ k. each (partBytes k) (sort ltb (map cls (ofRole g k)))) (upTo 32)
+pub parts-bytes : (cls : ℕ → ℕ) (g : List ℕ) → Every (λ i. i < roleCells) g → each (encode 2) (partLinesOf cls g) ≡ each (λ k. each (partBytes k) (sort ltb (map cls (ofRole g k)))) (upTo 32)
 parts-bytes cls g low =
     ap (each (encode 2)) (part-lines-sorted cls g low)
     ∙ each-each (encode 2) (λ k. map (part k) (sort ltb (map cls (ofRole g k)))) (upTo 32)

@@ -12,8 +12,9 @@ use Rattle.policy.specs.Thinning.{trim}
 use Rattle.sets.specs.Sets.{bit, maskOf}
 use Rattle.sets.specs.Sorted.{sort}
 use Rattle.sets.specs.Tests.{iff, keep, each, only, upTo}
-use Rattle.mine_theory.specs.Words.Flags.{placeSide, placeAttribute}
 use Rattle.mine_theory.specs.Words.Words.{Words, membersOf}
+use Rattle.role_record.specs.Cells.{cellRow}
+use Rattle.role_record.specs.Places.{placeSide, placeAttribute}
 
 -- the place of a side's attribute number j, with 255 as number 6
 abbrev pub kindPlace : Which → ℕ → ℕ
@@ -53,11 +54,11 @@ module _ (P : Setting) where
 
 -- the seats of a role
 abbrev pub ofRole : List ℕ → ℕ → List ℕ
-ofRole g k = keep (λ i. eqb (i / 16) k) g
+ofRole g k = keep (λ i. eqb (cellRow i) k) g
 
--- the lines 28 of a list of seats, seat i standing for role i / 16 and the operations that `cls` says
+-- the lines 28 of a list of seats, seat i standing for the role of that cell and the operations that `cls` says
 unfoldable pub partLinesOf : (ℕ → ℕ) → List ℕ → Lines
-partLinesOf cls g = sort precedes (map (λ i. part (i / 16) (cls i)) g)
+partLinesOf cls g = sort precedes (map (λ i. part (cellRow i) (cls i)) g)
 
 -- ---- one line
 

@@ -17,16 +17,17 @@ use Rattle.policy.specs.RuleLaws.{Lawful}
 use Rattle.policy.specs.Rules.{own, Which, by, Setting, Cond, Block, user, resource, conjunct, atom}
 use Rattle.policy.specs.SideLaws.{values-rising}
 use Rattle.policy.specs.Thinning.{trim, trimCond, written}
-use Rattle.mine_theory.specs.Lines.ListLaws.{map-rising, sort-is}
 use Rattle.mine_theory.specs.Lines.RuleLines.{kindPlace, writtenValues, attributeLines, isKind, kindLines, atomLines, ruleLines}
+use Rattle.sets.specs.ListLaws.{map-rising, sort-is}
 use Rattle.sets.specs.Sets.{bit}
 use Rattle.sets.specs.Sorted.{Rising, sort, none-left, and-then}
 use Rattle.sets.specs.SortedLaws.{Before, sort-in, sort-out, sort-rising, keep-rising, append-rising, each-rising, only-rising, from-rising}
 use Rattle.sets.specs.Tests.{Is, _isIn_, each, only, upTo}
 use Rattle.sets.specs.TestLaws.{and-in, and-l, and-r, or-l, or-r, test, iff-in, iff-out, each-in, each-out, only-in, only-out, upTo-in, upTo-out, map-in, map-out}
 use Rattle.mine_theory.specs.Words.FlagLaws.{cond-conjunct, cond-atom, written-ops-words, written-places}
-use Rattle.mine_theory.specs.Words.Flags.{placeSide, placeAttribute, condAt, keptPlaces}
+use Rattle.mine_theory.specs.Words.Flags.{condAt, keptPlaces}
 use Rattle.mine_theory.specs.Words.Words.{Words, membersOf, Roomy, wordsOf}
+use Rattle.role_record.specs.Places.{placeSide, placeAttribute}
 
 -- ---- the order of lines
 

@@ -3,65 +3,33 @@
 use Prim.Native.Nat.{ℕ, zero, suc, _+_, _*_, _/_, _%_, _≤_, _<_, _-_}
 use borrow.Author.Tests.{eqb-true, eq-eqb, lt-ltb, le-ltb}
 use lib.Dec.{eqb, ltb}
-use mathlib.Core.Bool.{Bool, true, false, cond, _&&_, false≢true, not, and-assoc, and-comm}
-use mathlib.Core.List.{List, [], _∷_, _++_, append-assoc, append-nil, List·Memᴰ·head, List·Memᴰ·tail, List·Memᴰ·append-cases, Memᴰ·append-left, Memᴰ·append-right, map}
+use mathlib.Core.Bool.{Bool, true, false, cond, _&&_, false≢true, not, and-assoc, and-comm, and-true}
+use mathlib.Core.List.{List, [], _∷_, _++_, append-assoc, append-nil, List·Memᴰ·head, List·Memᴰ·tail, map}
 use mathlib.Core.Logic.{_⊎_, inl, inr}
 use mathlib.Core.Path.{_≡_, refl, sym, ap, ap₂, _∙_}
-use native.Mathlib.Nat.{add-zero, add-suc, suc-add, zero-add}
+use native.Mathlib.Nat.{add-zero, zero-add}
 use native.Mathlib.Numerals.{add-one}
 use native.Mathlib.Omega.{arith}
 use Rattle.policy.specs.Covering.{allKnow, valuesOf, standsIn, everywhere, conjuncts, atomConds, cover, fits, levelOf}
 use Rattle.policy.specs.RuleLaws.{Lawful}
 use Rattle.policy.specs.Rules.{own, Side, Which, by, Setting, Cond, Block, attrsOf, ownAt, holds, grants, sameBlock, user, resource, conjunct, atom}
+use Rattle.policy.specs.SideLaws.{attribute-cases, declared-in, own-in}
 use Rattle.policy.specs.ThinLaws.{holds-trim}
 use Rattle.policy.specs.Thinning.{strike, trimCond, grantsJust, thinned, written, singleCost, setCost, atomCost, ruleCost}
 use Rattle.policy.specs.WrittenLaws.{written-ops}
-use Rattle.sets.specs.LoopLaws.{upTo-more}
-use Rattle.sets.specs.MaskLaws.{and-true}
+use Rattle.sets.specs.ListLaws.{upTo-more, all-ext, each-ext, each-append, each-each, each-none, each-fewer, sum-append, sum-ext, from-split}
 use Rattle.sets.specs.Sets.{bit, maskOf, size}
 use Rattle.sets.specs.SetLaws.{bit-mask}
 use Rattle.sets.specs.Tests.{Is, imp, _isIn_, each, only, from, upTo, elem, sum}
-use Rattle.sets.specs.TestLaws.{test, fails, same, only-in, only-out, from-out, upTo-in, upTo-out, elem-in, elem-out}
-use Rattle.mine_theory.specs.Words.Flags.{placeSide, placeAttribute, condAt, hasAt, holdsAt, placesGrant, thinnedAt, thinnedTo, keptPlaces, placesCost}
-use Rattle.mine_theory.specs.Words.WordLaws.{all-ext, all-chosen, known-same, values-same, meets-met, member-bit, atom-bit, same-tests, spans-own}
+use Rattle.sets.specs.TestLaws.{test, fails, same, from-out, upTo-out, elem-in, elem-out}
+use Rattle.mine_theory.specs.Words.Flags.{condAt, hasAt, holdsAt, placesGrant, thinnedAt, thinnedTo, keptPlaces, placesCost}
+use Rattle.mine_theory.specs.Words.WordLaws.{all-chosen, known-same, values-same, meets-met, member-bit, atom-bit, same-tests, spans-own}
 use Rattle.mine_theory.specs.Words.Words.{Words, membersOf, Roomy, metBy, atomIn, wordsOf, spans}
+use Rattle.role_record.specs.Places.{placeSide, placeAttribute}
 
 -- ---- a list for each number
 
 module _ {C : Type 0} where
-  each-ext : {A : Type 0} (f g : A → List C) (l : List A) → ((a : A) → a isIn l → f a ≡ g a) → each f l ≡ each g l
-  each-ext f g [] h = refl
-  each-ext f g (x ∷ xs) h = ap₂ _++_ (h x (List·Memᴰ·head refl)) (each-ext f g xs (λ a m. h a (List·Memᴰ·tail m)))
-
-  each-append : {A : Type 0} (f : A → List C) (s t : List A) → each f (s ++ t) ≡ each f s ++ each f t
-  each-append f [] t = refl
-  each-append f (x ∷ s) t = ap (λ (l : List C). f x ++ l) (each-append f s t) ∙ sym (append-assoc (f x) (each f s) (each f t))
-
-  each-each : {A B : Type 0} (f : B → List C) (g : A → List B) (l : List A) → each f (each g l) ≡ each (λ a. each f (g a)) l
-  each-each f g [] = refl
-  each-each f g (x ∷ xs) = each-append f (g x) (each g xs) ∙ ap (λ (l : List C). each f (g x) ++ l) (each-each f g xs)
-
-  each-none : {A : Type 0} (f : A → List C) (l : List A) → ((a : A) → a isIn l → f a ≡ []) → each f l ≡ []
-  each-none f [] h = refl
-  each-none f (x ∷ xs) h = ap₂ _++_ (h x (List·Memᴰ·head refl)) (each-none f xs (λ a m. h a (List·Memᴰ·tail m)))
-
--- the numbers from k on, in two runs
-from-split : (k m n : ℕ) → from k (m + n) ≡ from k m ++ from (k + m) n
-from-split k zero n = rw (zero-add, add-zero)
-from-split k (suc m) n = ap (from k) (suc-add m n) ∙ ap (λ (l : List ℕ). k ∷ l) (from-split (suc k) m n ∙ ap (λ (x : ℕ). from (suc k) m ++ from x n) (suc-add k m ∙ sym (add-suc k m)))
-
-upTo-split : (m n : ℕ) → m ≤ n → upTo n ≡ upTo m ++ from m (n - m)
-upTo-split m n l = let e : n ≡ m + (n - m) = omega arith in ap upTo e ∙ from-split 0 m (n - m) ∙ ap (λ (x : ℕ). upTo m ++ from x (n - m)) (zero-add m)
-
-module _ {C : Type 0} where
-  -- numbers that give nothing may be left out at the end
-  each-fewer : (f : ℕ → List C) (m n : ℕ) → m ≤ n → ((i : ℕ) → m ≤ i → i < n → f i ≡ []) → each f (upTo n) ≡ each f (upTo m)
-  each-fewer f m n l h =
-      ap (each f) (upTo-split m n l)
-      ∙ each-append f (upTo m) (from m (n - m))
-      ∙ ap (λ (s : List C). each f (upTo m) ++ s) (each-none f (from m (n - m)) (λ i k. let t = from-out m (n - m) k in h i (t .0) (omega (arith, t .1))))
-      ∙ append-nil (each f (upTo m))
-
   map-chosen : {A B : Type 0} (g : B → C) (p : A → Bool) (c : A → B) (l : List A) → map g (each (λ a. only (p a) (c a)) l) ≡ each (λ a. only (p a) (g (c a))) l
   map-chosen g p c [] = refl
   map-chosen g p c (x ∷ xs) = go (p x) (map-chosen g p c xs)
@@ -78,14 +46,6 @@ cond-same true n = refl
 cond-same false n = refl
 
 module _ {A : Type 0} where
-  sum-append : (f : A → ℕ) (s t : List A) → sum f (s ++ t) ≡ sum f s + sum f t
-  sum-append f [] t = sym (zero-add (sum f t))
-  sum-append f (x ∷ s) t = let e = sum-append f s t in omega arith
-
-  sum-ext : (f g : A → ℕ) (l : List A) → ((a : A) → a isIn l → f a ≡ g a) → sum f l ≡ sum g l
-  sum-ext f g [] h = refl
-  sum-ext f g (x ∷ xs) h = ap₂ _+_ (h x (List·Memᴰ·head refl)) (sum-ext f g xs (λ a m. h a (List·Memᴰ·tail m)))
-
   sum-none : (f : A → ℕ) (l : List A) → ((a : A) → a isIn l → f a ≡ 0) → sum f l ≡ 0
   sum-none f [] h = refl
   sum-none f (x ∷ xs) h = ap₂ _+_ (h x (List·Memᴰ·head refl)) (sum-none f xs (λ a m. h a (List·Memᴰ·tail m)))
@@ -101,20 +61,12 @@ sum-chosen f p c (x ∷ xs) = sum-append f (only (p x) (c x)) (each (λ a. only 
 -- ---- the attributes of a side
 
 module _ (S : Side) (b : Bool) where
-  attrs-out : (a : ℕ) → Is (elem a (attrsOf S b)) → (a < S .attrs) ⊎ (Is b × (a ≡ own))
-  unfolding attrsOf
-  attrs-out a h = go (List·Memᴰ·append-cases (upTo (S .attrs)) (elem-out a _ h))
-    where
-      go : (a isIn upTo (S .attrs)) ⊎ (a isIn only b own) → (a < S .attrs) ⊎ (Is b × (a ≡ own))
-      go (inl m) = inl (upTo-out (S .attrs) m)
-      go (inr m) = inr (only-out b m)
-
   declared : (a : ℕ) → a < S .attrs → Is (elem a (attrsOf S b))
   unfolding attrsOf
-  declared a l = elem-in (Memᴰ·append-left (only b own) (upTo-in l))
+  declared a l = elem-in (declared-in S b a l)
 
   undeclared : (a : ℕ) → S .attrs ≤ a → a < 6 → elem a (attrsOf S b) ≡ false
-  undeclared a l k = fails (elem a (attrsOf S b)) λ h. go (attrs-out a h)
+  undeclared a l k = fails (elem a (attrsOf S b)) λ h. go (attribute-cases S b a (elem-out a (attrsOf S b) h))
     where
       go : (a < S .attrs) ⊎ (Is b × (a ≡ own)) → ⊥
       go (inl m) = omega arith
@@ -122,7 +74,7 @@ module _ (S : Side) (b : Bool) where
 
   own-listed : S .attrs ≤ 6 → elem own (attrsOf S b) ≡ b
   unfolding attrsOf
-  own-listed l = same (elem own (attrsOf S b)) b (λ h. go (attrs-out own h)) (λ h. elem-in (Memᴰ·append-right (upTo (S .attrs)) (only-in own h)))
+  own-listed l = same (elem own (attrsOf S b)) b (λ h. go (attribute-cases S b own (elem-out own (attrsOf S b) h))) (λ h. elem-in (own-in S b h))
     where
       go : (own < S .attrs) ⊎ (Is b × (own ≡ own)) → Is b
       go (inl m) = absurd (omega arith)

@@ -4,20 +4,14 @@ use Prim.Native.Nat.{ℕ, zero, suc, _+_, _/_, _%_, _-_}
 use lib.Dec.{eqb, ltb}
 use mathlib.Core.Bool.{Bool, cond, _&&_, not}
 use Rattle.policy.specs.Covering.{allKnow, valuesOf}
-use Rattle.policy.specs.Rules.{own, Which, by, Setting, Cond, Block, attrsOf, ownAt, holds, sameBlock, user, resource, conjunct, atom}
+use Rattle.policy.specs.Rules.{by, Setting, Cond, Block, attrsOf, ownAt, holds, sameBlock, conjunct, atom}
 use Rattle.policy.specs.Thinning.{trimCond, singleCost, setCost}
 use Rattle.sets.specs.Sets.{bit, maskOf, size}
 use Rattle.sets.specs.Tests.{imp, all, upTo, elem, sum}
 use Rattle.mine_theory.specs.Words.Words.{Words, membersOf, metBy, spans}
+use Rattle.role_record.specs.Places.{placeSide, placeAttribute}
 
--- the places of conjuncts: 0 to 6 the user attributes with 255 as number 6, 7 to 13 the resource attributes likewise. The atom over
--- the attributes a and b is at 14 + (6 * a + b)
-abbrev pub placeSide : ℕ → Which
-placeSide i = cond (ltb i 7) user resource
-
-abbrev pub placeAttribute : ℕ → ℕ
-placeAttribute i = cond (eqb (i % 7) 6) own (i % 7)
-
+-- the places of conjuncts are those of their attributes, 0 to 13. The atom over the attributes a and b is at 14 + (6 * a + b)
 module _ (P : Setting) where
   -- the condition at a place, of a covering rule for these members
   unfoldable pub condAt : Words → ℕ → Cond

@@ -3,8 +3,8 @@
 use Prim.Native.Nat.{ℕ, _+_, _*_, _/_, _%_, _≤_, _<_}
 use borrow.Author.Tests.{ltb-true, lt-ltb}
 use lib.Dec.{ltb}
-use mathlib.Core.Bool.{Bool, true, false, cond, _&&_, _||_, false≢true, and-assoc, or-assoc}
-use mathlib.Core.List.{List, [], _∷_, _++_, List·Memᴰ·head, List·Memᴰ·tail}
+use mathlib.Core.Bool.{Bool, true, false, _&&_, _||_, false≢true, and-assoc, and-true}
+use mathlib.Core.List.{List, [], _∷_, _++_}
 use mathlib.Core.Logic.{_⊎_, inl, inr}
 use mathlib.Core.Option.{Option, none, some}
 use mathlib.Core.Path.{_≡_, refl, sym, ap, ap₂, _∙_, fun-ext}
@@ -13,38 +13,24 @@ use Rattle.policy.specs.CoverLaws.{pair-in, stands-in, op-in, op-out, everywher
 use Rattle.policy.specs.Covering.{known, allKnow, valuesOf, opIn, pairIn, standsIn, everywhere, conjuncts, atomConds, cover, fits}
 use Rattle.policy.specs.Merging.{union}
 use Rattle.policy.specs.PartLaws.{alike-in, parts-out}
+use Rattle.policy.specs.Policy.{Policy, sideOf, settingOf}
 use Rattle.policy.specs.Roles.{Roles, Part, alike, leads, isPart, parts, blockOf, classOf}
 use Rattle.policy.specs.RuleLaws.{Lawful, same-in, same-out}
 use Rattle.policy.specs.Rules.{Side, Which, by, Setting, Cond, Block, both, meets, attrsOf, ownAt, holds, grants, Triple, Same, sameBlock, user, resource, conjunct, atom}
 use Rattle.policy.specs.SideLaws.{Ordered, admits-out, admits-in, values-in, values-out}
-use Rattle.sets.specs.MaskLaws.{and-true, bit-maskOf, mask-same, mask-wide}
+use Rattle.sets.specs.ListLaws.{all-ext, keep-ext, all-append, any-append}
+use Rattle.sets.specs.MaskLaws.{bit-maskOf, mask-same, mask-wide}
 use Rattle.sets.specs.Sets.{bit, maskOf}
 use Rattle.sets.specs.SetLaws.{bit-mask}
 use Rattle.sets.specs.Sorted.{sort}
 use Rattle.sets.specs.Tests.{Is, imp, _isIn_, all, any, keep, each, only, upTo, isSome}
 use Rattle.sets.specs.TestLaws.{and-in, and-l, and-r, or-l, or-r, or-out, test, same, imp-in, imp-out, all-out, all-in, any-in, any-out, keep-in, upTo-in, upTo-out, any-ext, isSome-out}
 use Rattle.mine_theory.specs.Words.Words.{Words, membersOf, Roomy, metBy, passes, joined, together, atomIn, wordsOf, atomsHold, coverGrants, spans, pairFits, ownFits, partAtom}
+use Rattle.role_record.specs.Record.{Sized}
 
 -- ---- tests over lists
 
 module _ {A : Type 0} where
-  -- tests that agree at each member
-  pub all-ext : (f g : A → Bool) (l : List A) → ((a : A) → a isIn l → f a ≡ g a) → all f l ≡ all g l
-  all-ext f g [] h = refl
-  all-ext f g (x ∷ xs) h = ap₂ _&&_ (h x (List·Memᴰ·head refl)) (all-ext f g xs (λ a m. h a (List·Memᴰ·tail m)))
-
-  keep-ext : (f g : A → Bool) (l : List A) → ((a : A) → a isIn l → f a ≡ g a) → keep f l ≡ keep g l
-  keep-ext f g [] h = refl
-  keep-ext f g (x ∷ xs) h = ap₂ (λ (b : Bool) (k : List A). cond b (x ∷ k) k) (h x (List·Memᴰ·head refl)) (keep-ext f g xs (λ a m. h a (List·Memᴰ·tail m)))
-
-  all-append : (f : A → Bool) (s t : List A) → all f (s ++ t) ≡ (all f s && all f t)
-  all-append f [] t = refl
-  all-append f (x ∷ s) t = ap (λ (b : Bool). f x && b) (all-append f s t) ∙ sym (and-assoc (f x) (all f s) (all f t))
-
-  any-append : (f : A → Bool) (s t : List A) → any f (s ++ t) ≡ (any f s || any f t)
-  any-append f [] t = refl
-  any-append f (x ∷ s) t = ap (λ (b : Bool). f x || b) (any-append f s t) ∙ sym (or-assoc (f x) (any f s) (any f t))
-
   -- one of a list passes one of two tests
   any-or : (f g : A → Bool) (l : List A) → any (λ a. f a || g a) l ≡ (any f l || any g l)
   any-or f g [] = refl
@@ -123,7 +109,7 @@ module _ (S : Side) where
 
   module _ (O : Ordered S) where
     -- a member of a set passes its conjuncts
-    members-pass : (among : List ℕ) (W : ℕ → Bool) (x : ℕ) → x < S .count → Is (W x) → Is (passes S among W x)
+    pub members-pass : (among : List ℕ) (W : ℕ → Bool) (x : ℕ) → x < S .count → Is (W x) → Is (passes S among W x)
     unfolding passes allKnow metBy
     members-pass among W x l h = all-in _ among λ a m. imp-in (allKnow S W a) (metBy S a W x) λ k.
         let t = isSome-out (S .value a x) (all-out (λ w. isSome (S .value a w)) k (keep-in W (upTo-in l) h)) in
@@ -142,7 +128,7 @@ mask-joined op e n l f g h k = mask-wide n 64 h l ∙ mask-same 64 (λ i. ltb i 
         (λ p. ap (λ (b : Bool). b && h i) p ∙ sym (ap₂ op (bit-maskOf n f i ∙ ap (λ (b : Bool). b && f i) p) (bit-maskOf n g i ∙ ap (λ (b : Bool). b && g i) p) ∙ e))
 
 -- words that agree one by one
-words-same : {a b c d e f g h : ℕ} → a ≡ e → b ≡ f → c ≡ g → d ≡ h
+pub words-same : {a b c d e f g h : ℕ} → a ≡ e → b ≡ f → c ≡ g → d ≡ h
     → _≡_ {A = Words} (record { users = a; resources = b; ops = c; atoms = d }) (record { users = e; resources = f; ops = g; atoms = h })
 words-same p q r s = cc
 
@@ -394,3 +380,9 @@ module _ (P : Setting) where
       (mask-same (P .side resource .count) (standsIn P (blockOf P R p) resource) (λ r. R .gives (p .role) r (p .lead)) (λ r l. part-resources R p m r))
       (mask-same (P .slots) (opIn P (blockOf P R p)) (alike P R (p .role) (p .lead)) (part-ops R p m))
       (mask-same 36 (λ i. atomIn P (blockOf P R p) (i / 6) (i % 6)) (λ i. partAtom P R p (i / 6) (i % 6)) (λ i l. part-atoms R p m (i / 6) (i % 6)))
+
+-- ---- the policies that the miner has room for
+
+pub roomy : (F : Policy) → Sized F → Roomy (settingOf F)
+unfolding settingOf sideOf
+roomy F Z = record { many = Z .many; attributes = Z .declared; operable = let n = Z .operable in omega arith }

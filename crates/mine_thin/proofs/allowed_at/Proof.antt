@@ -2,7 +2,7 @@
 use borrow.Author.Needs.{needs}
 use borrow.Author.Tests.{eq-eqb, ne-eqb}
 use mathlib.Core.Path.{refl}
-use Rattle.mine_thin.specs.Kept.{allowedAt}
+use Rattle.mine_thin.specs.KeptPlaces.{allowedAt}
 use Rattle.mine_thin.proofs.allowed_at.Statement.{statement}
 use Rattle.mine_thin.proofs.allowed_at.Tie as tie
 

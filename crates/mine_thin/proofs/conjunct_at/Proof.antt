@@ -9,12 +9,12 @@ returns : tie.Need-returns
 returns c =
     let d = c .before .before .before in
     let a = d .before .before .args in
-    conjunct-allowed (a .known .now) (a .attributes .now) (wordsIn (a .g)) (a .level) (a .place) _ (d .before .allowed-at .ensures) (d .if1 .taken) (c .before .before .members-at .ensures) (c .within .ensures)
+    conjunct-allowed (a .knowing .now) (a .attributes .now) (wordsIn (a .g)) (a .level) (a .place) _ (d .before .allowed-at .ensures) (d .if1 .taken) (c .before .before .members-at .ensures) (c .within .ensures)
 
 returns-2 : tie.Need-returns-2
 returns-2 c =
     let a = c .before .before .args in
-    conjunct-refused (a .known .now) (a .attributes .now) (wordsIn (a .g)) (a .level) (a .place) (c .before .allowed-at .ensures) (c .if1 .left)
+    conjunct-refused (a .knowing .now) (a .attributes .now) (wordsIn (a .g)) (a .level) (a .place) (c .before .allowed-at .ensures) (c .if1 .left)
 
 pub conjunct-at-spec : {M : Type 1} → statement M
 conjunct-at-spec =

@@ -7,7 +7,7 @@ use mathlib.Core.Path.{_≡_}
 use native.Mathlib.Omega.{arith}
 use Rattle.mine_pairs.specs.Pairing.{wordsIn}
 use Rattle.sets.specs.LoopLaws.{store-next}
-use Rattle.mine_thin.specs.Kept.{metAt}
+use Rattle.mine_thin.specs.KeptPlaces.{metAt}
 use Rattle.mine_thin.specs.PlaceLaws.{met-unique}
 use Rattle.mine_thin.proofs.fill_met.Statement.{statement}
 use Rattle.mine_thin.proofs.fill_met.Tie as tie

@@ -13,7 +13,7 @@ returns c =
     let second = held .before .before in
     let start = second .before .before in
     let a = start .args in
-    told-by-corners (a .links .now) (a .met .now) (a .users) (a .resources) (a .operations) (wordsIn (a .g)) (a .places) (second .before .met-by-all .result) (second .met-by-all2 .result)
+    told-by-corners (a .links .now) (a .met .now) (a .sizes .users) (a .sizes .resources) (a .sizes .operations) (wordsIn (a .g)) (a .places) (second .before .met-by-all .result) (second .met-by-all2 .result)
     (second .before .met-by-all .ensures) (second .met-by-all2 .ensures) (start .pre .0) (start .pre .1) (held .before .asks-no-more .ensures) (held .if1 .taken) (a .rows .now) (start .pre .2)
     (atoms-cut (a .g .atoms) (low .below .result) (c .before .before .meet .result) (low .below .ensures) (c .before .before .meet .ensures)) (c .before .if2 .taken) (c .corners-free .ensures)
 
@@ -23,14 +23,14 @@ returns-2 c =
     let second = held .before .before in
     let start = second .before .before in
     let a = start .args in
-    told-by-rows (a .links .now) (a .met .now) (a .users) (a .resources) (a .operations) (wordsIn (a .g)) (a .places) (second .before .met-by-all .result) (second .met-by-all2 .result)
+    told-by-rows (a .links .now) (a .met .now) (a .sizes .users) (a .sizes .resources) (a .sizes .operations) (wordsIn (a .g)) (a .places) (second .before .met-by-all .result) (second .met-by-all2 .result)
     (second .before .met-by-all .ensures) (second .met-by-all2 .ensures) (start .pre .0) (start .pre .1) (held .before .asks-no-more .ensures) (held .if1 .taken) (a .rows .now) (start .pre .2) (c .adds-none .ensures)
 
 returns-3 : tie.Need-returns-3
 returns-3 c =
     let second = c .before .before .before in
     let a = second .before .before .args in
-    told-by-triples (a .links .now) (a .met .now) (a .users) (a .resources) (a .operations) (wordsIn (a .g)) (a .places) (second .before .met-by-all .result) (second .met-by-all2 .result)
+    told-by-triples (a .links .now) (a .met .now) (a .sizes .users) (a .sizes .resources) (a .sizes .operations) (wordsIn (a .g)) (a .places) (second .before .met-by-all .result) (second .met-by-all2 .result)
     (second .before .met-by-all .ensures) (second .met-by-all2 .ensures) (c .no-other .ensures)
 
 pub grants-same-spec : {M : Type 1} → statement M

@@ -11,7 +11,7 @@ returns c =
     let fewer = c .before .before in
     let there = fewer .before .before in
     let a = there .before .before .args in
-    thin-goes (a .links .now) (a .met .now) (a .users) (a .resources) (a .operations) (wordsIn (a .g)) (a .places) (a .place) (sym (there .before .has .ensures) ∙ there .if1 .taken)
+    thin-goes (a .links .now) (a .met .now) (a .sizes .users) (a .sizes .resources) (a .sizes .operations) (wordsIn (a .g)) (a .places) (a .place) (sym (there .before .has .ensures) ∙ there .if1 .taken)
     (less-one (a .places) (a .place) (fewer .before .with .ensures) (fewer .without .ensures)) (c .before .grants-same .ensures) (c .if2 .taken)
 
 returns-2 : tie.Need-returns-2
@@ -19,13 +19,13 @@ returns-2 c =
     let fewer = c .before .before in
     let there = fewer .before .before in
     let a = there .before .before .args in
-    thin-stays (a .links .now) (a .met .now) (a .users) (a .resources) (a .operations) (wordsIn (a .g)) (a .places) (a .place) (sym (there .before .has .ensures) ∙ there .if1 .taken)
+    thin-stays (a .links .now) (a .met .now) (a .sizes .users) (a .sizes .resources) (a .sizes .operations) (wordsIn (a .g)) (a .places) (a .place) (sym (there .before .has .ensures) ∙ there .if1 .taken)
     (less-one (a .places) (a .place) (fewer .before .with .ensures) (fewer .without .ensures)) (c .before .grants-same .ensures) (c .if2 .left)
 
 returns-3 : tie.Need-returns-3
 returns-3 c =
     let a = c .before .before .args in
-    thin-absent (a .links .now) (a .met .now) (a .users) (a .resources) (a .operations) (wordsIn (a .g)) (a .places) (a .place) (sym (c .before .has .ensures) ∙ c .if1 .left)
+    thin-absent (a .links .now) (a .met .now) (a .sizes .users) (a .sizes .resources) (a .sizes .operations) (wordsIn (a .g)) (a .places) (a .place) (sym (c .before .has .ensures) ∙ c .if1 .left)
 
 pub thinned-spec : {M : Type 1} → statement M
 thinned-spec =

@@ -5,11 +5,12 @@ use mathlib.Core.Path.{_≡_, sym, ap, _∙_}
 use Rattle.role_record.specs.Record.{Sized, recordOf}
 use Rattle.files.specs.Answer.{accepted}
 use Rattle.files.specs.RoleFile.{readRoles}
-use Rattle.mining.specs.AssemblyLaws.{loaded-policy, record-sizes, stored}
+use Rattle.mining.specs.AssemblyLaws.{record-sizes, stored}
 use Rattle.mining.specs.MineLaws.{unread, unread-bytes}
 use Rattle.mining.specs.Stages.{bytesFor}
 use Rattle.policy.specs.Policy.{Policy}
 use Rattle.mining.proofs.mine_in.Statement.{statement}
+use Rattle.role_file.specs.SizedLaws.{loaded-policy}
 use Rattle.mining.proofs.mine_in.Tie as tie
 
 returns : tie.Need-returns
@@ -27,7 +28,7 @@ mine-record-requires c κs =
     let e = c .before .before .before .before .before .before .before .before .before .before in
     let p = policy e in
     let z = record-sizes (p .0) (p .1) (e .before .before .read .result .file) (p .3) in
-    (z .0, z .1, z .2, z .3, z .4, z .5, e .before .before .before .before .before .before .pre)
+    (z .0, z .1, z .2, e .before .before .before .before .before .before .pre)
 
 returns-2 : tie.Need-returns-2
 returns-2 c =

@@ -1,24 +1,32 @@
 -- Assumes nothing.
 use borrow.Author.Needs.{needs}
-use denote.Ref.{now}
-use Rattle.mining.specs.AssemblyLaws.{tabled}
+use mathlib.Core.Path.{sym, _∙_}
+use Rattle.mining.specs.AssemblyLaws.{merged-by, written-by}
 use Rattle.mining.proofs.mine_record.Statement.{statement}
 use Rattle.mining.proofs.mine_record.Tie as tie
 
+write-groups-requires : tie.Need-write-groups-requires
+write-groups-requires c κs =
+    let merged = c .before .before .before .before .before .before .before in
+    let s = merged .before .before .before .before .before .before .before .before .before .before .before .before .before in
+    (s .pre .0 .2, merged .merge-parts .ensures .0)
+
+same-length : tie.Need-same-length
+same-length c =
+    let merged = c .before .before .before .before .before .before .before .before .before .before in
+    merged .merge-parts .ensures .0 ∙ sym (merged .before .before .before .before .before .before .before .before .before .before .before .before .before .pre .3)
+
 returns : tie.Need-returns
 returns c F Z S =
-    let t = c .before .before .before .before in
-    let q = t .before .before .before .before .before .before .before .before .before in
-    let l = q .before .before .before .before .before in
-    let p = l .before .before .before .before in
-    let d = p .before .before in
-    let s = d .before .before .before .before .before .before in
-    let a = s .args in
-    t .mine-tables .ensures F Z
-    (tabled F (a .known .now) (a .values .now) (a .kinds .now) (a .attributes .now) (a .holders .now) (a .permissions .now) (a .users) (a .resources) (a .operations) (a .roles) S _ _ _ _ _ _
-    (l .links2 .ensures (a .values .now) (a .holders .now) (a .roles) (d .distinct-values .ensures .0) (d .distinct-values .ensures .1))
-    (q .matches .ensures (a .known .now) (a .values .now) (a .holders .now) (a .users) (a .resources) (a .roles) (s .pre .0) (s .pre .1) (p .known-places .ensures) (d .distinct-values .ensures .0) (d .distinct-values .ensures .1))
-    (p .known-places .ensures) (d .distinct-values .ensures .0) (d .distinct-values .ensures .1) (d .distinct-values .ensures .2))
+    let written = c .before .before in
+    let merged = written .before .before .before .before .before .before .before .before in
+    let inner = merged .before .before .before .before in
+    let d = inner .before .before .before .before in
+    let a = d .before .before .before .before .before .args in
+    let v = d .distinct-values .ensures in
+    let i = inner .inside-values .ensures (a .known .now) (a .values .now) (a .holders .now) (a .sizes .users) (a .sizes .resources) (a .sizes .roles) (v .0) (v .1) in
+    let m = merged .merge-parts .ensures .1 F Z (merged-by F (a .known .now) (a .values .now) (a .kinds .now) (a .attributes .now) (a .holders .now) (a .permissions .now) (a .sizes .users) (a .sizes .resources) (a .sizes .operations) (a .sizes .roles) S _ _ _ (v .0) (v .1) i) in
+    written .write-groups .ensures F Z (written-by F (a .known .now) (a .values .now) (a .kinds .now) (a .attributes .now) (a .holders .now) (a .permissions .now) (a .sizes .users) (a .sizes .resources) (a .sizes .operations) (a .sizes .roles) S _ _ _ (v .0) (v .1) i _ _ (m .1) (m .2)) (m .0)
 
 pub mine-record-spec : {M : Type 1} → statement M
 mine-record-spec =
@@ -27,8 +35,7 @@ mine-record-spec =
     (λ c κs. search needs)
     (λ c κs. search needs)
     (λ c κs. search needs)
-    (λ c κs. search needs)
-    (λ c κs. search needs)
-    (λ c. search needs)
+    write-groups-requires
+    same-length
     (λ c. search needs)
     returns)

@@ -5,6 +5,8 @@ use Rattle.role_admit.proofs.admit.Tie as tie
 use Rattle.role_admit.proofs.admit.Reads as reads
 use Rattle.role_admit.proofs.admit.Lts as lts
 use Rattle.role_admit.proofs.admit_kind.Reads as admit-kind-reads
+use Rattle.role_admit.proofs.admit_permission.Reads as admit-permission-reads
+use Rattle.role_admit.proofs.admit_sizes.Reads as admit-sizes-reads
 use Rattle.role_admit.proofs.admit_value.Reads as admit-value-reads
 use Rattle.role_admit.proofs.below.Reads as below-reads
 use Rattle.role_admit.proofs.declaring.Reads as declaring-reads
@@ -13,7 +15,7 @@ use Rattle.role_admit.proofs.later.Reads as later-reads
 
 returns : tie.Need-returns
 unfolding admitOf
-returns c = rw (c .before .before .before .before .before .before .c .given .1, c .first .ensures, c .before .below4 .ensures, c .before .before .below3 .ensures, c .before .before .before .below2 .ensures, c .before .before .before .before .below .ensures)
+returns c = rw (c .before .before .before .c .given .1, c .first .ensures, c .before .admit-sizes .ensures)
 
 returns-2 : tie.Need-returns-2
 unfolding admitOf
@@ -25,15 +27,15 @@ returns-3 c = rw (c .before .before .before .c3 .given .1, c .later .ensures, c 
 
 returns-4 : tie.Need-returns-4
 unfolding admitOf
-returns-4 c = rw (c .before .before .before .before .c4 .given .1, c .later2 .ensures, c .before .below6 .ensures, c .before .before .below5 .ensures)
+returns-4 c = rw (c .before .before .before .before .c4 .given .1, c .later2 .ensures, c .before .below2 .ensures, c .before .before .below .ensures)
 
 returns-5 : tie.Need-returns-5
 unfolding admitOf
-returns-5 c = rw (c .before .before .before .before .before .c5 .given .1, c .later3 .ensures, c .before .below9 .ensures, c .before .before .below8 .ensures, c .before .before .before .below7 .ensures)
+returns-5 c = rw (c .before .before .before .c5 .given .1, c .later3 .ensures, c .before .admit-permission .ensures)
 
 returns-6 : tie.Need-returns-6
 unfolding admitOf
-returns-6 c = rw (c .before .before .before .before .c6 .given .1, c .later4 .ensures, c .before .below11 .ensures, c .before .before .below10 .ensures)
+returns-6 c = rw (c .before .before .before .before .c6 .given .1, c .later4 .ensures, c .before .below4 .ensures, c .before .before .below3 .ensures)
 
 returns-7 : tie.Need-returns-7
 unfolding admitOf
@@ -44,13 +46,6 @@ admit-spec =
     tie.close
     (tie.spec
     (λ c. search needs)
-    (λ c. search needs)
-    (λ c κs. search needs)
-    (λ c. search needs)
-    (λ c κs. search needs)
-    (λ c. search needs)
-    (λ c κs. search needs)
-    (λ c. search needs)
     (λ c κs. search needs)
     (λ c κs. search needs)
     (λ c. search needs)
@@ -64,8 +59,6 @@ admit-spec =
     (λ c κs. search needs)
     (λ c κs. search needs)
     (λ c. search needs)
-    (λ c κs. search needs)
-    (λ c κs. search needs)
     (λ c κs. search needs)
     (λ c κs. search needs)
     (λ c. search needs)

@@ -1,17 +1,19 @@
-use borrow.Author.Tests.{lt-ltb, le-ltb, not-true, not-false}
+use borrow.Author.Tests.{lt-ltb, le-ltb}
 use denote.Ref.{now}
-use lib.Dec.{eqb, ltb}
+use lib.Dec.{ltb}
 use lib.ListN.{getD}
 use mathlib.Core.Bool.{Bool, true, false, cond, not}
 use mathlib.Core.List.{List}
 use mathlib.Core.Path.{_≡_, refl, sym, ap, _∙_}
 use native.Mathlib.Omega.{arith}
 use Prim.Native.Nat.{ℕ, zero, suc, _+_, _*_, _≤_, _<_}
-use Rattle.role_admit.specs.Admit.{valueCode}
+use Rattle.role_admit.specs.Admit.{valueCode, sizeOf}
 use Rattle.sets.specs.Sets.{bit}
+use Rattle.sets.specs.TestLaws.{not-same}
 use Rattle.sets.specs.Tests.{iff}
 use borrow.Author.Needs.{needs}
 use Rattle.role_admit.proofs.admit_value.Statement.{statement}
+use Rattle.role_record.specs.declared.Sizes.{Sizes}
 use Rattle.role_admit.proofs.admit_value.Tie as tie
 use Rattle.role_admit.proofs.admit_value.Reads as reads
 use Rattle.role_admit.proofs.admit_value.Lts as lts
@@ -26,31 +28,25 @@ few l (suc zero) h a b = b
 few l (suc (suc s)) h a b = absurd (omega arith)
 
 -- the verdict, by the outcome of each test
-by-tests : (set : Bool) (side a x us rs : ℕ) (attributes kinds known : List ℕ) (b1 b2 b3 b4 : Bool) → ltb side 2 ≡ true → ltb a (getD attributes side 0) ≡ b1 → ltb x (cond (eqb side 0) us rs) ≡ b2 → iff (bit (getD kinds side 0) a) set ≡ b3
-    → bit (getD known (6 * side + a) 0) x ≡ b4 → valueCode set side a x us rs attributes kinds known ≡ cond b1 (cond b2 (cond b3 (cond b4 6 0) 6) 5) 5
+by-tests : (set : Bool) (side a x : ℕ) (n : Sizes) (attributes kinds known : List ℕ) (b1 b2 b3 b4 : Bool) → ltb side 2 ≡ true → ltb a (getD attributes side 0) ≡ b1 → ltb x (sizeOf side n) ≡ b2 → iff (bit (getD kinds side 0) a) set ≡ b3
+    → bit (getD known (6 * side + a) 0) x ≡ b4 → valueCode set side a x n attributes kinds known ≡ cond b1 (cond b2 (cond b3 (cond b4 6 0) 6) 5) 5
 unfolding valueCode
-by-tests set side a x us rs attributes kinds known b1 b2 b3 b4 n p q r s = rw (n, p, q, r, s) refl
+by-tests set side a x n attributes kinds known b1 b2 b3 b4 h p q r s = rw (h, p, q, r, s) refl
 
 -- at the last tests: what is known of those before
 module _ (c : tie.After-differ) where
   abbrev start : tie.Start
   start = c .before .before .before .before .before .before .before .before
 
-  size-there : ltb (start .args .who) (cond (eqb (start .args .side) 0) (start .args .users) (start .args .resources)) ≡ true
+  size-there : ltb (start .args .who) (sizeOf (start .args .side) (start .args .sizes)) ≡ true
   size-there = ap (ltb (start .args .who)) (sym (c .before .before .before .before .size-of .ensures)) ∙ lt-ltb _ _ (c .before .before .before .if3 .left)
 
   verdict : (b3 b4 : Bool) → not (iff (bit (getD (now (start .args .kinds)) (start .args .side) 0) (start .args .attribute)) (start .args .set)) ≡ not b3
       → bit (getD (now (start .args .known)) (6 * start .args .side + start .args .attribute) 0) (start .args .who) ≡ b4
-      → valueCode (start .args .set) (start .args .side) (start .args .attribute) (start .args .who) (start .args .users) (start .args .resources) (now (start .args .attributes)) (now (start .args .kinds)) (now (start .args .known)) ≡ cond b3 (cond b4 6 0) 6
+      → valueCode (start .args .set) (start .args .side) (start .args .attribute) (start .args .who) (start .args .sizes) (now (start .args .attributes)) (now (start .args .kinds)) (now (start .args .known)) ≡ cond b3 (cond b4 6 0) 6
   verdict b3 b4 r s =
-      by-tests (start .args .set) (start .args .side) (start .args .attribute) (start .args .who) (start .args .users) (start .args .resources) (now (start .args .attributes)) (now (start .args .kinds)) (now (start .args .known)) true true b3 b4
-      (lt-ltb _ _ (c .before .before .before .before .before .before .before .if1 .left)) (lt-ltb _ _ (c .before .before .before .before .before .if2 .left)) size-there (unnot _ b3 r) s
-    where
-      unnot : (x y : Bool) → not x ≡ not y → x ≡ y
-      unnot true true e = refl
-      unnot true false e = sym e
-      unnot false true e = sym e
-      unnot false false e = refl
+      by-tests (start .args .set) (start .args .side) (start .args .attribute) (start .args .who) (start .args .sizes) (now (start .args .attributes)) (now (start .args .kinds)) (now (start .args .known)) true true b3 b4
+      (lt-ltb _ _ (c .before .before .before .before .before .before .before .if1 .left)) (lt-ltb _ _ (c .before .before .before .before .before .if2 .left)) size-there (not-same _ b3 r) s
 
   kind-differs : c .differ .result ≡ not (iff (bit (getD (now (start .args .kinds)) (start .args .side) 0) (start .args .attribute)) (start .args .set))
   kind-differs = c .differ .ensures ∙ ap (λ (b : Bool). not (iff b (start .args .set))) (c .before .has .ensures)

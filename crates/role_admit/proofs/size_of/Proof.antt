@@ -1,5 +1,4 @@
 use borrow.Author.Tests.{eq-eqb, ne-eqb}
-use borrow.Author.Needs.{needs}
 use Rattle.role_admit.proofs.size_of.Statement.{statement}
 use Rattle.role_admit.proofs.size_of.Tie as tie
 use Rattle.role_admit.proofs.size_of.Reads as reads

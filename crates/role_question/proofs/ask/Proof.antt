@@ -1,14 +1,13 @@
 use borrow.Author.Needs.{needs}
 use borrow.Author.Tests.{lt-ltb, le-ltb}
 use denote.Ref.{now}
-use mathlib.Core.Bool.{Bool, true, false}
+use mathlib.Core.Bool.{true, false}
 use mathlib.Core.Path.{_≡_, refl, sym, ap, _∙_}
 use native.Mathlib.Omega.{arith}
-use Prim.Native.Nat.{ℕ, _≤_, _<_}
 use Rattle.files.specs.Answer.{told}
 use Rattle.files.specs.Calls.{yesNo, roleQuestion}
 use Rattle.role_file.specs.declared.Loaded.{Loaded}
-use Rattle.role_question.specs.QuestionLaws.{asked, asked-means, asked-refused, asked-by, loaded-sized}
+use Rattle.role_question.specs.RoleQuestionLaws.{asked, asked-means, asked-refused, asked-by, loaded-sized}
 use Rattle.role_question.specs.Reply.{replyNumbers}
 use Rattle.role_question.specs.declared.Reply.{Reply}
 use Rattle.role_question.specs.declared.Reply.the-variants.{Yes, No, Refused}

@@ -1,5 +1,5 @@
 -- The invariant: no role before k grants it. Assumes nothing.
-use Prim.Native.Nat.{ℕ, _+_, _*_, _-_, _≤_}
+use Prim.Native.Nat.{ℕ, _-_, _≤_}
 use borrow.Author.Needs.{needs}
 use denote.Ref.{now}
 use lib.ListN.{getD}
@@ -7,7 +7,8 @@ use mathlib.Core.Bool.{Bool, false, _&&_}
 use mathlib.Core.List.{List}
 use mathlib.Core.Path.{_≡_, sym, _∙_}
 use native.Mathlib.Omega.{arith}
-use Rattle.sets.specs.LoopLaws.{any-on, any-found, any-end, any-none}
+use Rattle.role_record.specs.Cells.{cellAt}
+use Rattle.sets.specs.LoopLaws.{any-on, any-found, any-end}
 use Rattle.sets.specs.Sets.{bit}
 use Rattle.sets.specs.Tests.{any, upTo}
 use Rattle.role_question.proofs.granted.Statement.{statement}
@@ -17,7 +18,7 @@ use Rattle.role_question.proofs.granted.Lts as lts
 use Rattle.role_question.proofs.in_both.Reads as in-both-reads
 
 abbrev by-role : List ℕ → List ℕ → ℕ → ℕ → ℕ → ℕ → Bool
-by-role h p u r o k = bit (getD h k 0) u && bit (getD p (16 * k + o) 0) r
+by-role h p u r o k = bit (getD h k 0) u && bit (getD p (cellAt k o) 0) r
 
 abbrev Inv-loop : tie.InvT-loop
 Inv-loop holders permissions roles user resource operation k₀ k = (k ≤ roles) × (any (by-role holders permissions user resource operation) (upTo k) ≡ false)

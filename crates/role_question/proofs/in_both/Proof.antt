@@ -1,5 +1,5 @@
 use borrow.Author.Needs.{needs}
-use mathlib.Core.Path.{_≡_, sym, _∙_}
+use mathlib.Core.Path.{sym, _∙_}
 use Rattle.role_question.proofs.in_both.Statement.{statement}
 use Rattle.role_question.proofs.in_both.Tie as tie
 use Rattle.role_question.proofs.in_both.Reads as reads

@@ -1,9 +1,9 @@
 -- The invariant: the set has those who meet the conjuncts of the places before i. Assumes nothing.
 use denote.Ref.{now}
 use mathlib.Core.Logic.{⊎-elim}
-use mathlib.Core.Path.{_≡_, refl, sym, _∙_}
+use mathlib.Core.Path.{_≡_, sym, _∙_}
 use native.Mathlib.Omega.{arith}
-use Prim.Native.Nat.{ℕ, _+_, _*_, _-_, _≤_, _<_}
+use Prim.Native.Nat.{_+_, _*_, _-_, _≤_}
 use Rattle.sets.specs.LoopLaws.{turn-within, narrow-none, narrow-in, narrow-out, narrow-end}
 use Rattle.sets.specs.Sets.{narrowing, bit, maskOf}
 use Rattle.sets.specs.MaskLaws.{mask-lt}

@@ -6,15 +6,16 @@ use mathlib.Core.Logic.{⊎-elim}
 use mathlib.Core.Path.{_≡_, sym, _∙_}
 use native.Mathlib.Omega.{arith}
 use Rattle.rule_grants.specs.RuleGridLaws.{cellsSoFar, cells-none, cells-in, cells-out, cells-end, cells-so-long}
+use Rattle.role_record.specs.Cells.{rowCells, userCells}
 use Rattle.sets.specs.LoopLaws.{turn-within}
 use Rattle.rule_grants.proofs.fill_cells.Statement.{statement}
 use Rattle.rule_grants.proofs.fill_cells.Tie as tie
 
 abbrev Inv-loop : tie.InvT-loop
-Inv-loop rows operations out₀ o₀ out o = (o ≤ 16) × (length out ≡ 1024) × (out ≡ cellsSoFar rows operations o)
+Inv-loop rows operations out₀ o₀ out o = (o ≤ rowCells) × (length out ≡ userCells) × (out ≡ cellsSoFar rows operations o)
 
 abbrev μ-loop : tie.MeasureT-loop
-μ-loop rows operations out₀ o₀ out o = 16 - o
+μ-loop rows operations out₀ o₀ out o = rowCells - o
 
 loop-holds : tie.Need-loop-holds Inv-loop μ-loop
 loop-holds c =
@@ -31,7 +32,7 @@ loop-again c =
     (λ w. w .5 ∙ cells-in (a .rows .now) (a .operations) (turn .o) (turn .out) _ (turn .inv .2) (sym (c .before .has .ensures) ∙ w .0 .taken) (w .2 .ensures))
     (λ w. cells-out (a .rows .now) (a .operations) (turn .o) (turn .out) _ (turn .inv .2) (sym (c .before .has .ensures) ∙ w .0 .left) (w .1))
     (c .if1 .came) in (
-      turn-within (turn .o) 16 (c .before .before .loop-test .taken),
+      turn-within (turn .o) rowCells (c .before .before .loop-test .taken),
       cells-so-long (a .rows .now) (a .operations) (turn .o + 1) (c .if1 .out) next,
       next,
     )

@@ -5,12 +5,13 @@ use lib.ListN.{length}
 use mathlib.Core.Path.{_≡_}
 use native.Mathlib.Omega.{arith}
 use Rattle.rule_grants.specs.RuleGridLaws.{columnSoFar, column-none, column-next, column-end, column-so-long}
+use Rattle.role_record.specs.Cells.{userCells}
 use Rattle.sets.specs.LoopLaws.{turn-within}
 use Rattle.rule_grants.proofs.fill_column.Statement.{statement}
 use Rattle.rule_grants.proofs.fill_column.Tie as tie
 
 abbrev Inv-loop : tie.InvT-loop
-Inv-loop rows operation out₀ u₀ out u = (u ≤ 64) × (length out ≡ 1024) × (out ≡ columnSoFar rows operation out₀ u)
+Inv-loop rows operation out₀ u₀ out u = (u ≤ 64) × (length out ≡ userCells) × (out ≡ columnSoFar rows operation out₀ u)
 
 abbrev μ-loop : tie.MeasureT-loop
 μ-loop rows operation out₀ u₀ out u = 64 - u

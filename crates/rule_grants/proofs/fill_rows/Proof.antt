@@ -1,5 +1,5 @@
 -- The invariant: the words before u are right. Assumes nothing.
-use Prim.Native.Nat.{ℕ, _/_, _%_, _-_, _≤_, _<_}
+use Prim.Native.Nat.{ℕ, _-_, _≤_, _<_}
 use borrow.Author.Count.{below-none}
 use borrow.Author.Needs.{needs}
 use lib.ListN.{length, getD}

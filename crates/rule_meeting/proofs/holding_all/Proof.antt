@@ -1,10 +1,9 @@
 -- The invariant: the set has the users who hold all roles of the set before k. Assumes nothing.
 use denote.Ref.{now}
 use mathlib.Core.Logic.{⊎-elim}
-use mathlib.Core.Path.{_≡_, refl, sym, _∙_}
+use mathlib.Core.Path.{_≡_, sym, _∙_}
 use native.Mathlib.Omega.{arith}
-use Prim.Native.Nat.{ℕ, _-_, _≤_, _<_}
-use Rattle.rule_meeting.specs.Meeting.{holdsAll}
+use Prim.Native.Nat.{_-_, _≤_}
 use Rattle.rule_meeting.specs.MeetingLaws.{holds-narrowed}
 use Rattle.sets.specs.LoopLaws.{turn-within, narrow-none, narrow-in, narrow-out, narrow-end}
 use Rattle.sets.specs.Sets.{narrowing, bit, maskOf}

@@ -1,5 +1,4 @@
 use borrow.Author.Tests.{eq-eqb, ne-eqb, lt-ltb, le-ltb}
-use mathlib.Core.Path.{_≡_, refl, sym, _∙_}
 use Rattle.rule_meeting.specs.Meeting.{meetingOf}
 use borrow.Author.Needs.{needs}
 use Rattle.rule_meeting.proofs.meeting.Statement.{statement}

@@ -1,5 +1,5 @@
 use borrow.Author.Needs.{needs}
-use mathlib.Core.Path.{_≡_, refl, sym, _∙_}
+use mathlib.Core.Path.{refl, sym, _∙_}
 use Rattle.rule_operands.specs.Checked.{atomOf}
 use Rattle.rule_operands.proofs.atom_of.Statement.{statement}
 use Rattle.rule_operands.proofs.atom_of.Tie as tie

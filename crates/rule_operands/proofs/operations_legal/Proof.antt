@@ -1,5 +1,5 @@
 use borrow.Author.Tests.{lt-ltb, le-ltb}
-use mathlib.Core.Path.{_≡_, refl}
+use mathlib.Core.Path.{refl}
 use Rattle.rule_operands.proofs.all_below.Reads as all-below-reads
 use borrow.Author.Needs.{needs}
 use Rattle.rule_operands.proofs.operations_legal.Statement.{statement}

@@ -1,5 +1,5 @@
 use borrow.Author.Tests.{eq-eqb, ne-eqb}
-use mathlib.Core.Path.{_≡_, refl}
+use mathlib.Core.Path.{refl}
 use Rattle.rule_operands.specs.Operands.{ownLegal}
 use Rattle.rule_operands.proofs.all_below.Reads as all-below-reads
 use borrow.Author.Needs.{needs}

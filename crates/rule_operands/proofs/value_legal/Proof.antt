@@ -1,6 +1,6 @@
 use borrow.Author.Tests.{eq-eqb, ne-eqb, lt-ltb, le-ltb}
 use mathlib.Core.Bool.{Bool}
-use mathlib.Core.Path.{_≡_, refl, ap, _∙_}
+use mathlib.Core.Path.{refl, ap, _∙_}
 use Rattle.rule_operands.specs.Operands.{valueLegal}
 use Rattle.sets.specs.Tests.{iff}
 use Rattle.sets.proofs.has.Reads as has-reads
@@ -20,11 +20,11 @@ returns-2 : tie.Need-returns-2
 unfolding valueLegal
 returns-2 c =
     let t = c .before .before .before in
-    rw (ne-eqb _ _ (t .before .before .if1 .left), lt-ltb _ _ (t .if2 .taken)) (c .same .ensures ∙ ap (λ (b : Bool). iff b (t .before .before .before .args .set)) (c .before .has .ensures))
+    rw (ne-eqb _ _ (t .before .before .before .if1 .left), lt-ltb _ _ (t .if2 .taken)) (c .same .ensures ∙ ap (λ (b : Bool). iff b (t .before .before .before .before .before .args .v .set)) (c .before .has .ensures))
 
 returns-3 : tie.Need-returns-3
 unfolding valueLegal
-returns-3 c = rw (ne-eqb _ _ (c .before .before .if1 .left), le-ltb _ _ (c .if2 .left)) refl
+returns-3 c = rw (ne-eqb _ _ (c .before .before .before .if1 .left), le-ltb _ _ (c .if2 .left)) refl
 
 pub value-legal-spec : {M : Type 1} → statement M
 value-legal-spec =

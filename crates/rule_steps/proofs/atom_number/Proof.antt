@@ -1,7 +1,7 @@
 -- Assumes nothing.
 use borrow.Author.Needs.{needs}
 use mathlib.Core.Path.{sym, ap, _∙_}
-use Rattle.rule_steps.specs.Lines.{atomNumber}
+use Rattle.rule_steps.specs.LineSteps.{atomNumber}
 use Rattle.rule_steps.proofs.atom_number.Statement.{statement}
 use Rattle.rule_steps.proofs.atom_number.Tie as tie
 

@@ -2,7 +2,7 @@
 use borrow.Author.Needs.{needs}
 use mathlib.Core.Path.{ap, _∙_}
 use Rattle.grant_blocks.specs.PartGrid.{joinedGrid}
-use Rattle.rule_steps.specs.Kept.{ruleGrid}
+use Rattle.rule_steps.specs.Tally.{ruleGrid}
 use Rattle.rule_steps.specs.KeptLaws.{closed-by}
 use Rattle.rule_steps.proofs.close.Statement.{statement}
 use Rattle.rule_steps.proofs.close.Tie as tie
@@ -14,7 +14,7 @@ returns c =
     let joined = compared .before .before in
     let made = joined .before .before .before in
     let a = made .before .before .args in (
-      closed-by (a .k) (a .met .now) (a .listed .now) (a .links .now) (a .users) (a .resources) (a .operations) _ _ _ _ (made .rule-grid .ensures) (compared .first-difference .ensures) (c .before .is-same .ensures) (c .counted .ensures),
+      closed-by (a .k) (a .met .now) (a .listed .now) (a .links .now) (a .sizes .users) (a .sizes .resources) (a .sizes .operations) _ _ _ _ (made .rule-grid .ensures) (compared .first-difference .ensures) (c .before .is-same .ensures) (c .counted .ensures),
       joined .join .ensures ∙ ap (λ t. joinedGrid t (a .grid .now)) (made .rule-grid .ensures),
     )
 

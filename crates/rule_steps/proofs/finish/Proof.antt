@@ -8,13 +8,13 @@ use Rattle.rule_steps.proofs.finish.Tie as tie
 returns : tie.Need-returns
 returns c =
     let a = c .before .before .before .args in
-    let f = finish-inside (a .k) (a .met .now) (a .listed .now) (a .links .now) (a .users) (a .resources) (a .operations) (a .grid .now) (c .before .before .if1 .taken) in
+    let f = finish-inside (a .k) (a .met .now) (a .listed .now) (a .links .now) (a .sizes .users) (a .sizes .resources) (a .sizes .operations) (a .grid .now) (c .before .before .if1 .taken) in
     (c .close .ensures .0 ∙ f .0, c .close .ensures .1 ∙ f .1)
 
 returns-2 : tie.Need-returns-2
 returns-2 c =
     let a = c .before .args in
-    finish-outside (a .k) (a .met .now) (a .listed .now) (a .links .now) (a .users) (a .resources) (a .operations) (a .grid .now) (c .if1 .left)
+    finish-outside (a .k) (a .met .now) (a .listed .now) (a .links .now) (a .sizes .users) (a .sizes .resources) (a .sizes .operations) (a .grid .now) (c .if1 .left)
 
 pub finish-spec : {M : Type 1} → statement M
 finish-spec = tie.close (tie.spec (λ c κs. search needs) returns returns-2)

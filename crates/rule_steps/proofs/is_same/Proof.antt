@@ -1,6 +1,6 @@
 -- Assumes nothing.
 use borrow.Author.Needs.{needs}
-use mathlib.Core.Path.{refl, sym, ap}
+use mathlib.Core.Path.{sym, ap}
 use Rattle.grant_grids.specs.Grid.{isSame}
 use Rattle.rule_steps.proofs.is_same.Statement.{statement}
 use Rattle.rule_steps.proofs.is_same.Tie as tie

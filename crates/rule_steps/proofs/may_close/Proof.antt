@@ -1,5 +1,4 @@
 -- Assumes nothing.
-use borrow.Author.Needs.{needs}
 use Rattle.rule_steps.specs.KeptLaws.{close-outside, close-bare, close-inside}
 use Rattle.rule_steps.proofs.may_close.Statement.{statement}
 use Rattle.rule_steps.proofs.may_close.Tie as tie

@@ -3,12 +3,13 @@ use borrow.Author.Needs.{needs}
 use Prim.Native.Nat.{_<_}
 use native.Mathlib.Omega.{arith}
 use Rattle.rule_steps.specs.KeptLaws.{place-within, met-stored}
+use Rattle.rule_steps.specs.LineSteps.{metWith}
 use Rattle.rule_steps.proofs.meet_value.Statement.{statement}
 use Rattle.rule_steps.proofs.meet_value.Tie as tie
 
 -- the place is one of the 14
 low : (c : tie.After-place) → c .place .result < 14
-low c = let e = c .place .ensures in let l = place-within (c .before .args .side) (c .before .args .attribute) (c .before .pre .0) in omega (arith, e, l)
+low c = let e = c .place .ensures in let l = place-within (c .before .args .v .side) (c .before .args .v .attribute) (c .before .pre .0) in omega (arith, e, l)
 
 mul-union : tie.Need-mul-union
 mul-union c = omega (arith, low (c .before))
@@ -23,6 +24,7 @@ element-write-met : tie.Need-element-write-met
 element-write-met c = low (c .before .before .before)
 
 returns : tie.Need-returns
+unfolding metWith
 returns c =
     let m = c .before .before in
     let a = m .before .before .args in

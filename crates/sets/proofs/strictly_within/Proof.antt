@@ -1,7 +1,6 @@
 -- Assumes nothing.
-use mathlib.Core.Bool.{Bool, _&&_, not, and-false}
+use mathlib.Core.Bool.{Bool, _&&_, not, and-false, and-true}
 use mathlib.Core.Path.{sym, ap, _∙_}
-use Rattle.sets.specs.MaskLaws.{and-true}
 use Rattle.sets.specs.Sets.{subset}
 use borrow.Author.Needs.{needs}
 use Rattle.sets.proofs.strictly_within.Statement.{statement}

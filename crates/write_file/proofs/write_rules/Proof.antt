@@ -4,52 +4,55 @@ use borrow.Author.Needs.{needs}
 use denote.Ref.{now}
 use native.Mathlib.Omega.{arith}
 use Prim.Native.Nat.{_≤_, _-_}
-use Rattle.write_file.specs.CountLaws.{file-room, file-ended}
+use Rattle.write_file.specs.MeasureLaws.{file-room, file-ended}
 use Rattle.write_file.specs.FileTable.{ruleAt}
+use Rattle.role_record.specs.Cells.{roleCells}
 use Rattle.write_lines.specs.WritingLaws.{Runs, runs-begin, runs-room, runs-within, runs-more}
 use Rattle.write_file.proofs.write_rules.Statement.{statement}
+use Rattle.write_roles.specs.GroupRoleLaws.{roles-at}
 use Rattle.write_file.proofs.write_rules.Tie as tie
 
 abbrev Inv-loop : tie.InvT-loop
-Inv-loop kept distinct having inside kinds permissions roles operations scratch out₀ at₀ i₀ out at i = (i ≤ 512) × Runs (ruleAt kept distinct having inside kinds permissions operations scratch) 512 out₀ out at i
+Inv-loop kept distinct having inside kinds permissions roles operations scratch out₀ at₀ i₀ out at i = (i ≤ roleCells) × Runs (ruleAt kept distinct having inside kinds permissions operations scratch) roleCells out₀ out at i
 
 abbrev μ-loop : tie.MeasureT-loop
-μ-loop kept distinct having inside kinds permissions roles operations scratch out₀ at₀ i₀ out at i = 512 - i
+μ-loop kept distinct having inside kinds permissions roles operations scratch out₀ at₀ i₀ out at i = roleCells - i
 
 loop-holds : tie.Need-loop-holds Inv-loop μ-loop
 loop-holds c =
     let s = c .before .before in
     let a = s .args in
     let r = file-room (a .kept .now) (a .distinct .now) (a .having .now) (a .inside .now) (a .kinds .now) (a .permissions .now) (a .operations) (a .scratch .now) (now (a .out)) (s .pre .3) in
-    (search needs, runs-begin (ruleAt (a .kept .now) (a .distinct .now) (a .having .now) (a .inside .now) (a .kinds .now) (a .permissions .now) (a .operations) (a .scratch .now)) 512 (now (a .out)) (omega (arith, r)))
+    (search needs, runs-begin (ruleAt (a .kept .now) (a .distinct .now) (a .having .now) (a .inside .now) (a .kinds .now) (a .permissions .now) (a .operations) (a .scratch .now)) roleCells (now (a .out)) (omega (arith, r)))
 
 write-seat-requires : tie.Need-write-seat-requires Inv-loop μ-loop
 write-seat-requires c κs =
-    let l = c .before .before .loop in
-    let s = c .before .before .before .before .before in
-    let a = s .args in
-    let t = c .before .loop-test .taken in
-    (s .pre .0, s .pre .1, s .pre .2, t, runs-room (ruleAt (a .kept .now) (a .distinct .now) (a .having .now) (a .inside .now) (a .kinds .now) (a .permissions .now) (a .operations) (a .scratch .now)) 512 (now (a .out)) (l .out) (l .at) (l .i) t (l .inv .1))
-
-add-at : tie.Need-add-at Inv-loop μ-loop
-add-at c =
-    let d = c .before .before .before .before in
+    let d = c .before .before .before in
     let l = d .before .loop in
     let s = d .before .before .before .before in
     let a = s .args in
     let t = d .loop-test .taken in
-    let w = runs-within (ruleAt (a .kept .now) (a .distinct .now) (a .having .now) (a .inside .now) (a .kinds .now) (a .permissions .now) (a .operations) (a .scratch .now)) 512 (now (a .out)) (l .out) (l .at) (l .i) t (l .inv .1) in
+    (s .pre .0, s .pre .1, t, roles-at (a .scratch .now) (a .group-roles .now) (l .i) t (s .pre .2), runs-room (ruleAt (a .kept .now) (a .distinct .now) (a .having .now) (a .inside .now) (a .kinds .now) (a .permissions .now) (a .operations) (a .scratch .now)) roleCells (now (a .out)) (l .out) (l .at) (l .i) t (l .inv .1))
+
+add-at : tie.Need-add-at Inv-loop μ-loop
+add-at c =
+    let d = c .before .before .before .before .before .before in
+    let l = d .before .loop in
+    let s = d .before .before .before .before in
+    let a = s .args in
+    let t = d .loop-test .taken in
+    let w = runs-within (ruleAt (a .kept .now) (a .distinct .now) (a .having .now) (a .inside .now) (a .kinds .now) (a .permissions .now) (a .operations) (a .scratch .now)) roleCells (now (a .out)) (l .out) (l .at) (l .i) t (l .inv .1) in
     let e = c .before .before .write-seat .ensures .1 in
     omega (arith, w, e, s .good)
 
 loop-again : tie.Need-loop-again Inv-loop μ-loop
 loop-again c =
-    let d = c .before .before .before .before in
+    let d = c .before .before .before .before .before .before in
     let l = d .before .loop in
     let a = d .before .before .before .before .args in
     let t = d .loop-test .taken in
     let w = c .before .before .write-seat in
-    (search needs, runs-more (ruleAt (a .kept .now) (a .distinct .now) (a .having .now) (a .inside .now) (a .kinds .now) (a .permissions .now) (a .operations) (a .scratch .now)) 512 (now (a .out)) (l .out) (l .at) (l .i) t (l .inv .1) _ (w .result) (w .ensures .0) (w .ensures .1))
+    (search needs, runs-more (ruleAt (a .kept .now) (a .distinct .now) (a .having .now) (a .inside .now) (a .kinds .now) (a .permissions .now) (a .operations) (a .scratch .now)) roleCells (now (a .out)) (l .out) (l .at) (l .i) t (l .inv .1) _ (w .result) (w .ensures .0) (w .ensures .1))
 
 slice-write-out : tie.Need-slice-write-out Inv-loop μ-loop
 slice-write-out c =
@@ -85,6 +88,10 @@ write-rules-spec =
     Inv-loop
     μ-loop
     loop-holds
+    (λ c. search needs)
+    (λ c. search needs)
+    (λ c. search needs)
+    (λ c. search needs)
     (λ c. search needs)
     (λ c. search needs)
     (λ c. search needs)

@@ -6,45 +6,44 @@ use mathlib.Core.List.{List}
 use native.Mathlib.Omega.{arith}
 use Prim.Native.Nat.{ℕ}
 use lib.ListN.{length}
-use Rattle.write_file.specs.CountLaws.{seat-head, seat-none, nothing-wrote}
-use Rattle.write_file.specs.FileTable.{ruleAt}
+use Rattle.write_file.specs.MeasureLaws.{seat-head, seat-none, nothing-wrote}
+use Rattle.write_file.specs.FileTable.{ruleWith}
 use Rattle.write_lines.specs.Writing.{wrote}
 use Rattle.write_lines.specs.WritingLaws.{length-wrote}
-use Rattle.write_lists.specs.RoleLaws.{roles-at}
 use Rattle.write_file.proofs.write_seat.Statement.{statement}
 use Rattle.write_file.proofs.write_seat.Tie as tie
 
 write-rule-requires : tie.Need-write-rule-requires
 write-rule-requires c κs =
-    let h = c .before .before .before in
+    let h = c .before in
     let s = h .before .before .before .before in
     let a = s .args in
-    let l = ap length (seat-head (a .kept .now) (a .distinct .now) (a .having .now) (a .inside .now) (a .kinds .now) (a .permissions .now) (a .operations) (a .scratch .now) (a .i) (sym (h .before .is-head .ensures) ∙ h .if1 .taken)) in
+    let l = ap length (seat-head (a .distinct .now) (a .having .now) (a .inside .now) (a .kinds .now) (a .permissions .now) (a .operations) (a .scratch .now) (a .rule .head) (a .rule .kept) (sym (h .before .is-head .ensures) ∙ h .if1 .taken)) in
     let r = s .pre .4 in
-    ((s .pre .0, s .pre .1, s .pre .3, roles-at (a .scratch .now) (a .roles .now) (a .i) (s .pre .3) (s .pre .2)), omega (arith, l, r))
+    ((s .pre .0, s .pre .1, s .pre .2, s .pre .3), omega (arith, l, r))
 
 same-length : tie.Need-same-length
 same-length c =
     let w = c .before .before in
-    let h = w .before .before .before .before in
+    let h = w .before .before in
     let s = h .before .before .before .before in
     let a = s .args in
-    let e = seat-head (a .kept .now) (a .distinct .now) (a .having .now) (a .inside .now) (a .kinds .now) (a .permissions .now) (a .operations) (a .scratch .now) (a .i) (sym (h .before .is-head .ensures) ∙ h .if1 .taken) in
-    ap length (w .write-rule .ensures .1 ∙ ap (λ (b : List ℕ). wrote b (now (a .out))) e) ∙ length-wrote (ruleAt (a .kept .now) (a .distinct .now) (a .having .now) (a .inside .now) (a .kinds .now) (a .permissions .now) (a .operations) (a .scratch .now) (a .i)) (now (a .out)) (s .pre .4)
+    let e = seat-head (a .distinct .now) (a .having .now) (a .inside .now) (a .kinds .now) (a .permissions .now) (a .operations) (a .scratch .now) (a .rule .head) (a .rule .kept) (sym (h .before .is-head .ensures) ∙ h .if1 .taken) in
+    ap length (w .write-rule .ensures .1 ∙ ap (λ (b : List ℕ). wrote b (now (a .out))) e) ∙ length-wrote (ruleWith (a .distinct .now) (a .having .now) (a .inside .now) (a .kinds .now) (a .permissions .now) (a .operations) (a .scratch .now) (a .rule .head) (a .rule .kept)) (now (a .out)) (s .pre .4)
 
 returns : tie.Need-returns
 returns c =
     let w = c .before .before in
-    let h = w .before .before .before .before in
+    let h = w .before .before in
     let a = h .before .before .before .before .args in
-    let e = seat-head (a .kept .now) (a .distinct .now) (a .having .now) (a .inside .now) (a .kinds .now) (a .permissions .now) (a .operations) (a .scratch .now) (a .i) (sym (h .before .is-head .ensures) ∙ h .if1 .taken) in
+    let e = seat-head (a .distinct .now) (a .having .now) (a .inside .now) (a .kinds .now) (a .permissions .now) (a .operations) (a .scratch .now) (a .rule .head) (a .rule .kept) (sym (h .before .is-head .ensures) ∙ h .if1 .taken) in
     (w .write-rule .ensures .1 ∙ ap (λ (b : List ℕ). wrote b (now (a .out))) e, w .write-rule .ensures .0 ∙ ap length e)
 
 returns-2 : tie.Need-returns-2
 returns-2 c =
     let h = c .before in
     let a = h .before .before .before .args in
-    let e = seat-none (a .kept .now) (a .distinct .now) (a .having .now) (a .inside .now) (a .kinds .now) (a .permissions .now) (a .operations) (a .scratch .now) (a .i) (sym (h .is-head .ensures) ∙ c .if1 .left) in
+    let e = seat-none (a .distinct .now) (a .having .now) (a .inside .now) (a .kinds .now) (a .permissions .now) (a .operations) (a .scratch .now) (a .rule .head) (a .rule .kept) (sym (h .is-head .ensures) ∙ c .if1 .left) in
     (nothing-wrote _ _ e, sym (ap length e))
 
 pub write-seat-spec : {M : Type 1} → statement M
@@ -52,10 +51,6 @@ write-seat-spec =
     tie.close
     (tie.spec
     (λ c κs. search needs)
-    (λ c. search needs)
-    (λ c. search needs)
-    (λ c. search needs)
-    (λ c. search needs)
     write-rule-requires
     same-length
     returns

@@ -1,5 +1,5 @@
 -- Assumes nothing.
-use Rattle.write_lines.specs.LineLaws.{attribute-own, attribute-other}
+use Rattle.write_lines.specs.ValueLineLaws.{attribute-own, attribute-other}
 use Rattle.write_lines.proofs.attribute_at.Statement.{statement}
 use Rattle.write_lines.proofs.attribute_at.Tie as tie
 

@@ -1,6 +1,6 @@
 -- Assumes nothing.
 use mathlib.Core.Bool.{true, false}
-use Rattle.write_lines.specs.LineLaws.{command-user, command-resource}
+use Rattle.write_lines.specs.ValueLineLaws.{command-user, command-resource}
 use Rattle.write_lines.proofs.command_at.Statement.{statement}
 use Rattle.write_lines.proofs.command_at.Tie as tie
 

@@ -2,7 +2,7 @@
 use denote.Ref.{now}
 use lib.ListN.{length-set}
 use native.Mathlib.Omega.{arith}
-use Rattle.write_lines.specs.LineLaws.{store-four}
+use Rattle.write_lines.specs.ValueLineLaws.{store-four}
 use borrow.Author.Needs.{needs}
 use Rattle.write_lines.proofs.put_four.Statement.{statement}
 use Rattle.write_lines.proofs.put_four.Tie as tie

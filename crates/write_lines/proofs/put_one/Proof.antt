@@ -1,5 +1,5 @@
 -- Assumes nothing.
-use Rattle.write_lines.specs.LineLaws.{store-one}
+use Rattle.write_lines.specs.ValueLineLaws.{store-one}
 use denote.Ref.{now}
 use borrow.Author.Needs.{needs}
 use Rattle.write_lines.proofs.put_one.Statement.{statement}

@@ -2,11 +2,11 @@
 use denote.Ref.{now}
 use lib.ListN.{length}
 use native.Mathlib.Omega.{arith}
-use Rattle.write_lines.specs.LineLaws.{command-byte, ten-room, four-room, ten-written, four-written}
+use Rattle.write_lines.specs.ValueLineLaws.{command-byte, ten-room, four-room, ten-written, four-written}
 use Rattle.mine_theory.specs.Lines.RuleLinesLaws.{attribute-byte}
-use Rattle.mine_theory.specs.Words.Flags.{placeSide, placeAttribute}
 use borrow.Author.Needs.{needs}
 use Rattle.write_lines.proofs.put_value.Statement.{statement}
+use Rattle.role_record.specs.Places.{placeSide, placeAttribute}
 use Rattle.write_lines.proofs.put_value.Tie as tie
 
 put-ten-requires : tie.Need-put-ten-requires

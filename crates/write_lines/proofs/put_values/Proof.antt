@@ -7,9 +7,9 @@ use mathlib.Core.List.{List}
 use native.Mathlib.Omega.{arith}
 use Rattle.write_lines.specs.WritingLaws.{Runs, runs-begin, runs-room, runs-within, runs-more, runs-end}
 use Rattle.mine_theory.specs.Lines.RuleLines.{valueBytes}
-use Rattle.mine_theory.specs.Words.Flags.{placeSide, placeAttribute}
 use borrow.Author.Needs.{needs}
 use Rattle.write_lines.proofs.put_values.Statement.{statement}
+use Rattle.role_record.specs.Places.{placeSide, placeAttribute}
 use Rattle.write_lines.proofs.put_values.Tie as tie
 
 abbrev lines : List ℕ → ℕ → Bool → ℕ → List ℕ

@@ -3,10 +3,10 @@ use Prim.Native.Nat.{ℕ}
 use denote.Ref.{now}
 use mathlib.Core.List.{List}
 use native.Mathlib.Omega.{arith}
-use Rattle.write_rule.specs.RuleTable.{atomBytesAt, atomBytesIn}
-use Rattle.write_rule.specs.VisitLaws.{Visits, atoms-begin, visits-at, visits-low, visits-room, visits-within, visits-fewer, visits-more, visits-end}
+use Rattle.write_rule.specs.RoleVisitLaws.{Visits, atoms-begin, visits-at, visits-low, visits-room, visits-within, visits-fewer, visits-more, visits-end}
 use borrow.Author.Needs.{needs}
 use Rattle.write_rule.proofs.put_atoms.Statement.{statement}
+use Rattle.write_theory.specs.RuleTable.{atomBytesAt, atomBytesIn}
 use Rattle.write_rule.proofs.put_atoms.Tie as tie
 
 abbrev Inv-loop : tie.InvT-loop

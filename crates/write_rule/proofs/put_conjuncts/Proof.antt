@@ -7,23 +7,23 @@ use native.Mathlib.Omega.{arith}
 use Rattle.write_lines.specs.WritingLaws.{Runs, runs-begin, runs-room, runs-within, runs-more, runs-end}
 use lib.Dec.{eqb}
 use Rattle.files.specs.RoleFile.{sideBy}
-use Rattle.write_rule.specs.RuleTable.{kindBytesIn}
+use Rattle.write_theory.specs.RuleTable.{kindBytesIn}
 use Rattle.write_rule.specs.SectionLaws.{written-as, room-as, conjunct-kinds}
 use borrow.Author.Needs.{needs}
 use Rattle.write_rule.proofs.put_conjuncts.Statement.{statement}
 use Rattle.write_rule.proofs.put_conjuncts.Tie as tie
 
 abbrev Inv-loop : tie.InvT-loop
-Inv-loop distinct having inside kinds scratch head kept out₀ at₀ k₀ out at k = (k ≤ 4) × Runs (λ k. kindBytesIn distinct having inside kinds scratch head kept (sideBy (k / 2)) (eqb (k % 2) 1)) 4 out₀ out at k
+Inv-loop distinct having inside kinds scratch rule out₀ at₀ k₀ out at k = (k ≤ 4) × Runs (λ k. kindBytesIn distinct having inside kinds scratch (rule .head) (rule .kept) (sideBy (k / 2)) (eqb (k % 2) 1)) 4 out₀ out at k
 
 abbrev μ-loop : tie.MeasureT-loop
-μ-loop distinct having inside kinds scratch head kept out₀ at₀ k₀ out at k = 4 - k
+μ-loop distinct having inside kinds scratch rule out₀ at₀ k₀ out at k = 4 - k
 
 abbrev runs : tie.Start Inv-loop μ-loop → ℕ → List ℕ
-runs s = let a = s .args in λ k. kindBytesIn (a .distinct .now) (a .having .now) (a .inside .now) (a .kinds .now) (a .scratch .now) (a .head) (a .kept) (sideBy (k / 2)) (eqb (k % 2) 1)
+runs s = let a = s .args in λ k. kindBytesIn (a .distinct .now) (a .having .now) (a .inside .now) (a .kinds .now) (a .scratch .now) (a .rule .head) (a .rule .kept) (sideBy (k / 2)) (eqb (k % 2) 1)
 
 loop-holds : tie.Need-loop-holds Inv-loop μ-loop
-loop-holds c = let s = c .before .before in (search needs, runs-begin (runs s) 4 (now (s .args .out)) (room-as _ _ (length (now (s .args .out))) (conjunct-kinds (s .args .distinct .now) (s .args .having .now) (s .args .inside .now) (s .args .kinds .now) (s .args .scratch .now) (s .args .head) (s .args .kept)) (s .pre .1)))
+loop-holds c = let s = c .before .before in (search needs, runs-begin (runs s) 4 (now (s .args .out)) (room-as _ _ (length (now (s .args .out))) (conjunct-kinds (s .args .distinct .now) (s .args .having .now) (s .args .inside .now) (s .args .kinds .now) (s .args .scratch .now) (s .args .rule .head) (s .args .rule .kept)) (s .pre .1)))
 
 put-kind-requires : tie.Need-put-kind-requires Inv-loop μ-loop
 put-kind-requires c κs =
@@ -57,7 +57,7 @@ returns : tie.Need-returns Inv-loop μ-loop
 returns c =
     let turn = c .before .loop in
     let s = c .before .before .before .before in
-    written-as _ _ _ (now (s .args .out)) (turn .at) (conjunct-kinds (s .args .distinct .now) (s .args .having .now) (s .args .inside .now) (s .args .kinds .now) (s .args .scratch .now) (s .args .head) (s .args .kept)) (runs-end (runs s) 4 (now (s .args .out)) (turn .out) (turn .at) (turn .k) (omega arith) (turn .inv .1))
+    written-as _ _ _ (now (s .args .out)) (turn .at) (conjunct-kinds (s .args .distinct .now) (s .args .having .now) (s .args .inside .now) (s .args .kinds .now) (s .args .scratch .now) (s .args .rule .head) (s .args .rule .kept)) (runs-end (runs s) 4 (now (s .args .out)) (turn .out) (turn .at) (turn .k) (omega arith) (turn .inv .1))
 
 pub put-conjuncts-spec : {M : Type 1} → statement M
 put-conjuncts-spec =

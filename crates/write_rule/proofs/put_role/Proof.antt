@@ -2,7 +2,7 @@
 use denote.Ref.{now}
 use lib.ListN.{length}
 use native.Mathlib.Omega.{arith}
-use Rattle.write_lists.specs.ListingLaws.{classes-most}
+use Rattle.write_theory.specs.ListingLaws.{classes-most}
 use Rattle.write_rule.specs.SectionLaws.{written-as, room-as, role-on}
 use borrow.Author.Needs.{needs}
 use Rattle.write_rule.proofs.put_role.Statement.{statement}

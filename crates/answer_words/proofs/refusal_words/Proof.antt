@@ -1,0 +1,127 @@
+-- Each number's words are those of the table. Assumes nothing.
+use borrow.Author.Needs.{needs}
+use mathlib.Core.Path.{sym, ap}
+use native.Mathlib.Omega.{arith}
+use Rattle.answer_words.proofs.refusal_words.Statement.{statement}
+use Rattle.answer_words.specs.AnswerWords.{refusalTable, refusalWords, causeWords}
+use Rattle.answer_words.specs.AnswerWordLaws.{holds-same, above, past-refusals}
+use Rattle.answer_words.proofs.refusal_words.Tie as tie
+
+returns : tie.Need-returns
+unfolding refusalWords refusalTable causeWords
+returns c = holds-same (ap refusalWords (sym (c .before .before .before .before .before .match .keys1))) (c .before .before .put .ensures)
+
+returns-2 : tie.Need-returns-2
+unfolding refusalWords refusalTable causeWords
+returns-2 c = holds-same (ap refusalWords (sym (c .before .before .before .before .before .match .keys2))) (c .before .before .put2 .ensures)
+
+returns-3 : tie.Need-returns-3
+unfolding refusalWords refusalTable causeWords
+returns-3 c = holds-same (ap refusalWords (sym (c .before .before .before .before .before .match .keys3))) (c .before .before .put3 .ensures)
+
+returns-4 : tie.Need-returns-4
+unfolding refusalWords refusalTable causeWords
+returns-4 c = holds-same (ap refusalWords (sym (c .before .before .before .before .before .match .keys4))) (c .before .before .put4 .ensures)
+
+returns-5 : tie.Need-returns-5
+unfolding refusalWords refusalTable causeWords
+returns-5 c = holds-same (ap refusalWords (sym (c .before .before .before .before .before .match .keys5))) (c .before .before .put5 .ensures)
+
+returns-6 : tie.Need-returns-6
+unfolding refusalWords refusalTable causeWords
+returns-6 c = holds-same (ap refusalWords (sym (c .before .before .before .before .before .match .keys6))) (c .before .before .put6 .ensures)
+
+returns-7 : tie.Need-returns-7
+unfolding refusalWords refusalTable causeWords
+returns-7 c = holds-same (ap refusalWords (sym (c .before .before .before .before .before .match .keys7))) (c .before .before .put7 .ensures)
+
+returns-8 : tie.Need-returns-8
+unfolding refusalWords refusalTable causeWords
+returns-8 c = holds-same (ap refusalWords (sym (c .before .before .before .before .before .match .keys8))) (c .before .before .put8 .ensures)
+
+returns-9 : tie.Need-returns-9
+unfolding refusalWords refusalTable causeWords
+returns-9 c = holds-same (ap refusalWords (sym (c .before .before .before .before .before .match .keys9))) (c .before .before .put9 .ensures)
+
+returns-10 : tie.Need-returns-10
+unfolding refusalWords refusalTable causeWords
+returns-10 c = holds-same (ap refusalWords (sym (c .before .before .before .before .before .match .keys10))) (c .before .before .put10 .ensures)
+
+returns-11 : tie.Need-returns-11
+unfolding refusalWords refusalTable causeWords
+returns-11 c = holds-same (ap refusalWords (sym (c .before .before .before .before .before .match .keys11))) (c .before .before .put11 .ensures)
+
+returns-12 : tie.Need-returns-12
+unfolding refusalWords refusalTable causeWords
+returns-12 c = holds-same (ap refusalWords (sym (c .before .before .before .before .before .match .keys12))) (c .before .before .put12 .ensures)
+
+returns-13 : tie.Need-returns-13
+unfolding refusalWords refusalTable causeWords
+returns-13 c = holds-same (ap refusalWords (sym (c .before .before .before .before .before .match .keys13))) (c .before .before .put13 .ensures)
+
+returns-14 : tie.Need-returns-14
+returns-14 c =
+    let n = c .before .before .before .before .before .before .before .args .n in
+    let other = c .before .before .before .before .before .match .rest in
+    holds-same (past-refusals n (λ z. above 13 (above 12 (above 11 (above 10 (above 9 (above 8 (above 7 (above 6 (above 5 (above 4 (above 3 (above 2 (above 1 (omega arith) (other .0 .0 .0 .0 .0 .0 .0 .0 .0 .0 .0 .0 .1)) (other .0 .0 .0 .0 .0 .0 .0 .0 .0 .0 .0 .1)) (other .0 .0 .0 .0 .0 .0 .0 .0 .0 .0 .1)) (other .0 .0 .0 .0 .0 .0 .0 .0 .0 .1)) (other .0 .0 .0 .0 .0 .0 .0 .0 .1)) (other .0 .0 .0 .0 .0 .0 .0 .1)) (other .0 .0 .0 .0 .0 .0 .1)) (other .0 .0 .0 .0 .0 .1)) (other .0 .0 .0 .0 .1)) (other .0 .0 .0 .1)) (other .0 .0 .1)) (other .0 .1)) (other .1))) (c .before .before .put14 .ensures)
+
+pub refusal-words-spec : {M : Type 1} → statement M
+refusal-words-spec =
+    tie.close
+    (tie.spec
+    (λ c. search needs)
+    (λ c κs. search needs)
+    (λ c. search needs)
+    (λ c κs. search needs)
+    (λ c. search needs)
+    (λ c κs. search needs)
+    (λ c. search needs)
+    (λ c κs. search needs)
+    (λ c. search needs)
+    (λ c κs. search needs)
+    (λ c. search needs)
+    (λ c κs. search needs)
+    (λ c. search needs)
+    (λ c κs. search needs)
+    (λ c. search needs)
+    (λ c κs. search needs)
+    (λ c. search needs)
+    (λ c κs. search needs)
+    (λ c. search needs)
+    (λ c κs. search needs)
+    (λ c. search needs)
+    (λ c κs. search needs)
+    (λ c. search needs)
+    (λ c κs. search needs)
+    (λ c. search needs)
+    (λ c κs. search needs)
+    (λ c. search needs)
+    (λ c κs. search needs)
+    (λ c. search needs)
+    returns
+    (λ c. search needs)
+    returns-2
+    (λ c. search needs)
+    returns-3
+    (λ c. search needs)
+    returns-4
+    (λ c. search needs)
+    returns-5
+    (λ c. search needs)
+    returns-6
+    (λ c. search needs)
+    returns-7
+    (λ c. search needs)
+    returns-8
+    (λ c. search needs)
+    returns-9
+    (λ c. search needs)
+    returns-10
+    (λ c. search needs)
+    returns-11
+    (λ c. search needs)
+    returns-12
+    (λ c. search needs)
+    returns-13
+    (λ c. search needs)
+    returns-14)

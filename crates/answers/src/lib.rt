@@ -1,0 +1,100 @@
+// An answer as it is handed over to C, in 01's numbers: the first, 0 or the number of a refusal, is returned; the values that go with a 0 are
+// stored at the front of lent memory. Into slices, since only a slice tells its length to a proof.
+ghost use lib.ListN.{length};
+ghost use mathlib.Core.Path.{_≡_};
+ghost use Rattle.answers.specs.Numbers.{returned, stored, readNumbers};
+ghost use Rattle.mining.specs.MinedNumbers.{minedNumbers};
+ghost use Rattle.role_question.specs.Reply.{replyNumbers};
+ghost use Rattle.rule_judge.specs.Judgement.{judgementNumbers};
+use mining::Mined;
+use role_question::Reply;
+use rule_judge::Judgement;
+
+// Of a rule file that was read: how many rules it has.
+pub fn store_rule_count(code: usize, rules: usize, count: &mut [usize]) -> usize
+    requires { ⌜ length (now count) ≡ 1 ⌝ }
+    ensures { λ r. ⌜
+        (r ≡ returned (readNumbers code rules))
+        × (now (count .exit) ≡ stored (readNumbers code rules) (now (count .entry))) ⌝ }
+{
+    if code == 0 {
+        count[0] = rules;
+    }
+    code
+}
+
+pub fn store_reply(reply: Reply, answer: &mut [usize]) -> usize
+    requires { ⌜ length (now answer) ≡ 1 ⌝ }
+    ensures { λ r. ⌜
+        (r ≡ returned (replyNumbers reply))
+        × (now (answer .exit) ≡ stored (replyNumbers reply) (now (answer .entry))) ⌝ }
+{
+    match reply {
+        Reply::Refused(n) => n,
+        Reply::No => {
+            answer[0] = 0;
+            0
+        }
+        Reply::Yes => {
+            answer[0] = 1;
+            0
+        }
+    }
+}
+
+pub fn store_judgement(judgement: Judgement, verdict: &mut [usize]) -> usize
+    requires { ⌜ length (now verdict) ≡ 4 ⌝ }
+    ensures { λ r. ⌜
+        (r ≡ returned (judgementNumbers judgement))
+        × (now (verdict .exit) ≡ stored (judgementNumbers judgement) (now (verdict .entry))) ⌝ }
+{
+    match judgement {
+        Judgement::Refused(n) => n,
+        Judgement::Sound => {
+            verdict[0] = 0;
+            0
+        }
+        Judgement::Differ(user, resource, operation) => {
+            verdict[0] = 1;
+            verdict[1] = user;
+            verdict[2] = resource;
+            verdict[3] = operation;
+            0
+        }
+        Judgement::StrayRule(rule) => {
+            verdict[0] = 2;
+            verdict[1] = rule;
+            0
+        }
+        Judgement::StrayPart(part) => {
+            verdict[0] = 3;
+            verdict[1] = part;
+            0
+        }
+    }
+}
+
+pub fn store_mined(mined: Mined, counts: &mut [usize]) -> usize
+    requires { ⌜ length (now counts) ≡ 5 ⌝ }
+    ensures { λ r. ⌜
+        (r ≡ returned (minedNumbers mined))
+        × (now (counts .exit) ≡ stored (minedNumbers mined) (now (counts .entry))) ⌝ }
+{
+    match mined {
+        Mined::Refused(n) => n,
+        Mined::Written {
+            length,
+            parts,
+            rules,
+            merges,
+            cost,
+        } => {
+            counts[0] = length;
+            counts[1] = parts;
+            counts[2] = rules;
+            counts[3] = merges;
+            counts[4] = cost;
+            0
+        }
+    }
+}

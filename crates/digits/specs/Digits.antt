@@ -1,0 +1,25 @@
+-- Numbers in decimal digits.
+-- Assumes nothing.
+use Prim.Native.Nat.{ℕ, _+_, _-_, _*_, min}
+use lib.Dec.{leb}
+use mathlib.Core.Bool.{Bool, cond, _&&_}
+use mathlib.Core.List.{List, [], _∷_}
+use Rattle.digits.specs.declared.Number.{Number}
+use Rattle.digits.specs.declared.Number.the-variants.{Given, Wrong}
+
+-- a larger number is taken for this one
+abbrev pub most : ℕ
+most = 1000000
+
+abbrev pub isWithin : ℕ → ℕ → ℕ → Bool
+isWithin n low high = leb low n && leb n high
+
+-- the number n with these digits behind it; the digits are the bytes 48 to 57
+abbrev pub readDigits : ℕ → List ℕ → Number
+readDigits n [] = Given n
+readDigits n (c ∷ s) = let r = readDigits (min (10 * n + (c - 48)) most) s in cond (isWithin c 48 57) r Wrong
+
+-- one digit or more, and nothing else
+unfoldable pub numberIn : List ℕ → Number
+numberIn [] = Wrong
+numberIn (c ∷ s) = readDigits 0 (c ∷ s)

@@ -1,4 +1,0 @@
-pub mod Headings
-pub mod HeadingLaws
-pub mod RuleLevelLaws
-pub mod TellingLaws

@@ -1,0 +1,5 @@
+pub mod Tables
+pub mod LinkTurnLaws
+pub mod RelationLaws
+pub mod RankLaws
+pub mod LinkTableLaws

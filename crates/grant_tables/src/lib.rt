@@ -1,0 +1,230 @@
+// The table of the atoms that hold, filled from the tables of distinct values. Each pair of distinct values is looked at once, and its word
+// is joined to the words of all who have the value.
+ghost use lib.ListN.{length};
+ghost use mathlib.Core.List.{List};
+ghost use mathlib.Core.Path.{_≡_};
+ghost use Prim.Native.Nat.{ℕ, _+_, _*_, _≤_, _<_};
+ghost use Rattle.grant_distinct.specs.Distinct.{distinctTable, havingTable};
+ghost use Rattle.grant_grids.specs.Links.{linkTable};
+ghost use Rattle.policy.specs.Rules.{formOf, linked};
+ghost use Rattle.grant_tables.specs.Tables.{spreadOf, joins, unionOf, linkAtom, linkedTo, linksBy};
+ghost use Rattle.grant_tables.specs.Tables.{valueCount};
+use role_record::ByAttribute;
+use role_record::ByPlaceMember;
+use role_record::ByRole;
+use role_record::BySide;
+use role_record::Links;
+use role_record::RoleFile;
+use role_record::Values;
+
+// Joins a set to the words of some members of a block, which has 64 words.
+pub fn spread(block: usize, members: u64, word: u64, out: &mut [u64])
+    requires { ⌜ 64 * block + 64 ≤ length (now out) ⌝ }
+    ensures { λ _. ⌜ now (out .exit) ≡ spreadOf (length (now (out .entry))) block members word (now (out .entry)) ⌝ }
+{
+    let mut rest = members;
+    while 0 < rest {
+        let y = sets::least(rest);
+        out[RoleFile::MEMBERS * block + y] = sets::union(out[RoleFile::MEMBERS * block + y], word);
+        rest = sets::without_least(rest);
+    }
+}
+
+// How many distinct values a place has: nobody has the next.
+pub fn number(having: &ByPlaceMember, place: usize) -> usize
+    requires { ⌜ place < 14 ⌝ }
+    ensures { λ r. ⌜ r ≡ valueCount (now (having .entry)) place ⌝ }
+{
+    for k in 0..RoleFile::MEMBERS {
+        if having[RoleFile::MEMBERS * place + k] == 0 {
+            return k;
+        }
+    }
+    RoleFile::MEMBERS
+}
+
+// Whether an atom joins two values. Left says that the first is a set, right that the second is.
+fn fits(left: bool, right: bool, v: u64, w: u64) -> bool
+    ensures { λ r. ⌜ r ≡ linked (formOf left right) v w ⌝ }
+{
+    if left {
+        if right {
+            return sets::within(w, v);
+        }
+        // No set has a number above 63.
+        return sets::has(v, w as usize);
+    }
+    if right {
+        return false;
+    }
+    v == w
+}
+
+// The same, of the two values changed round if that is asked for.
+fn joins(left: bool, right: bool, turned: bool, v: u64, w: u64) -> bool
+    ensures { λ r. ⌜ r ≡ joins left right turned v w ⌝ }
+{
+    if turned {
+        return fits(left, right, w, v);
+    }
+    fits(left, right, v, w)
+}
+
+// Who has, at a place, one of the first values that a value is joined with.
+pub fn joined<'a>(
+    distinct: &'a ByPlaceMember,
+    having: &'a ByPlaceMember,
+    place: usize,
+    count: usize,
+    left: bool,
+    right: bool,
+    turned: bool,
+    v: u64,
+) -> u64
+    requires { ⌜ (place < 14) × (count ≤ 64) ⌝ }
+    ensures { λ m. ⌜
+        m ≡ unionOf (now (distinct .entry)) (now (having .entry)) (joins left right turned v) place count ⌝ }
+{
+    let mut m: u64 = 0;
+    for l in 0..count {
+        let word = having[RoleFile::MEMBERS * place + l];
+        // Which values are joined cannot be foreseen, so there is a word to join either way.
+        let found = if joins(
+            left,
+            right,
+            turned,
+            v,
+            distinct[RoleFile::MEMBERS * place + l],
+        ) {
+            word
+        } else {
+            0
+        };
+        m = sets::union(m, found);
+    }
+    m
+}
+
+// The resources with which the atom over user attribute a and resource attribute b joins the user value number k.
+fn linked_to<'a>(
+    kinds: &'a BySide,
+    resources: usize,
+    distinct: &'a ByPlaceMember,
+    having: &'a ByPlaceMember,
+    a: usize,
+    b: usize,
+    k: usize,
+    count: usize,
+) -> u64
+    requires { ⌜ (a < 6) × (b < 6) × (k < 64) × (count ≡ valueCount (now having) (7 + b)) ⌝ }
+    ensures { λ m. ⌜
+        m ≡ linkedTo (now (distinct .entry)) (now (having .entry)) (now (kinds .entry)) resources a b k ⌝ }
+{
+    let left = sets::has(kinds[0], a);
+    let right = sets::has(kinds[1], b);
+    let found = joined(
+        distinct,
+        having,
+        RoleFile::CONJUNCTS + b,
+        count,
+        left,
+        right,
+        false,
+        distinct[RoleFile::MEMBERS * a + k],
+    );
+    sets::meet(sets::below(resources), found)
+}
+
+// The words of an atom, of which `links` below has 36: those of whoever has a user value, value by value. Nobody has an unknown value, so
+// that it satisfies no atom, on either side.
+fn link_atom<'a>(
+    kinds: &'a BySide,
+    resources: usize,
+    distinct: &'a ByPlaceMember,
+    having: &'a ByPlaceMember,
+    atom: usize,
+    out: &mut [u64],
+)
+    requires { ⌜ (atom < 36) × (length (now out) ≡ 2304) ⌝ }
+    ensures { λ _. ⌜
+        now (out .exit)
+        ≡ linkAtom (now (distinct .entry)) (now (having .entry)) (now (kinds .entry)) resources atom
+        (now (out .entry)) ⌝ }
+{
+    let a = atom / RoleFile::ATTRIBUTES;
+    let b = atom % RoleFile::ATTRIBUTES;
+    let others = number(having, RoleFile::CONJUNCTS + b);
+    let count = number(having, a);
+    for k in 0..count {
+        let word = linked_to(kinds, resources, distinct, having, a, b, k, others);
+        spread(atom, having[RoleFile::MEMBERS * a + k], word, out);
+    }
+}
+
+// Into a slice, since only a slice tells its length to a proof.
+fn fill_links<'a>(
+    kinds: &'a BySide,
+    resources: usize,
+    distinct: &'a ByPlaceMember,
+    having: &'a ByPlaceMember,
+    out: &mut [u64],
+)
+    requires { ⌜ length (now out) ≡ 2304 ⌝ }
+    ensures { λ _. ⌜
+        now (out .exit) ≡ linksBy (now (distinct .entry)) (now (having .entry)) (now (kinds .entry)) resources ⌝ }
+{
+    role_record::clear(out);
+    for atom in 0..RoleFile::ATOMS {
+        link_atom(kinds, resources, distinct, having, atom, out);
+    }
+}
+
+// The atoms that hold, whatever the table held, if the other tables are those of some values: word 64 * (6 * a + b) + user is the set of
+// the resources of which the atom over user attribute a and resource attribute b holds with the user.
+pub fn links<'a>(
+    kinds: &'a BySide,
+    resources: usize,
+    distinct: &'a ByPlaceMember,
+    having: &'a ByPlaceMember,
+    out: &mut Links,
+)
+    requires { ⌜ resources ≤ 64 ⌝ }
+    ensures { λ _. ⌜
+        ((known values holders : List ℕ)
+        → (users roles : ℕ)
+        → now (distinct .entry) ≡ distinctTable known values holders users resources roles
+        → now (having .entry) ≡ havingTable known values holders users resources roles
+        → now (out .exit) ≡ linkTable known values (now (kinds .entry)) resources) ⌝ }
+{
+    fill_links(kinds, resources, distinct, having, out);
+}
+
+// The same of the values themselves, where nothing else needs the tables of distinct values.
+pub fn links_of_values<'a>(
+    known: &'a ByAttribute,
+    values: &'a Values,
+    kinds: &'a BySide,
+    holders: &'a ByRole,
+    users: usize,
+    resources: usize,
+    roles: usize,
+    out: &mut Links,
+)
+    requires { ⌜ (resources ≤ 64) × (roles ≤ 32) ⌝ }
+    ensures { λ _. ⌜
+        now (out .exit) ≡ linkTable (now (known .entry)) (now (values .entry)) (now (kinds .entry)) resources ⌝ }
+{
+    let mut distinct = [0u64; RoleFile::PLACES * RoleFile::MEMBERS];
+    let mut having = [0u64; RoleFile::PLACES * RoleFile::MEMBERS];
+    grant_distinct::distinct_values(
+        known,
+        values,
+        holders,
+        users,
+        resources,
+        roles,
+        &mut distinct,
+        &mut having,
+    );
+    links(kinds, resources, &distinct, &having, out);
+}

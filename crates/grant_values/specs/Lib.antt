@@ -1,0 +1,4 @@
+pub mod PlaceValues
+pub mod Values
+pub mod ValueLaws
+pub mod ValueListLaws

@@ -1,4 +1,0 @@
-pub mod Words
-pub mod WordLaws
-pub mod Numbers
-pub mod NumberLaws

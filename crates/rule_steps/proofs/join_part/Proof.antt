@@ -1,0 +1,55 @@
+-- Assumes nothing.
+use borrow.Author.Needs.{needs}
+use mathlib.Core.Path.{sym, ap, _∙_, subst}
+use Rattle.rule_steps.specs.LineSteps.{PartWithin, listedAfter}
+use Rattle.rule_steps.proofs.join_part.Statement.{statement}
+use Rattle.rule_steps.proofs.join_part.Tie as tie
+
+add-part-requires : tie.Need-add-part-requires
+unfolding PartWithin
+add-part-requires c κs = let d = c .before .before in subst PartWithin (d .c .given .1) (d .before .before .pre)
+
+returns : tie.Need-returns
+unfolding listedAfter
+returns c =
+    let d = c .before .before .before in
+    let a = d .before .before .args in
+    c .add-part .ensures ∙ ap (listedAfter (a .holders .now) (a .permissions .now) (a .listed .now)) (sym (d .c .given .1))
+
+returns-2 : tie.Need-returns-2
+unfolding listedAfter
+returns-2 c = search needs
+
+returns-3 : tie.Need-returns-3
+unfolding listedAfter
+returns-3 c = search needs
+
+returns-4 : tie.Need-returns-4
+unfolding listedAfter
+returns-4 c = search needs
+
+returns-5 : tie.Need-returns-5
+unfolding listedAfter
+returns-5 c = search needs
+
+returns-6 : tie.Need-returns-6
+unfolding listedAfter
+returns-6 c = search needs
+
+pub join-part-spec : {M : Type 1} → statement M
+join-part-spec =
+    tie.close
+    (tie.spec
+    (λ c. search needs)
+    add-part-requires
+    (λ c. search needs)
+    (λ c. search needs)
+    (λ c. search needs)
+    (λ c. search needs)
+    (λ c. search needs)
+    returns
+    returns-2
+    returns-3
+    returns-4
+    returns-5
+    returns-6)

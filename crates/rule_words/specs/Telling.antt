@@ -1,0 +1,28 @@
+-- What is told in words: the rules of a rule file that was accepted; and which lines are told as what.
+-- Assumes nothing.
+use Prim.Native.Nat.{ℕ}
+use lib.Dec.{eqb}
+use mathlib.Core.Bool.{Bool, _&&_, _||_}
+use mathlib.Core.List.{List}
+use mathlib.Core.Path.{_≡_}
+use Rattle.files.specs.Answer.{accepted}
+use Rattle.files.specs.RoleFile.{readRoles}
+use Rattle.files.specs.RuleFile.{Lines, readRules}
+use Rattle.policy.specs.Policy.{Policy, settingOf, rolesIn}
+use Rattle.digits.specs.Digits.{isWithin}
+
+-- a rule file that was accepted beside a role file
+pub record AcceptedRules (s : List ℕ) : Type 0 where
+  pub policy : Policy
+  pub file : List ℕ
+  pub stated : readRoles 2 file ≡ accepted policy
+  pub rules : List Lines
+  pub accepts : readRules 2 (settingOf policy) (rolesIn policy) s ≡ accepted rules
+
+-- a line that states a condition: a value of a conjunct, 22 to 25, or an atom, 27
+abbrev pub isCondition : ℕ → Bool
+isCondition b = isWithin b 0x22 0x25 || eqb b 0x27
+
+-- a line gives a further value of the conjunct that the line before it gives one of: the same command of 22 to 25, with the same attribute
+abbrev pub goesOn : ℕ → ℕ → ℕ → ℕ → Bool
+goesOn b a former attribute = isWithin b 0x22 0x25 && (eqb b former && eqb a attribute)

@@ -1,0 +1,121 @@
+// Rules in words. Each function says whether all was printed so far, as those of `programs` do.
+ghost use Rattle.role_record.specs.Record.{WithinLimits};
+ghost use mathlib.Core.Bool.{_||_};
+ghost use mathlib.Core.List.{List};
+ghost use mathlib.Core.Path.{_≡_};
+ghost use Rattle.rule_headings.specs.Headings.{RuleAt};
+ghost use Rattle.rule_words.specs.Telling.{isCondition, goesOn, AcceptedRules};
+ghost use Rattle.files.specs.RuleFile.{Lines};
+ghost use Rattle.policy.specs.Policy.{Policy};
+use files::rule_byte;
+use line_words::say_operations;
+use line_words::tell_checked;
+use programs::say;
+use programs::say_count;
+use role_record::ByRole;
+use role_record::ByRoleOperation;
+use role_record::BySide;
+use role_record::CountBySide;
+use role_record::Sizes;
+use rule_headings::front;
+use rule_headings::heading_of;
+
+// What parts two paragraphs.
+fn say_gap(printed: bool, number: usize) -> bool {
+    if number == 0 {
+        return printed;
+    }
+    say(printed, b"\n\n")
+}
+
+// The heading of the rule of this number, whose lines stand in front.
+fn tell_heading(printed: bool, number: usize, s: &[u8]) -> bool
+    requires { ⌜ ((F : Policy) × (rules : List Lines) × RuleAt F rules number (now s)) ⌝ }
+{
+    let h = heading_of(s);
+    let named = say_count(say_gap(printed, number), b"rule ", number);
+    let leveled = say_count(named, b", level ", h.level);
+    let told = say_operations(say(leveled, b": any user may do "), h.operations);
+    say(told, b" on any resource")
+}
+
+// The end of the file.
+fn tell_end(printed: bool, number: usize) -> bool {
+    if number == 0 {
+        return say(printed, b"there is no rule: nobody may do anything");
+    }
+    printed
+}
+
+// Whether a rule that has a condition, or has none, has one with this line.
+fn has_condition(some: bool, byte: usize) -> bool
+    ensures { λ r. ⌜ r ≡ (isCondition byte || some) ⌝ }
+{
+    if digits::within(byte, rule_byte::USER_SINGLE, rule_byte::RESOURCE_SET) {
+        return true;
+    }
+    if byte == rule_byte::LINK {
+        return true;
+    }
+    some
+}
+
+// Whether a line gives a further value of the conjunct that the line before it, of these former numbers, gives one of.
+fn goes_on(byte: usize, first: u64, former: usize, earlier: u64) -> bool
+    ensures { λ r. ⌜ r ≡ goesOn byte first former earlier ⌝ }
+{
+    if !digits::within(byte, rule_byte::USER_SINGLE, rule_byte::RESOURCE_SET) {
+        return false;
+    }
+    if byte != former {
+        return false;
+    }
+    first == earlier
+}
+
+// A paragraph for each rule of a legal rule file; the last line is left open.
+pub fn tell_rules<'a>(
+    rules: &[u8],
+    sizes: Sizes,
+    attributes: &'a CountBySide,
+    kinds: &'a BySide,
+    holders: &'a ByRole,
+    permissions: &'a ByRoleOperation,
+) -> bool
+    requires { ⌜ WithinLimits sizes × AcceptedRules (now rules) ⌝ }
+{
+    let mut printed = true;
+    let mut number: usize = 0;
+    let mut some = false;
+    let mut former: usize = 0;
+    let mut former_first: u64 = 0;
+    let mut at: usize = 0;
+    loop {
+        let l = front(&rules[at..]);
+        if l.width == 0 {
+            return tell_end(printed, number);
+        }
+        at = at + l.width;
+        if l.byte == rule_byte::OPENS {
+            printed = tell_heading(printed, number, &rules[at..]);
+            number = number + 1;
+            some = false;
+        } else {
+            let same = goes_on(l.byte, l.first, former, former_first);
+            let checked = rule_operands::check(
+                l.byte,
+                l.first,
+                l.second,
+                sizes,
+                attributes,
+                kinds,
+                holders,
+                permissions,
+            );
+            printed = tell_checked(printed, same, some, checked);
+            some = has_condition(some, l.byte);
+        }
+        former = l.byte;
+        former_first = l.first;
+    }
+}

@@ -1,0 +1,2 @@
+pub mod GroupRoles
+pub mod GroupRoleLaws

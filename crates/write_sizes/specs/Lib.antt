@@ -1,0 +1,3 @@
+pub mod Sizes
+pub mod ListSizeLaws
+pub mod RuleSizeLaws

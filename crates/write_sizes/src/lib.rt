@@ -1,0 +1,195 @@
+// How many bytes a mined rule has and what it costs, counted without writing it.
+ghost use lib.ListN.{length};
+ghost use mathlib.Core.Path.{_≡_};
+ghost use Prim.Native.Nat.{_≤_, _<_};
+ghost use Rattle.mine_distinct.specs.InsideValues.{listedBy};
+ghost use Rattle.mine_seats.specs.Seats.{scratchWords};
+ghost use Rattle.role_record.specs.Cells.{roleCells};
+ghost use Rattle.sets.specs.Tests.{upTo, sum};
+ghost use Rattle.write_roles.specs.GroupRoles.{rolesFor};
+ghost use Rattle.write_sizes.specs.Sizes.{linesLong, linesCost, placeLongIn};
+ghost use Rattle.write_theory.specs.RuleLists.{placeCostIn, ruleCostIn, classesAt};
+ghost use Rattle.write_theory.specs.RuleTable.{ruleBytesIn};
+use role_record::ByPlaceMember;
+use role_record::ByRoleOperation;
+use role_record::BySide;
+use role_record::RoleFile;
+use write_theory::Outline;
+
+// How many bytes lines have, and what they cost.
+pub struct Size {
+    pub bytes: usize,
+    pub cost: usize,
+}
+
+// The size of a conjunct of some members at a place, from the numbers of the values that it lists: a line of a set has 10 bytes and costs
+// its elements, one of a single value has 4 and costs 1.
+fn listed_size<'a>(
+    distinct: &'a ByPlaceMember,
+    having: &'a ByPlaceMember,
+    inside: &'a ByPlaceMember,
+    set: bool,
+    place: usize,
+    members: u64,
+) -> Size
+    requires { ⌜ place < 14 ⌝ }
+    ensures { λ r. ⌜
+        (r .bytes
+        ≡ linesLong set
+        (listedBy (now (distinct .entry)) (now (having .entry)) (now (inside .entry)) place members))
+        × (r .cost
+        ≡ linesCost set
+        (listedBy (now (distinct .entry)) (now (having .entry)) (now (inside .entry)) place members)) ⌝ }
+{
+    let mut n: usize = 0;
+    let mut elements: usize = 0;
+    for k in 0..RoleFile::MEMBERS {
+        if mine_distinct::is_listed(having, inside, place, members, k) {
+            n += 1;
+            elements += sets::count(distinct[RoleFile::MEMBERS * place + k]);
+        }
+    }
+    if set {
+        return Size {
+            bytes: 10 * n,
+            cost: elements,
+        };
+    }
+    Size {
+        bytes: 4 * n,
+        cost: n,
+    }
+}
+
+// The size of the conjunct at a place; nothing where none is kept.
+fn place_size<'a>(
+    distinct: &'a ByPlaceMember,
+    having: &'a ByPlaceMember,
+    inside: &'a ByPlaceMember,
+    kinds: &'a BySide,
+    scratch: &'a [u64],
+    head: usize,
+    kept: u64,
+    place: usize,
+) -> Size
+    requires { ⌜ (length (now scratch) ≡ scratchWords) × (head < roleCells) × (place < 14) ⌝ }
+    ensures { λ r. ⌜
+        (r .bytes
+        ≡ placeLongIn (now (distinct .entry)) (now (having .entry)) (now (inside .entry)) (now (kinds .entry))
+        (now (scratch .entry)) head kept place)
+        × (r .cost
+        ≡ placeCostIn (now (distinct .entry)) (now (having .entry)) (now (inside .entry)) (now (kinds .entry))
+        (now (scratch .entry)) head kept place) ⌝ }
+{
+    if sets::has(kept, place) {
+        let members = mine_seats::members_at(scratch, head, place / RoleFile::CONJUNCTS);
+        let set = write_places::set_place(kinds, place);
+        return listed_size(distinct, having, inside, set, place, members);
+    }
+    Size { bytes: 0, cost: 0 }
+}
+
+// The size of the conjuncts.
+fn conjuncts_size<'a>(
+    distinct: &'a ByPlaceMember,
+    having: &'a ByPlaceMember,
+    inside: &'a ByPlaceMember,
+    kinds: &'a BySide,
+    scratch: &'a [u64],
+    head: usize,
+    kept: u64,
+) -> Size
+    requires { ⌜ (length (now scratch) ≡ scratchWords) × (head < roleCells) ⌝ }
+    ensures { λ r. ⌜
+        (r .bytes
+        ≡ sum
+        (placeLongIn (now (distinct .entry)) (now (having .entry)) (now (inside .entry)) (now (kinds .entry))
+        (now (scratch .entry)) head kept)
+        (upTo 14))
+        × (r .cost
+        ≡ sum
+        (placeCostIn (now (distinct .entry)) (now (having .entry)) (now (inside .entry))
+        (now (kinds .entry)) (now (scratch .entry)) head kept)
+        (upTo 14)) ⌝ }
+{
+    let mut bytes: usize = 0;
+    let mut cost: usize = 0;
+    for i in 0..RoleFile::PLACES {
+        let size = place_size(distinct, having, inside, kinds, scratch, head, kept, i);
+        bytes += size.bytes;
+        cost += size.cost;
+    }
+    Size {
+        bytes: bytes,
+        cost: cost,
+    }
+}
+
+// How many parts the rule lists. Only the roles that have a part in the group are looked at.
+fn count_parts<'a>(
+    permissions: &'a ByRoleOperation,
+    operations: usize,
+    scratch: &'a [u64],
+    head: usize,
+    roles: u64,
+) -> usize
+    requires { ⌜
+        (operations ≤ 16) × (length (now scratch) ≡ scratchWords) × (head < roleCells)
+        × (roles ≡ rolesFor (now scratch) head) ⌝ }
+    ensures { λ r. ⌜
+        r
+        ≡ sum (λ k. length (classesAt (now (permissions .entry)) operations (now (scratch .entry)) head k))
+        (upTo 32) ⌝ }
+{
+    let mut n: usize = 0;
+    let mut left = roles;
+    while 0 < left {
+        let role = sets::least(left);
+        n += write_parts::count_classes(permissions, operations, scratch, head, role);
+        left = sets::without_least(left);
+    }
+    n
+}
+
+// How many bytes the rule has that write_rule writes, and what it costs. One byte opens the rule, three have its operations; a line of an
+// atom has 3, one of a part 4.
+pub fn rule_size<'a>(
+    distinct: &'a ByPlaceMember,
+    having: &'a ByPlaceMember,
+    inside: &'a ByPlaceMember,
+    kinds: &'a BySide,
+    permissions: &'a ByRoleOperation,
+    operations: usize,
+    scratch: &'a [u64],
+    rule: Outline,
+) -> Size
+    requires { ⌜
+        (operations ≤ 16) × (length (now scratch) ≡ scratchWords) × (rule .head < roleCells)
+        × (rule .roles ≡ rolesFor (now scratch)
+        (rule .head)) ⌝ }
+    ensures { λ r. ⌜
+        (r .bytes
+        ≡ length
+        (ruleBytesIn (now (distinct .entry)) (now (having .entry)) (now (inside .entry)) (now (kinds .entry))
+        (now (permissions .entry)) operations (now (scratch .entry)) (rule .head) (rule .kept)))
+        × (r .cost
+        ≡ ruleCostIn (now (distinct .entry)) (now (having .entry)) (now (inside .entry)) (now (kinds .entry))
+        (now (scratch .entry)) (rule .head) (rule .kept)) ⌝ }
+{
+    let conjuncts = conjuncts_size(
+        distinct,
+        having,
+        inside,
+        kinds,
+        scratch,
+        rule.head,
+        rule.kept,
+    );
+    let ops = sets::count(mine_seats::operations_at(scratch, rule.head));
+    let atoms = sets::count(write_places::atoms_kept(rule.kept));
+    let parts = count_parts(permissions, operations, scratch, rule.head, rule.roles);
+    Size {
+        bytes: 4 + conjuncts.bytes + 3 * atoms + 4 * parts,
+        cost: conjuncts.cost + ops + atoms,
+    }
+}

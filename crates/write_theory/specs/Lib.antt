@@ -1,0 +1,4 @@
+pub mod RuleLists
+pub mod RuleTable
+pub mod ListingLaws
+pub mod WriterLaws

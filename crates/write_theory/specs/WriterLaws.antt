@@ -1,0 +1,211 @@
+-- What is written from the tables of a policy's record and a group's words is the group's rule, and what it costs is that rule's cost.
+-- Assumes nothing.
+use Prim.Native.Nat.{ℕ, zero, suc, _+_, _/_, _%_, _-_, _^_, _≤_, _<_}
+use borrow.Author.Tests.{eqb-true, eqb-false, eq-eqb, ne-eqb, ltb-true, ltb-false, lt-ltb}
+use lib.Dec.{eqb, ltb}
+use lib.ListN.{length}
+use mathlib.Core.Bool.{Bool, true, false, cond, _&&_, not}
+use mathlib.Core.List.{List, [], _∷_, _++_, map}
+use mathlib.Core.Path.{_≡_, refl, sym, ap, ap₂, _∙_}
+use native.Mathlib.Omega.{arith}
+use Rattle.role_admit.specs.AdmitLaws.{side-kinds}
+use Rattle.mine_distinct.specs.InsideValues.{distinctIn, havingIn, insideIn}
+use Rattle.mine_distinct.specs.DistinctLaws.{listed-by}
+use Rattle.files.specs.Bytes.{spread}
+use Rattle.files.specs.RuleFile.{Lines, encode, opens}
+use Rattle.mine_theory.specs.Search.Frontier.{Seats}
+use Rattle.grant_parts.specs.PartTableLaws.{class-shown}
+use Rattle.role_record.specs.Cells.{rowCells, rowStart, cellRow, cellOperation, roleCells}
+use Rattle.role_record.specs.Places.{placeSide, placeAttribute}
+use Rattle.role_record.specs.Record.{Sized, recordWith, recordOf}
+use Rattle.policy.specs.Covering.{allKnow, levelOf}
+use Rattle.policy.specs.MergeLaws.{Every}
+use Rattle.policy.specs.Merging.{union}
+use Rattle.policy.specs.Policy.{Policy, kindOf, isSetAt, sideOf, settingOf, rolesIn}
+use Rattle.policy.specs.PolicyLaws.{lawful}
+use Rattle.policy.specs.Roles.{classOf}
+use Rattle.policy.specs.Rules.{own, Which, Setting, Block, attrsOf, ownAt, sameBlock, user, resource, conjunct}
+use Rattle.policy.specs.Thinning.{ruleCost}
+use Rattle.mine_theory.specs.Lines.PartLinesLaws.{seats-sorted}
+use Rattle.mine_theory.specs.Lines.RuleBytesLaws.{parts-bytes, placeBytes, rule-bytes, placeCost, rule-cost}
+use Rattle.mine_theory.specs.Lines.RuleLines.{valueBytes, partBytes, atomSet, kindPlace, writtenValues, ruleLines, ofRole, partLinesOf}
+use Rattle.mine_theory.specs.Lines.RuleLinesLaws.{written-conjunct, place-side, place-below}
+use Rattle.sets.specs.ListLaws.{each-ext, sum-ext, sort-same}
+use Rattle.sets.specs.MaskLaws.{mask-lt, bit-maskOf}
+use Rattle.sets.specs.SetLaws.{bit-mask}
+use Rattle.sets.specs.Sets.{bit, maskOf, size}
+use Rattle.sets.specs.Sorted.{sort}
+use Rattle.sets.specs.SortedLaws.{numbers}
+use Rattle.sets.specs.TestLaws.{and-l, and-r, test, keep-in, keep-out, from-in, from-out, upTo-out, elem-in, elem-out, map-in, map-out}
+use Rattle.sets.specs.Tests.{Is, iff, _isIn_, each, from, upTo, elem, sum}
+use Rattle.mine_seats.specs.Seats.{wordsAt}
+use Rattle.mine_groups.specs.Scratch.{ShowsGroups}
+use Rattle.mine_groups.specs.SeatGroups.{seatPart, seatBlock, seatRule, seatLines}
+use Rattle.mine_theory.specs.Words.Flags.{hasAt, placesGrant, thinnedAt, thinnedTo, keptPlaces}
+use Rattle.mine_theory.specs.Words.WordLaws.{roomy}
+use Rattle.mine_theory.specs.Words.Words.{Words, membersOf, wordsOf, spans}
+use Rattle.write_theory.specs.RuleLists.{setPlace, listedAt, classAt, inGroup, partsAt, classesAt, placeCostIn, ruleCostIn}
+use Rattle.write_theory.specs.RuleTable.{keptAs, placeBytesIn, kindBytesIn, atomBytesAt, atomBytesIn, roleBytesIn, partBytesIn, ruleBytesIn}
+use Rattle.mine_matches.specs.ValueMeansLaws.{valuesIn, least-means, values-place, members-valued}
+use Rattle.grant_values.specs.Values.{listsLeast, listedOf}
+
+-- ---- what thinning keeps was there
+
+thinned-within : (P : Setting) (W : Words) (m n i : ℕ) → Is (bit (thinnedTo P W m n) i) → Is (bit m i)
+unfolding thinnedAt
+thinned-within P W m zero i h = h
+thinned-within P W m (suc n) i h = thinned-within P W m n i (go (bit (thinnedTo P W m n) n && sameBlock P (placesGrant P W (maskOf 64 (λ k. bit (thinnedTo P W m n) k && not (eqb k n)))) (spans P W)) h)
+  where
+    go : (b : Bool) → Is (bit (cond b (maskOf 64 (λ k. bit (thinnedTo P W m n) k && not (eqb k n))) (thinnedTo P W m n)) i) → Is (bit (thinnedTo P W m n) i)
+    go true q = and-l (bit (thinnedTo P W m n) i) (not (eqb i n)) (and-r (ltb i 64) (bit (thinnedTo P W m n) i && not (eqb i n)) (sym (bit-maskOf 64 (λ k. bit (thinnedTo P W m n) k && not (eqb k n)) i) ∙ q))
+    go false q = q
+
+kept-known : (P : Setting) (W : Words) (l i : ℕ) → i < 14 → Is (bit (keptPlaces P W l) i) → Is (allKnow (P .side (placeSide i)) (bit (membersOf W (placeSide i))) (placeAttribute i))
+unfolding keptPlaces hasAt
+kept-known P W l i h k =
+    let t = sym (bit-mask 50 (hasAt P W l) i (omega arith)) ∙ thinned-within P W (maskOf 50 (hasAt P W l)) 50 i k in
+    go (ltb i 14) (lt-ltb i 14 h) t
+  where
+    go : (b : Bool) → Is b
+        → Is (cond b (elem (placeAttribute i) (attrsOf (P .side (placeSide i)) (ownAt (placeSide i) l)) && allKnow (P .side (placeSide i)) (bit (membersOf W (placeSide i))) (placeAttribute i)) (bit (W .atoms) (i - 14)))
+        → Is (allKnow (P .side (placeSide i)) (bit (membersOf W (placeSide i))) (placeAttribute i))
+    go b e t = and-r (elem (placeAttribute i) (attrsOf (P .side (placeSide i)) (ownAt (placeSide i) l))) _ (rw e at t)
+
+members-within : (P : Setting) (B : Block) (w : Which) → membersOf (wordsOf P B) w < 2 ^ P .side w .count
+unfolding wordsOf
+members-within P B user = mask-lt (P .side user .count) _
+members-within P B resource = mask-lt (P .side resource .count) _
+
+lists-same : (w : Which) (a : ℕ) (xs ys : List ℕ) → conjunct w a xs ≡ conjunct w a ys → xs ≡ ys
+lists-same w a xs ys e = cc
+
+module _ (F : Policy) (Z : Sized F) where
+  -- the place is one of sets where the policy says so
+  pub set-means : (i : ℕ) → i < 14 → setPlace (recordOf F .kinds) i ≡ settingOf F .side (placeSide i) .isSet (placeAttribute i)
+  unfolding setPlace recordOf recordWith settingOf sideOf isSetAt
+  set-means i hi = test (ltb i 7)
+      (λ h. let l = ltb-true i 7 h in
+      let e : i % 7 ≡ i = omega arith in
+      let d : i / 7 ≡ 0 = omega arith in
+      rw (h, e, d) (test (eqb i 6)
+      (λ q. rw q refl)
+      (λ q. rw (q, ne-eqb i 13 (λ z. omega arith), ne-eqb i own (λ z. omega arith), side-kinds F 0 (omega arith)) (bit-mask 64 (kindOf (F .table user)) i (omega arith)))))
+      (λ h. let l = ltb-false i 7 h in
+      let e : i % 7 ≡ i - 7 = omega arith in
+      let d : i / 7 ≡ 1 = omega arith in
+      rw (h, e, d, ne-eqb i 6 (λ z. omega arith)) (test (eqb i 13)
+      (λ q. let x = eqb-true i 13 q in rw (q, eq-eqb (i - 7) 6 (omega arith)) refl)
+      (λ q. let x = eqb-false i 13 q in
+      rw (q, ne-eqb (i - 7) 6 (λ z. omega arith), ne-eqb (i - 7) own (λ z. omega arith), side-kinds F 1 (omega arith)) (bit-mask 64 (kindOf (F .table resource)) (i - 7) (omega arith)))))
+
+  module _ (t : List ℕ) (s : Seats (List ℕ)) (shows : ShowsGroups F t s) (head : ℕ) (low : head < roleCells) (alive : Is (s .alive head)) (kept : ℕ)
+      (k : kept ≡ keptPlaces (settingOf F) (wordsAt t head) (levelOf (settingOf F) (union (settingOf F) (seatBlock F) (s .group head)))) where
+    -- the triples of the group, and its words
+    abbrev block : Block
+    block = union (settingOf F) (seatBlock F) (s .group head)
+
+    words : wordsAt t head ≡ wordsOf (settingOf F) block
+    words = shows .words head low alive
+
+    kept-places : kept ≡ keptPlaces (settingOf F) (wordsOf (settingOf F) block) (levelOf (settingOf F) block)
+    kept-places = k ∙ ap (λ (W : Words). keptPlaces (settingOf F) W (levelOf (settingOf F) block)) words
+
+    -- the members know the attribute of a place that is kept
+    known-there : (i : ℕ) → i < 14 → Is (bit kept i) → Is (allKnow (settingOf F .side (placeSide i)) (bit (membersOf (wordsOf (settingOf F) block) (placeSide i))) (placeAttribute i))
+    known-there i hi b = kept-known (settingOf F) (wordsOf (settingOf F) block) (levelOf (settingOf F) block) i hi (ap (λ (m : ℕ). bit m i) (sym kept-places) ∙ b)
+
+    -- what is listed at a place that is kept is what the rule lists there
+    listed-written : (i : ℕ) → i < 14 → Is (bit kept i) → listedAt (distinctIn F) (havingIn F) (insideIn F) t head i ≡ writtenValues (settingOf F) (wordsOf (settingOf F) block) i
+    unfolding listedAt
+    listed-written i hi b =
+        listed-by (recordOf F .known) (recordOf F .values) (recordOf F .holders) (recordOf F .kinds) (recordOf F .users) (recordOf F .resources) (recordOf F .roles) i hi (membersOf (wordsAt t head) (placeSide i))
+        (λ x m. members-valued F Z i hi (membersOf (wordsOf (settingOf F) block) (placeSide i)) (members-within (settingOf F) block (placeSide i)) (known-there i hi b) x (sym (ap (λ (W : Words). bit (membersOf W (placeSide i)) x) words) ∙ m))
+        ∙ ap (λ (W : Words). listedOf (valuesIn F i) (membersOf W (placeSide i)) (listsLeast (recordOf F .kinds) i)) words
+        ∙ lists-same (placeSide i) (placeAttribute i) _ _
+        (values-place F Z i hi (membersOf (wordsOf (settingOf F) block) (placeSide i)) (members-within (settingOf F) block (placeSide i))
+        (known-there i hi b)
+        (wordsOf (settingOf F) block) (listsLeast (recordOf F .kinds) i) refl (least-means F Z i hi)
+        ∙ written-conjunct (settingOf F) (wordsOf (settingOf F) block) i hi)
+
+    place-written : (w : Which) (set : Bool) (j : ℕ) → j < 7
+        → placeBytesIn (distinctIn F) (havingIn F) (insideIn F) (recordOf F .kinds) t head kept w set (kindPlace w j) ≡ placeBytes (settingOf F) (wordsOf (settingOf F) block) kept w set j
+    unfolding placeBytesIn keptAs placeBytes
+    place-written w set j h =
+        go (bit kept (kindPlace w j)) (setPlace (recordOf F .kinds) (kindPlace w j)) (settingOf F .side w .isSet (placeAttribute (kindPlace w j)))
+        (set-means (kindPlace w j) (place-below w j h) ∙ ap (λ (x : Which). settingOf F .side x .isSet (placeAttribute (kindPlace w j))) (place-side w j h))
+        (λ b. ap (each (valueBytes w set (placeAttribute (kindPlace w j)))) (listed-written (kindPlace w j) (place-below w j h) b))
+      where
+        go : (b x y : Bool) {l m : List ℕ} → x ≡ y → (Is b → l ≡ m) → cond (b && iff x set) l [] ≡ cond (b && iff y set) m []
+        go true x y {l} {m} e f = ap₂ (λ (z : Bool) (n : List ℕ). cond (iff z set) n []) e (f refl)
+        go false x y e f = refl
+
+    kind-written : (w : Which) (set : Bool)
+        → kindBytesIn (distinctIn F) (havingIn F) (insideIn F) (recordOf F .kinds) t head kept w set ≡ each (placeBytes (settingOf F) (wordsOf (settingOf F) block) kept w set) (upTo 7)
+    unfolding kindBytesIn
+    kind-written w set = each-ext _ _ (upTo 7) (λ j m. place-written w set j (upTo-out 7 m))
+
+    -- the operation set of the part in a seat of the group
+    abbrev cls : ℕ → ℕ
+    cls i = classOf (settingOf F) (rolesIn F) (seatPart i)
+
+    group-low : Every (λ i. i < roleCells) (s .group head)
+    group-low i m = shows .low head i low alive (elem-in m)
+
+    class-written : (i : ℕ) → i < roleCells → classAt (recordOf F .permissions) (recordOf F .operations) i ≡ cls i
+    unfolding classAt
+    class-written i h = class-shown F Z (cellRow i) (cellOperation i) (omega arith) (omega arith)
+
+    role-written : (r : ℕ) → r < 32 → roleBytesIn (recordOf F .permissions) (recordOf F .operations) t head r ≡ each (partBytes r) (sort ltb (map cls (ofRole (s .group head) r)))
+    unfolding roleBytesIn classesAt partsAt inGroup
+    role-written r hr =
+        ap (each (partBytes r))
+        (sort-same ltb numbers (map (classAt (recordOf F .permissions) (recordOf F .operations)) (partsAt t head r)) (map cls (ofRole (s .group head) r))
+        (λ v m. let u = map-out (classAt (recordOf F .permissions) (recordOf F .operations)) (partsAt t head r) m in
+        let q = keep-out (inGroup t head) (from (rowStart r) rowCells) (u .1) in
+        let l = from-out (rowStart r) rowCells (q .0) in
+        there v (u .0) (l .0) (l .1) (q .1) (u .2))
+        (λ v m. let u = map-out cls (ofRole (s .group head) r) m in
+        let q = keep-out (λ i. eqb (cellRow i) r) (s .group head) (u .1) in
+        back v (u .0) (q .0) (eqb-true (cellRow (u .0)) r (q .1)) (u .2)))
+      where
+        there : (v i : ℕ) → rowStart r ≤ i → i < rowStart r + rowCells → Is (inGroup t head i) → v ≡ classAt (recordOf F .permissions) (recordOf F .operations) i → v isIn map cls (ofRole (s .group head) r)
+        there v i a b g e =
+            rw (e ∙ class-written i (omega arith))
+            (map-in cls (keep-in (λ i. eqb (cellRow i) r) (elem-out i (s .group head) (shows .members head i low (omega arith) alive ∙ g)) (eq-eqb (cellRow i) r (omega arith))))
+
+        back : (v i : ℕ) → i isIn s .group head → cellRow i ≡ r → v ≡ cls i → v isIn map (classAt (recordOf F .permissions) (recordOf F .operations)) (partsAt t head r)
+        back v i m q e =
+            let l = group-low i m in
+            rw (e ∙ sym (class-written i l))
+            (map-in (classAt (recordOf F .permissions) (recordOf F .operations)) (keep-in (inGroup t head) (from-in (rowStart r) rowCells i (omega arith) (omega arith)) (sym (shows .members head i low l alive) ∙ elem-in m)))
+
+    parts-written : partBytesIn (recordOf F .permissions) (recordOf F .operations) t head ≡ each (encode 2) (partLinesOf cls (s .group head))
+    unfolding partBytesIn
+    parts-written = each-ext _ _ (upTo 32) (λ r m. role-written r (upTo-out 32 m)) ∙ sym (parts-bytes cls (s .group head) group-low)
+
+    -- THE LAW of what is written: the lines of the group's rule
+    pub written-bytes : ruleBytesIn (distinctIn F) (havingIn F) (insideIn F) (recordOf F .kinds) (recordOf F .permissions) (recordOf F .operations) t head kept ≡ each (encode 2) (opens ∷ seatLines F (s .group head))
+    unfolding ruleBytesIn atomBytesIn atomBytesAt seatLines seatRule
+    written-bytes =
+        ap (λ (l : List ℕ). 0x21 ∷ l)
+        (ap₂ _++_ (kind-written user false) (ap₂ _++_ (kind-written user true) (ap₂ _++_ (kind-written resource false) (ap₂ _++_ (kind-written resource true)
+        (ap₂ (λ (W : Words) (l : List ℕ). (0x26 ∷ spread 2 (W .ops)) ++ (atomBytesIn kept ++ l)) words parts-written)))))
+        ∙ sym (rule-bytes (settingOf F) (wordsOf (settingOf F) block) kept (partLinesOf cls (s .group head)))
+        ∙ ap (λ (m : ℕ). each (encode 2) (opens ∷ ruleLines (settingOf F) (wordsOf (settingOf F) block) m (partLinesOf cls (s .group head)))) kept-places
+        ∙ ap (λ (ls : Lines). each (encode 2) (opens ∷ ls)) (sym (seats-sorted (settingOf F) (roomy F Z) (lawful F) block (shows .fitting head low alive) cls (s .group head)))
+
+    cost-written : (i : ℕ) → i < 14 → placeCostIn (distinctIn F) (havingIn F) (insideIn F) (recordOf F .kinds) t head kept i ≡ placeCost (settingOf F) (wordsOf (settingOf F) block) kept i
+    unfolding placeCostIn placeCost
+    cost-written i h = go (bit kept i) _ _ (set-means i h) (listed-written i h)
+      where
+        go : (b x y : Bool) {l m : List ℕ} → x ≡ y → (Is b → l ≡ m) → cond b (cond x (sum size l) (length l)) 0 ≡ cond b (cond y (sum size m) (length m)) 0
+        go true x y e f = ap₂ (λ (z : Bool) (n : List ℕ). cond z (sum size n) (length n)) e (f refl)
+        go false x y e f = refl
+
+    -- THE LAW of what it costs: as much as the group's rule
+    pub written-cost : ruleCostIn (distinctIn F) (havingIn F) (insideIn F) (recordOf F .kinds) t head kept ≡ ruleCost (settingOf F) (seatRule F (s .group head))
+    unfolding ruleCostIn seatRule
+    written-cost =
+        ap₂ (λ (n : ℕ) (W : Words). n + size (W .ops) + size (atomSet kept)) (sum-ext _ _ (upTo 14) (λ i m. cost-written i (upTo-out 14 m))) words
+        ∙ ap (λ (m : ℕ). sum (placeCost (settingOf F) (wordsOf (settingOf F) block) m) (upTo 14) + size (wordsOf (settingOf F) block .ops) + size (atomSet m)) kept-places
+        ∙ sym (rule-cost (settingOf F) (roomy F Z) (lawful F) block (shows .fitting head low alive))
