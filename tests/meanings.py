@@ -10,8 +10,10 @@ text, as in a must-fail edit, and the name of the row that it fails.
 below the table's. So the table and the definitions that it rests on are copied to
 target/meanings. There the table is proved as it stands; then, with each edit in turn, that the
 row fails. What the table does not rest on, code and laws, is not copied: many laws are true of
-a wrong meaning too, and none is to refuse it in the table's place.
+a wrong meaning too, and none is to refuse it in the table's place. Each processor has a copy of
+its own and tries every so many edits.
 """
+import concurrent.futures
 import os
 import re
 import shutil
@@ -86,9 +88,9 @@ def copy_crates():
     write("".join(f"{line}\n" for line in order), COPY, "crates.txt")
 
 
-def prove(what):
-    """Prove the table's crate in the copy, or end with what the prover says."""
-    done = subprocess.run(["rt", "check", "examples"], cwd=COPY, capture_output=True, text=True)
+def prove(copy, what):
+    """Prove the table's crate in a copy, or end with what the prover says."""
+    done = subprocess.run(["rt", "check", "examples"], cwd=copy, capture_output=True, text=True)
     if done.returncode != 0:
         fail(f"{what}: not proved\n{done.stdout}{done.stderr}")
 
@@ -101,24 +103,35 @@ def read_edit(name):
     return [line[1] for line in lines]
 
 
-def try_edit(name):
+def try_edit(copy, name):
     path, old, new, row = read_edit(name)
-    text, proof = read(COPY, path), read(COPY, source(*PROOF))
-    write(replaced(text, old, new, f"{name}: {path}"), COPY, path)
-    write(WORDS + replaced(proof, ALL_HOLD, ONE_FAILS.format(row=row), source(*PROOF)), COPY, source(*PROOF))
-    prove(f"{name}: that it fails the row '{row}'")
-    write(text, COPY, path)
-    write(proof, COPY, source(*PROOF))
+    text, proof = read(copy, path), read(copy, source(*PROOF))
+    write(replaced(text, old, new, f"{name}: {path}"), copy, path)
+    write(WORDS + replaced(proof, ALL_HOLD, ONE_FAILS.format(row=row), source(*PROOF)), copy, source(*PROOF))
+    prove(copy, f"{name}: that it fails the row '{row}'")
+    write(text, copy, path)
+    write(proof, copy, source(*PROOF))
     print(f"meanings: {name[: -len('.edit')]} fails '{row}'", flush=True)
+
+
+def try_edits(copy, names):
+    shutil.rmtree(copy, ignore_errors=True)
+    shutil.copytree(COPY, copy)
+    for name in names:
+        try_edit(copy, name)
 
 
 def main():
     names = [name for name in os.listdir(EDITS) if name.endswith(".edit")]
-    copy_crates()
-    prove("the table")
     # those of one file together: what stands below it is not proved again
-    for name in sorted(names, key=lambda name: (read_edit(name)[0], name)):
-        try_edit(name)
+    names.sort(key=lambda name: (read_edit(name)[0], name))
+    copy_crates()
+    prove(COPY, "the table")
+    many = os.cpu_count()
+    with concurrent.futures.ThreadPoolExecutor(many) as pool:
+        parts = [pool.submit(try_edits, f"{COPY}-{k}", names[k::many]) for k in range(many)]
+        for part in parts:
+            part.result()
     print(f"meanings: the table refuses {len(names)} wrong meanings")
 
 

@@ -3,12 +3,12 @@
 ghost use lib.ListN.{length};
 ghost use mathlib.Core.Path.{_≡_};
 ghost use Rattle.answers.specs.Numbers.{returned, stored, readNumbers};
-ghost use Rattle.mining.specs.MinedNumbers.{minedNumbers};
+ghost use Rattle.write_answer.specs.MinedNumbers.{minedNumbers};
 ghost use Rattle.role_question.specs.Reply.{replyNumbers};
 ghost use Rattle.rule_judge.specs.Judgement.{judgementNumbers};
-use mining::Mined;
 use role_question::Reply;
 use rule_judge::Judgement;
+use write_answer::Mined;
 
 // Of a rule file that was read: how many rules it has.
 pub fn store_rule_count(code: usize, rules: usize, count: &mut [usize]) -> usize

@@ -45,9 +45,9 @@ fn checksum(file: &[u8], rules: &[u8], turns: usize) -> u64
 
 // Prints the checksum of what stands behind the numbers in front.
 fn print_checksum(s: &[u8]) {
-    let turns = role_commands::byte_at(s, 0) + 256 * role_commands::byte_at(s, 1);
-    let low = role_commands::byte_at(s, 2);
-    let high = role_commands::byte_at(s, 3);
+    let turns = file_bytes::byte_at(s, 0) + 256 * file_bytes::byte_at(s, 1);
+    let low = file_bytes::byte_at(s, 2);
+    let high = file_bytes::byte_at(s, 3);
     let end = 4 + low + 256 * high;
     if s.len() < end {
         return;

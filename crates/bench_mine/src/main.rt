@@ -5,9 +5,9 @@ ghost use lib.ListN.{length};
 ghost use mathlib.Core.Path.{_≡_};
 ghost use Rattle.files.specs.Answer.{told};
 ghost use Rattle.files.specs.Calls.{countValues, mineAnswer};
-ghost use Rattle.mining.specs.MinedNumbers.{minedNumbers};
+ghost use Rattle.write_answer.specs.MinedNumbers.{minedNumbers};
 ghost use Rattle.bench_mine.specs.MineChecksum.{weightOf, sampleOf, total};
-use mining::Mined;
+use write_answer::Mined;
 
 // The length, the counts and the cost added up, or the number of the refusal.
 fn weight(mined: Mined) -> u64
@@ -63,8 +63,8 @@ fn print_checksum(s: &[u8]) {
     if s.len() < 2 {
         return;
     }
-    let turns = role_commands::byte_at(s, 0) + 256 * role_commands::byte_at(s, 1);
-    let mut scratch = [0u64; 4096];
+    let turns = file_bytes::byte_at(s, 0) + 256 * file_bytes::byte_at(s, 1);
+    let mut scratch = [0u64; mining::SCRATCH];
     // more than the longest rule file of bench/mine
     let mut out = [0u8; 524288];
     io::print_decimal(1, checksum(&s[2..], &mut scratch, &mut out, turns));

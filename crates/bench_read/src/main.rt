@@ -4,7 +4,10 @@
 ghost use mathlib.Core.Path.{_≡_};
 ghost use Rattle.files.specs.RoleFile.{readRoles};
 ghost use Rattle.role_file.specs.Reading.{loadedOf};
+use role_record::RoleFile;
 ghost use Rattle.bench_read.specs.ReadChecksum.{sampleOf, total};
+
+const VALUES: usize = RoleFile::SIDES * RoleFile::ATTRIBUTES * RoleFile::MEMBERS;
 
 // Reads once, and adds up some words of the record, other words each turn.
 fn sample(s: &[u8], turn: usize) -> u64
@@ -12,8 +15,14 @@ fn sample(s: &[u8], turn: usize) -> u64
 {
     let l = role_file::read(s);
     let f = l.file;
-    let given = std::num::wrapping_add_u64(f.values[turn % 768], f.permissions[turn % 512]);
-    let worked_out = std::num::wrapping_add_u64(f.seniors[turn % 32], f.holders[turn % 32]);
+    let given = std::num::wrapping_add_u64(
+        f.values[turn % VALUES],
+        f.permissions[turn % RoleFile::PARTS],
+    );
+    let worked_out = std::num::wrapping_add_u64(
+        f.seniors[turn % RoleFile::ROLES],
+        f.holders[turn % RoleFile::ROLES],
+    );
     let words = std::num::wrapping_add_u64(given, worked_out);
     std::num::wrapping_add_u64(words, l.code as u64)
 }
@@ -31,7 +40,7 @@ fn checksum(s: &[u8], turns: usize) -> u64
 fn main() {
     let mut head = [0u8; 2];
     io::read_full(0, &mut head);
-    let turns = role_commands::byte_at(&head, 0) + 256 * role_commands::byte_at(&head, 1);
+    let turns = file_bytes::byte_at(&head, 0) + 256 * file_bytes::byte_at(&head, 1);
     let mut file = io::large_buffer();
     let n = io::read_full(0, &mut file);
     io::print_decimal(1, checksum(&file[..n], turns));

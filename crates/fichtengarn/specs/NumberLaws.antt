@@ -10,9 +10,9 @@ use Rattle.files.specs.BytesLaws.{number-positive}
 use Rattle.files.specs.RuleFile.{Lines}
 use Rattle.policy.specs.Policy.{Policy}
 use Rattle.role_file.specs.Reading.{refusal, loadedOf}
-use Rattle.rule_file.specs.BothFiles.{nothingRead, bothOf}
+use Rattle.rule_reading.specs.BothFiles.{nothingRead, bothOf}
 use Rattle.role_file.specs.declared.Loaded.{Loaded}
-use Rattle.rule_file.specs.declared.BothFiles.{BothFiles}
+use Rattle.rule_reading.specs.declared.BothFiles.{BothFiles}
 use Rattle.answers.specs.Numbers.{returned, stored, rulesTold, readNumbers}
 
 -- ---- the numbers of what was read

@@ -1,5 +1,3 @@
-pub mod Tables
-pub mod LinkTurnLaws
 pub mod RelationLaws
 pub mod RankLaws
 pub mod LinkTableLaws

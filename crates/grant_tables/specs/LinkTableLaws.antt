@@ -13,8 +13,8 @@ use Rattle.grant_distinct.specs.Distinct.{distinctTable, havingTable}
 use Rattle.grant_grids.specs.Links.{valueIn, formIn, linkHolds, linkWord, linkTable}
 use Rattle.grant_tables.specs.RankLaws.{Ranked, pairs-tested, valuedBy, tables-ranked}
 use Rattle.grant_tables.specs.RelationLaws.{relTable, turned-block, turned-all, any-there}
-use Rattle.grant_tables.specs.Tables.{joins, unionOf, linkedTo, linkValue, linkAtom, linksBy}
-use Rattle.grant_tables.specs.Tables.{valueCount}
+use Rattle.grant_joins.specs.Tables.{joins, unionOf, linkedTo, linkValue, linkAtom, linksBy}
+use Rattle.grant_joins.specs.Tables.{valueCount}
 use Rattle.grant_values.specs.PlaceValues.{knowing, valueFor}
 use Rattle.policy.specs.Rules.{both}
 use Rattle.role_record.specs.RecordLaws.{table-ext}

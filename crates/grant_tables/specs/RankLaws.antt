@@ -16,11 +16,11 @@ use Rattle.sets.specs.Sets.{bit}
 use Rattle.sets.specs.SetLaws.{bit-none, bit-mask}
 use Rattle.sets.specs.Tests.{Is, _isIn_, any, upTo}
 use Rattle.sets.specs.TestLaws.{and-in, and-l, and-r, never, test, same, any-in, any-out, upTo-in, upTo-out, getD-in}
-use Rattle.grant_tables.specs.Tables.{unionOf}
-use Rattle.grant_tables.specs.Tables.{valueCount}
-use Rattle.grant_tables.specs.LinkTurnLaws.{number-most}
+use Rattle.grant_joins.specs.Tables.{unionOf}
+use Rattle.grant_joins.specs.Tables.{valueCount}
+use Rattle.grant_joins.specs.LinkTurnLaws.{number-most}
 use Rattle.grant_values.specs.PlaceValues.{knowing, valueFor, valuesAt}
-use Rattle.grant_values.specs.ValueLaws.{among-in, among-out}
+use Rattle.grant_listed.specs.ValueLaws.{among-in, among-out}
 
 -- each value that somebody has at a place has a number, and who has it
 pub record Ranked (distinct having : List ℕ) (valued : ℕ → ℕ → Bool) (value : ℕ → ℕ → ℕ) : Type 0 where

@@ -17,7 +17,7 @@ use Rattle.sets.specs.Sets.{bit, maskOf}
 use Rattle.sets.specs.SetLaws.{bit-mask}
 use Rattle.sets.specs.Tests.{any, upTo}
 use Rattle.sets.specs.TestLaws.{never, test, same, any-in, any-out, any-ext, upTo-in}
-use Rattle.grant_tables.specs.Tables.{meetOf, turns, spreadOf}
+use Rattle.grant_joins.specs.Tables.{meetOf, turns, spreadOf}
 
 -- ---- tables whose word i is the set of those who stand to i in a relation
 

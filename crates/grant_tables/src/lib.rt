@@ -6,9 +6,8 @@ ghost use mathlib.Core.Path.{_≡_};
 ghost use Prim.Native.Nat.{ℕ, _+_, _*_, _≤_, _<_};
 ghost use Rattle.grant_distinct.specs.Distinct.{distinctTable, havingTable};
 ghost use Rattle.grant_grids.specs.Links.{linkTable};
-ghost use Rattle.policy.specs.Rules.{formOf, linked};
-ghost use Rattle.grant_tables.specs.Tables.{spreadOf, joins, unionOf, linkAtom, linkedTo, linksBy};
-ghost use Rattle.grant_tables.specs.Tables.{valueCount};
+ghost use Rattle.grant_joins.specs.Tables.{linkAtom, linkedTo, linksBy};
+ghost use Rattle.grant_joins.specs.Tables.{valueCount};
 use role_record::ByAttribute;
 use role_record::ByPlaceMember;
 use role_record::ByRole;
@@ -16,94 +15,6 @@ use role_record::BySide;
 use role_record::Links;
 use role_record::RoleFile;
 use role_record::Values;
-
-// Joins a set to the words of some members of a block, which has 64 words.
-pub fn spread(block: usize, members: u64, word: u64, out: &mut [u64])
-    requires { ⌜ 64 * block + 64 ≤ length (now out) ⌝ }
-    ensures { λ _. ⌜ now (out .exit) ≡ spreadOf (length (now (out .entry))) block members word (now (out .entry)) ⌝ }
-{
-    let mut rest = members;
-    while 0 < rest {
-        let y = sets::least(rest);
-        out[RoleFile::MEMBERS * block + y] = sets::union(out[RoleFile::MEMBERS * block + y], word);
-        rest = sets::without_least(rest);
-    }
-}
-
-// How many distinct values a place has: nobody has the next.
-pub fn number(having: &ByPlaceMember, place: usize) -> usize
-    requires { ⌜ place < 14 ⌝ }
-    ensures { λ r. ⌜ r ≡ valueCount (now (having .entry)) place ⌝ }
-{
-    for k in 0..RoleFile::MEMBERS {
-        if having[RoleFile::MEMBERS * place + k] == 0 {
-            return k;
-        }
-    }
-    RoleFile::MEMBERS
-}
-
-// Whether an atom joins two values. Left says that the first is a set, right that the second is.
-fn fits(left: bool, right: bool, v: u64, w: u64) -> bool
-    ensures { λ r. ⌜ r ≡ linked (formOf left right) v w ⌝ }
-{
-    if left {
-        if right {
-            return sets::within(w, v);
-        }
-        // No set has a number above 63.
-        return sets::has(v, w as usize);
-    }
-    if right {
-        return false;
-    }
-    v == w
-}
-
-// The same, of the two values changed round if that is asked for.
-fn joins(left: bool, right: bool, turned: bool, v: u64, w: u64) -> bool
-    ensures { λ r. ⌜ r ≡ joins left right turned v w ⌝ }
-{
-    if turned {
-        return fits(left, right, w, v);
-    }
-    fits(left, right, v, w)
-}
-
-// Who has, at a place, one of the first values that a value is joined with.
-pub fn joined<'a>(
-    distinct: &'a ByPlaceMember,
-    having: &'a ByPlaceMember,
-    place: usize,
-    count: usize,
-    left: bool,
-    right: bool,
-    turned: bool,
-    v: u64,
-) -> u64
-    requires { ⌜ (place < 14) × (count ≤ 64) ⌝ }
-    ensures { λ m. ⌜
-        m ≡ unionOf (now (distinct .entry)) (now (having .entry)) (joins left right turned v) place count ⌝ }
-{
-    let mut m: u64 = 0;
-    for l in 0..count {
-        let word = having[RoleFile::MEMBERS * place + l];
-        // Which values are joined cannot be foreseen, so there is a word to join either way.
-        let found = if joins(
-            left,
-            right,
-            turned,
-            v,
-            distinct[RoleFile::MEMBERS * place + l],
-        ) {
-            word
-        } else {
-            0
-        };
-        m = sets::union(m, found);
-    }
-    m
-}
 
 // The resources with which the atom over user attribute a and resource attribute b joins the user value number k.
 fn linked_to<'a>(
@@ -122,7 +33,7 @@ fn linked_to<'a>(
 {
     let left = sets::has(kinds[0], a);
     let right = sets::has(kinds[1], b);
-    let found = joined(
+    let found = grant_joins::joined(
         distinct,
         having,
         RoleFile::CONJUNCTS + b,
@@ -153,11 +64,11 @@ fn link_atom<'a>(
 {
     let a = atom / RoleFile::ATTRIBUTES;
     let b = atom % RoleFile::ATTRIBUTES;
-    let others = number(having, RoleFile::CONJUNCTS + b);
-    let count = number(having, a);
+    let others = grant_joins::number(having, RoleFile::CONJUNCTS + b);
+    let count = grant_joins::number(having, a);
     for k in 0..count {
         let word = linked_to(kinds, resources, distinct, having, a, b, k, others);
-        spread(atom, having[RoleFile::MEMBERS * a + k], word, out);
+        grant_joins::spread(atom, having[RoleFile::MEMBERS * a + k], word, out);
     }
 }
 

@@ -1,4 +1,1 @@
 pub mod PlaceValues
-pub mod Values
-pub mod ValueLaws
-pub mod ValueListLaws

@@ -9,9 +9,9 @@ use Rattle.files.specs.Answer.{Answer, told, refused, accepted}
 use Rattle.files.specs.CallLaws.{accepted-output}
 use Rattle.files.specs.Calls.{Counts, countValues, mineAnswer}
 use Rattle.mine.specs.Room.{Fits}
-use Rattle.mining.specs.MinedNumbers.{minedNumbers}
-use Rattle.mining.specs.declared.Mined.{Mined}
-use Rattle.mining.specs.declared.Mined.the-variants.{Refused, Written}
+use Rattle.write_answer.specs.MinedNumbers.{minedNumbers}
+use Rattle.write_answer.specs.declared.Mined.{Mined}
+use Rattle.write_answer.specs.declared.Mined.the-variants.{Refused, Written}
 
 pub answer-fits : (file : List ℕ) (scratch : ℕ) (former : List ℕ) (m : Mined) → minedNumbers m ≡ told countValues (mineAnswer 2 file scratch (length former)) → Fits m (length former)
 answer-fits file scratch former (Refused n) e = tt

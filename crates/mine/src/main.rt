@@ -6,8 +6,8 @@ mod save;
 ghost use lib.ListN.{length};
 ghost use Rattle.mine.specs.Room.{Fits};
 use files::refusal;
-use mining::Mined;
 use save::save;
+use write_answer::Mined;
 
 // Prints the counts and the cost.
 fn print_counts(parts: usize, rules: usize, merges: usize, cost: usize) -> bool {

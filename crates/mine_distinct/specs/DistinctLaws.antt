@@ -19,9 +19,9 @@ use Rattle.sets.specs.Tests.{Is, imp, _isIn_, all, any, keep, from, upTo}
 use Rattle.sets.specs.TestLaws.{and-in, and-l, and-r, never, fails, same, imp-in, imp-out, all-out, all-in, any-in, any-out, any-ext, keep-in, keep-out, upTo-in, upTo-out, not-in}
 use Rattle.grant_distinct.specs.Distinct.{distinctAt, distinctTable, havingTable}
 use Rattle.grant_distinct.specs.DistinctWordLaws.{table-word, mask-if, distinct-length, distinct-word, having-bit}
-use Rattle.grant_values.specs.ValueLaws.{among-in, among-out, among-rising, listed-keep}
+use Rattle.grant_listed.specs.ValueLaws.{among-in, among-out, among-rising, listed-keep}
 use Rattle.grant_values.specs.PlaceValues.{valuesAt, knowing}
-use Rattle.grant_values.specs.Values.{listsLeast, valuesAmong, leastAmong, stays, listedOf}
+use Rattle.grant_listed.specs.Values.{listsLeast, valuesAmong, leastAmong, stays, listedOf}
 
 -- ---- lists by number
 

@@ -13,7 +13,7 @@ use Rattle.mine_distinct.specs.InsideValues.{isListed, listedBy}
 use Rattle.sets.specs.MaskLaws.{size-mask, size-most}
 use Rattle.sets.specs.Sets.{bit, maskOf}
 use Rattle.sets.specs.Tests.{keep, from, upTo}
-use Rattle.grant_values.specs.ValueListLaws.{Listing, listing-begin, listing-room, listing-more, listing-end}
+use Rattle.grant_listed.specs.ValueListLaws.{Listing, listing-begin, listing-room, listing-more, listing-end}
 
 -- ---- the test
 

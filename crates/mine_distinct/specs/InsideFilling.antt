@@ -7,7 +7,7 @@ use mathlib.Core.Bool.{cond, _&&_, not}
 use mathlib.Core.List.{List}
 use Rattle.policy.specs.Thinning.{strictly}
 use Rattle.sets.specs.Sets.{joining, subset, maskOf}
-use Rattle.grant_values.specs.Values.{listsLeast}
+use Rattle.grant_listed.specs.Values.{listsLeast}
 
 -- who has one of the values before number k that it strictly contains
 unfoldable pub withinBefore : (distinct having : List ℕ) → ℕ → ℕ → ℕ

@@ -23,9 +23,9 @@ use Rattle.sets.specs.SortedLaws.{Before}
 use Rattle.sets.specs.Tests.{Is, _isIn_, any, upTo}
 use Rattle.sets.specs.TestLaws.{and-in, and-l, and-r, or-r, or-out, never, test, fails, same, any-in, any-out, upTo-in, upTo-out, getD-in, not-in}
 use Rattle.grant_distinct.specs.Distinct.{distinctAt, havingAt, distinctTable, havingTable}
-use Rattle.grant_values.specs.ValueLaws.{among-in, among-out, among-rising}
+use Rattle.grant_listed.specs.ValueLaws.{among-in, among-out, among-rising}
 use Rattle.grant_values.specs.PlaceValues.{valuesAt, knowing}
-use Rattle.grant_values.specs.Values.{listsLeast}
+use Rattle.grant_listed.specs.Values.{listsLeast}
 use Rattle.grant_distinct.specs.DistinctWordLaws.{distinct-word, having-word, having-bit}
 
 -- in an ascending list a smaller member stands before

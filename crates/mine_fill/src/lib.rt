@@ -3,11 +3,11 @@ ghost use lib.ListN.{length, getD};
 ghost use mathlib.Core.Path.{_≡_};
 ghost use Prim.Native.Nat.{_≤_, _<_};
 ghost use Rattle.mine_fill.specs.Fill.{seatIn, seatWords, FilledWith, FilledTo};
-ghost use Rattle.mine_pairs.specs.Pairing.{wordsIn};
+ghost use Rattle.mine_corners.specs.Pairing.{wordsIn};
 ghost use Rattle.mine_seats.specs.Seats.{scratchWords};
 ghost use Rattle.role_record.specs.Cells.{roleCells};
 ghost use Rattle.role_record.specs.Record.{WithinLimits};
-use mine_pairs::Group;
+use mine_corners::Group;
 use mine_seats::Seat;
 use role_record::ByPlace;
 use role_record::ByPlaceMember;
@@ -101,7 +101,7 @@ fn seat_of<'a>(
     if is_seat(holders, permissions, sizes.operations, sizes.roles, k) {
         let g = group_of(links, attributes, holders, permissions, sizes.operations, k);
         let mut met = [0u64; RoleFile::SIDES * RoleFile::ATTRIBUTES];
-        mine_matches::widen(matches, g.users, g.resources, &mut met);
+        mine_widen::widen(matches, g.users, g.resources, &mut met);
         let level = mine_pairs::level_of_group(links, matches, &met, knowing, attributes, sizes, g);
         let rest = mine_seats::pack(g.atoms, level, k);
         return Seat {

@@ -11,7 +11,7 @@ use mathlib.Core.Path.{_≡_, sym, ap, _∙_, ap₂}
 use native.Mathlib.Omega.{arith}
 use Rattle.mine_words.specs.AtomLaws.{keeping}
 use Rattle.mine_heads.specs.Heads.{isMarked, unmarked, Marked, Open}
-use Rattle.mine_pairs.specs.Pairing.{reaches}
+use Rattle.mine_corners.specs.Pairing.{reaches}
 use Rattle.mine_seats.specs.Seats.{wordsAt, isHeadAt}
 use Rattle.role_record.specs.Cells.{roleCells}
 use Rattle.sets.specs.MaskLaws.{mask-same}

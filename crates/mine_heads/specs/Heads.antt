@@ -6,7 +6,7 @@ use lib.ListN.{length, getD, set}
 use mathlib.Core.Bool.{Bool, false, _&&_, not}
 use mathlib.Core.List.{List}
 use mathlib.Core.Path.{_≡_}
-use Rattle.mine_pairs.specs.Pairing.{reaches}
+use Rattle.mine_corners.specs.Pairing.{reaches}
 use Rattle.mine_seats.specs.Seats.{wordsAt, isHeadAt}
 use Rattle.role_record.specs.Cells.{roleCells}
 use Rattle.sets.specs.Sets.{bit, maskOf}

@@ -5,11 +5,11 @@ ghost use mathlib.Core.Bool.{_&&_};
 ghost use mathlib.Core.Path.{_≡_};
 ghost use Prim.Native.Nat.{_+_, _*_, _<_};
 ghost use Rattle.mine_heads.specs.Heads.{isMarked, Marked, Open, unmarked};
-ghost use Rattle.mine_pairs.specs.Pairing.{wordsIn, reaches};
+ghost use Rattle.mine_corners.specs.Pairing.{wordsIn, reaches};
 ghost use Rattle.mine_seats.specs.Seats.{wordsAt, isHeadAt, scratchWords};
 ghost use Rattle.role_record.specs.Cells.{roleCells};
 ghost use Rattle.sets.specs.Sets.{bit, maskOf};
-use mine_pairs::Group;
+use mine_corners::Group;
 use role_record::RoleFile;
 
 // A mark for each seat: 64 in a word.
@@ -67,7 +67,7 @@ fn reaching(scratch: &[u64], seats: u64, word: usize, g: Group) -> u64
     let mut rest = seats;
     while 0 < rest {
         let k = sets::least(rest);
-        if mine_pairs::reaches(mine_seats::group_at(scratch, 64 * word + k), g) {
+        if mine_corners::reaches(mine_seats::group_at(scratch, 64 * word + k), g) {
             m = sets::with(m, k);
         }
         rest = sets::without_least(rest);

@@ -16,7 +16,7 @@ use Rattle.mine_heads.specs.Heads.{isMarked, unmarked, Marked, Open}
 use Rattle.mine_join.specs.Joins.{TakenIn, Joined, Joinable, Resolved}
 use Rattle.mine_search.specs.SearchMetLaws.{beside-met, group-begun}
 use Rattle.mine_search.specs.PartnerSearch.{GroupMet}
-use Rattle.mine_pairs.specs.Pairing.{reaches, less}
+use Rattle.mine_corners.specs.Pairing.{reaches, less}
 use Rattle.mine_seats.specs.SeatLaws.{atoms-packed, level-packed, head-packed, stored-users, stored-resources, stored-operations, stored-rest, stored-kept, stored-kept-rest, atoms-low, stored-long, taken-long, taken-kept, taken-other, taken-low, taken-head}
 use Rattle.mine_seats.specs.Seats.{usersAt, resourcesAt, operationsAt, restAt, levelIn, headIn, restOf, wordsAt, isPartAt, isHeadAt, storedSeat, headTaken, Kept, atomsIn, lowIn, scratchWords}
 use Rattle.role_record.specs.Cells.{roleCells}

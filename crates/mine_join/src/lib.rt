@@ -8,12 +8,12 @@ ghost use Prim.Native.Nat.{ℕ, _<_, max, min};
 ghost use Rattle.mine_matches.specs.Matches.{SidesMet};
 ghost use Rattle.mine_heads.specs.Heads.{Marked, Open};
 ghost use Rattle.mine_join.specs.Joins.{TakenIn, Joined, Joinable, Prepared, Resolved};
-ghost use Rattle.mine_pairs.specs.Pairing.{wordsIn};
+ghost use Rattle.mine_corners.specs.Pairing.{wordsIn};
 ghost use Rattle.mine_seats.specs.Seats.{wordsAt, isHeadAt, scratchWords};
 ghost use Rattle.role_record.specs.Cells.{roleCells};
 ghost use Rattle.sets.specs.Tests.{Is};
+use mine_corners::Group;
 use mine_heads::Marks;
-use mine_pairs::Group;
 use mine_search::Found;
 use mine_seats::Seat;
 use role_record::ByAttribute;
@@ -90,7 +90,7 @@ pub fn prepare(
 {
     let users = mine_seats::users_at(scratch, c);
     let resources = mine_seats::resources_at(scratch, c);
-    mine_matches::widen(matches, users, resources, met);
+    mine_widen::widen(matches, users, resources, met);
     mine_heads::mark_open(scratch, heads, c, ready);
 }
 
@@ -119,7 +119,7 @@ pub fn join_found(
 {
     let users = mine_seats::users_at(scratch, found.seat);
     let resources = mine_seats::resources_at(scratch, found.seat);
-    mine_matches::widen(matches, users, resources, met);
+    mine_widen::widen(matches, users, resources, met);
     let i = mine_search::lower(c, found.seat);
     let j = mine_search::higher(c, found.seat);
     let g = mine_seats::group_at(scratch, c);

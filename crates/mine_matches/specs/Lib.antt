@@ -1,5 +1,4 @@
 pub mod Matches
 pub mod MatchTableLaws
-pub mod MetLaws
 pub mod MatchLaws
 pub mod ValueMeansLaws

@@ -32,8 +32,8 @@ use Rattle.mine_matches.specs.MatchLaws.{value-means, know-means}
 use Rattle.mine_matches.specs.Matches.{knownFor, knownPlaces, knownIn}
 use Rattle.mine_matches.specs.MatchTableLaws.{known-valued}
 use Rattle.grant_values.specs.PlaceValues.{valueFor, valuesAt, knowing}
-use Rattle.grant_values.specs.ValueLaws.{among-in, among-out, among-rising}
-use Rattle.grant_values.specs.Values.{listsLeast, valuesAmong, listedOf}
+use Rattle.grant_listed.specs.ValueLaws.{among-in, among-out, among-rising}
+use Rattle.grant_listed.specs.Values.{listsLeast, valuesAmong, listedOf}
 
 -- the values at a place, from the tables of a policy's record
 abbrev pub valuesIn : Policy → ℕ → List ℕ

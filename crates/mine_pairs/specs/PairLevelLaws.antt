@@ -27,11 +27,11 @@ use Rattle.sets.specs.Tests.{Is, imp, all, any, upTo}
 use Rattle.sets.specs.TestLaws.{fails, never, test, any-in, any-out, upTo-in}
 use Rattle.mine_theory.specs.Words.WordLaws.{words-joined, union-joined, fits-words, own-words, roomy}
 use Rattle.mine_theory.specs.Words.Words.{Words, passes, joined, together, wordsOf, pairFits}
-use Rattle.mine_pairs.specs.FitLaws.{Declared, beyond-means, Bounded, joined-self, own-fits, words-bounded, words-declared}
+use Rattle.mine_corners.specs.FitLaws.{Declared, beyond-means, Bounded, joined-self, own-fits, words-bounded, words-declared}
 use Rattle.grant_grids.specs.Links.{linksOf}
-use Rattle.mine_pairs.specs.MayJoinLaws.{blocks-join}
+use Rattle.mine_corners.specs.MayJoinLaws.{blocks-join}
 use Rattle.mine_pairs.specs.PairLevels.{levelWithin, withOwn, tablesFit, pairLevel, groupLevel}
-use Rattle.mine_pairs.specs.Pairing.{firstBeyond, coversJust, mayJoin}
+use Rattle.mine_corners.specs.Pairing.{firstBeyond, coversJust, mayJoin}
 
 -- ---- a loop over the levels: it is left at the first that passes, or ends
 

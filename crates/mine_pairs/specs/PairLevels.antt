@@ -11,7 +11,7 @@ use Rattle.sets.specs.Lowest.{lowest}
 use Rattle.sets.specs.Sets.{bit, maskOf}
 use Rattle.sets.specs.Tests.{any, upTo}
 use Rattle.mine_theory.specs.Words.Words.{Words, joined}
-use Rattle.mine_pairs.specs.Pairing.{firstBeyond, mayJoin}
+use Rattle.mine_corners.specs.Pairing.{firstBeyond, mayJoin}
 
 -- the lowest level that passes a test, if one does up to a limit; else 4
 unfoldable pub levelWithin : (ℕ → Bool) → ℕ → ℕ

@@ -9,7 +9,7 @@ use mathlib.Core.Path.{_≡_}
 use Rattle.mine_matches.specs.Matches.{SidesMet}
 use Rattle.mine_heads.specs.Heads.{isMarked}
 use Rattle.mine_pairs.specs.PairLevels.{pairLevel}
-use Rattle.mine_pairs.specs.Pairing.{reaches}
+use Rattle.mine_corners.specs.Pairing.{reaches}
 use Rattle.mine_seats.specs.Seats.{usersAt, resourcesAt, restAt, levelIn, wordsAt, isHeadAt}
 use Rattle.mine_theory.specs.Words.Words.{Words}
 use Rattle.role_record.specs.Cells.{roleCells}

@@ -16,7 +16,7 @@ use Rattle.sets.specs.MemberLaws.{least-in, bit-less}
 use Rattle.mine_heads.specs.Heads.{isMarked, Open}
 use Rattle.mine_search.specs.PartnerSearch.{joinedLevel, pairAt, partnerLevel, partnerAt, NoneIn, FirstIn, Partner, Finds, nearAt, nearHead}
 use Rattle.mine_pairs.specs.PairLevels.{pairLevel}
-use Rattle.mine_pairs.specs.Pairing.{reaches, mayJoin}
+use Rattle.mine_corners.specs.Pairing.{reaches, mayJoin}
 use Rattle.mine_seats.specs.Seats.{restAt, levelIn, wordsAt, isHeadAt}
 use Rattle.sets.specs.Lowest.{lowestFrom}
 use Rattle.sets.specs.LowestLaws.{lowestFrom-misses}

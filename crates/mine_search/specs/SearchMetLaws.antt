@@ -8,7 +8,7 @@ use mathlib.Core.List.{List}
 use mathlib.Core.Path.{_≡_}
 use native.Mathlib.Omega.{arith}
 use Rattle.mine_matches.specs.Matches.{Met, bothMembers, SidesMet}
-use Rattle.mine_matches.specs.MetLaws.{met-first, met-turned}
+use Rattle.mine_widen.specs.MetLaws.{met-first, met-turned}
 use Rattle.mine_search.specs.PartnerSearch.{GroupMet}
 use Rattle.mine_seats.specs.Seats.{usersAt, resourcesAt}
 use Rattle.sets.specs.TestLaws.{test}

@@ -6,13 +6,13 @@ ghost use Prim.Native.Nat.{_+_, _*_, _%_, _≤_, _<_, max, min};
 ghost use Rattle.mine_matches.specs.Matches.{bothMembers, SidesMet};
 ghost use Rattle.mine_heads.specs.Heads.{Open};
 ghost use Rattle.mine_search.specs.PartnerSearch.{joinedLevel, partnerLevel, FirstIn, Finds, nearAt, nearHead, GroupMet};
-ghost use Rattle.mine_pairs.specs.Pairing.{wordsIn};
+ghost use Rattle.mine_corners.specs.Pairing.{wordsIn};
 ghost use Rattle.mine_seats.specs.Seats.{usersAt, resourcesAt, scratchWords};
 ghost use Rattle.sets.specs.Sets.{bit};
 ghost use Rattle.role_record.specs.Cells.{roleCells};
 ghost use Rattle.role_record.specs.Record.{WithinLimits};
+use mine_corners::Group;
 use mine_heads::Marks;
-use mine_pairs::Group;
 use role_record::ByAttribute;
 use role_record::ByPlace;
 use role_record::ByPlaceMember;
@@ -111,7 +111,7 @@ fn level_beside<'a>(
         return mine_pairs::NO_LEVEL;
     }
     let mut met_by_both = *met;
-    mine_matches::widen(
+    mine_widen::widen(
         matches,
         mine_seats::users_at(scratch, k),
         mine_seats::resources_at(scratch, k),
@@ -142,7 +142,7 @@ fn near_within(scratch: &[u64], seats: u64, word: usize, g: Group) -> usize
     let mut rest = seats;
     while 0 < rest {
         let k = 64 * word + sets::least(rest);
-        if mine_pairs::near(g, mine_seats::group_at(scratch, k)) {
+        if mine_corners::near(g, mine_seats::group_at(scratch, k)) {
             return k;
         }
         rest = sets::without_least(rest);

@@ -4,10 +4,10 @@
 ghost use lib.ListN.{length};
 ghost use mathlib.Core.Path.{_≡_};
 ghost use Prim.Native.Nat.{_+_, _*_, _^_, _<_};
-ghost use Rattle.mine_pairs.specs.Pairing.{wordsIn};
+ghost use Rattle.mine_corners.specs.Pairing.{wordsIn};
 ghost use Rattle.role_record.specs.Cells.{roleCells};
 ghost use Rattle.mine_seats.specs.Seats.{usersAt, resourcesAt, operationsAt, restAt, membersAt, levelIn, headIn, restOf, wordsAt, isPartAt, isHeadAt, storedSeat, lowIn, headTaken, scratchWords};
-use mine_pairs::Group;
+use mine_corners::Group;
 
 // The words of a seat as they stand in scratch.
 pub struct Seat {

@@ -4,9 +4,9 @@ use Prim.Native.Nat.{ℕ, _+_, _*_}
 use lib.ListN.{getD}
 use mathlib.Core.Bool.{true, cond}
 use mathlib.Core.List.{List}
-use Rattle.grant_tables.specs.Tables.{meetOf, turns, spreadOf, joins, unionOf}
-use Rattle.grant_tables.specs.Tables.{valueCount}
-use Rattle.grant_values.specs.Values.{listsLeast}
+use Rattle.grant_joins.specs.Tables.{meetOf, turns, spreadOf, joins, unionOf}
+use Rattle.grant_joins.specs.Tables.{valueCount}
+use Rattle.grant_listed.specs.Values.{listsLeast}
 use Rattle.role_record.specs.Record.{tableOf}
 
 module _ (distinct having : List ℕ) where

@@ -5,10 +5,10 @@ use lib.ListN.{length, getD}
 use mathlib.Core.Bool.{Bool, true, false}
 use mathlib.Core.List.{List}
 use mathlib.Core.Path.{_≡_, refl, sym, ap, _∙_}
-use Rattle.grant_tables.specs.Tables.{meetOf, spreadOf, joins, unionOf}
-use Rattle.grant_tables.specs.Tables.{valueCount}
-use Rattle.grant_tables.specs.LinkTurnLaws.{turns-long, spread-long}
-use Rattle.grant_values.specs.Values.{listsLeast}
+use Rattle.grant_joins.specs.Tables.{meetOf, spreadOf, joins, unionOf}
+use Rattle.grant_joins.specs.Tables.{valueCount}
+use Rattle.grant_joins.specs.LinkTurnLaws.{turns-long, spread-long}
+use Rattle.grant_listed.specs.Values.{listsLeast}
 use Rattle.mine_tables.specs.Matching.{metByNumber, matchValue, matchPlace}
 
 module _ (distinct having known kinds : List ℕ) where

@@ -18,15 +18,15 @@ use Rattle.sets.specs.SetLaws.{bit-none, subset-in, subset-out, bit-mask}
 use Rattle.sets.specs.Tests.{Is, imp, all, any, upTo}
 use Rattle.sets.specs.TestLaws.{and-in, and-l, and-r, test, fails, same, imp-in, imp-out, all-in, all-out, upTo-in, upTo-out}
 use Rattle.mine_tables.specs.Matching.{metByNumber}
-use Rattle.grant_tables.specs.Tables.{valueCount}
+use Rattle.grant_joins.specs.Tables.{valueCount}
 use Rattle.grant_distinct.specs.Distinct.{distinctTable, havingTable}
 use Rattle.grant_values.specs.PlaceValues.{countAt, heldRoles, valueFor}
 use Rattle.mine_matches.specs.MatchTableLaws.{known-valued}
 use Rattle.grant_tables.specs.RankLaws.{Ranked, pairs-tested, both-have, tables-ranked, valuedBy}
 use Rattle.grant_tables.specs.RelationLaws.{relTable, any-met, turned-block, turned-all}
-use Rattle.grant_tables.specs.Tables.{meetOf, joins, unionOf}
+use Rattle.grant_joins.specs.Tables.{meetOf, joins, unionOf}
 use Rattle.mine_tables.specs.Matching.{matchValue, matchPlace, matchesBy}
-use Rattle.grant_values.specs.Values.{listsLeast}
+use Rattle.grant_listed.specs.Values.{listsLeast}
 
 -- ---- what the turns come to
 

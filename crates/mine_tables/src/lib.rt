@@ -6,7 +6,7 @@ ghost use mathlib.Core.Path.{_≡_};
 ghost use Prim.Native.Nat.{ℕ, _≤_, _<_};
 ghost use Rattle.mine_matches.specs.Matches.{knownPlaces, matchTable};
 ghost use Rattle.mine_tables.specs.Matching.{metByNumber};
-ghost use Rattle.grant_tables.specs.Tables.{valueCount};
+ghost use Rattle.grant_joins.specs.Tables.{valueCount};
 ghost use Rattle.grant_distinct.specs.Distinct.{distinctTable, havingTable};
 ghost use Rattle.mine_tables.specs.Matching.{matchPlace, matchesBy};
 use role_record::ByPlace;
@@ -26,8 +26,8 @@ fn met_by<'a>(
     requires { ⌜ (place < 14) × (k < 64) × (count ≡ valueCount (now having) place) ⌝ }
     ensures { λ m. ⌜ m ≡ metByNumber (now (distinct .entry)) (now (having .entry)) (now (kinds .entry)) place k ⌝ }
 {
-    if grant_values::lists_least(kinds, place) {
-        return grant_tables::joined(
+    if grant_listed::lists_least(kinds, place) {
+        return grant_joins::joined(
             distinct,
             having,
             place,
@@ -56,14 +56,14 @@ fn match_place<'a>(
         ≡ matchPlace (now (distinct .entry)) (now (having .entry)) (now (knowing .entry)) (now (kinds .entry)) place
         (now (out .entry)) ⌝ }
 {
-    let count = grant_tables::number(having, place);
+    let count = grant_joins::number(having, place);
     for k in 0..count {
         let word = sets::meet(
             knowing[place],
             met_by(kinds, distinct, having, place, k, count),
         );
         // Nobody meets an unknown value, nor is met by one.
-        grant_tables::spread(
+        grant_joins::spread(
             place,
             sets::meet(knowing[place], having[RoleFile::MEMBERS * place + k]),
             word,

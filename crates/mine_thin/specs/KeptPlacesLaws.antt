@@ -18,9 +18,9 @@ use Rattle.grant_grids.specs.GridLaws.{triples-same, same-means}
 use Rattle.role_record.specs.RecordLaws.{table-get, side-room, attributes-room}
 use Rattle.mine_matches.specs.MatchLaws.{met-means, know-means}
 use Rattle.mine_matches.specs.Matches.{knownIn, matchesIn, metOf}
-use Rattle.mine_pairs.specs.FitLaws.{Declared, table-spans, words-declared}
+use Rattle.mine_corners.specs.FitLaws.{Declared, table-spans, words-declared}
 use Rattle.grant_grids.specs.Links.{linksOf}
-use Rattle.mine_pairs.specs.Pairing.{tableSpans}
+use Rattle.mine_corners.specs.Pairing.{tableSpans}
 use Rattle.policy.specs.Covering.{standsIn}
 use Rattle.policy.specs.Policy.{Policy, sideOf, settingOf}
 use Rattle.policy.specs.Rules.{own, Side, Which, by, Block, attrsOf, ownAt, holds, Triple, sameBlock, user, resource, atom}
@@ -34,7 +34,8 @@ use Rattle.sets.specs.TestLaws.{and-l, and-r, test, same, only-in, only-out, up
 use Rattle.mine_theory.specs.Words.Flags.{hasAt, holdsAt, placesGrant, thinnedAt, thinnedTo, keptPlaces}
 use Rattle.mine_theory.specs.Words.WordLaws.{same-tests}
 use Rattle.mine_theory.specs.Words.Words.{Words, membersOf, metBy, wordsOf, atomsHold, spans}
-use Rattle.mine_thin.specs.KeptPlaces.{ruleOver, firstOther, metAt, metPlaces, allowedAt, conjunctAt, presentPlaces, grantsSame, thinBy, thinTo, keptIn}
+use Rattle.mine_rows.specs.Others.{ruleOver, firstOther}
+use Rattle.mine_rows.specs.KeptPlaces.{metAt, metPlaces, allowedAt, conjunctAt, presentPlaces, grantsSame, thinBy, thinTo, keptIn}
 
 -- ---- the attributes of a side
 

@@ -17,9 +17,9 @@ use Rattle.sets.specs.SetLaws.{bit-none}
 use Rattle.sets.specs.Tests.{Is}
 use Rattle.sets.specs.TestLaws.{and-l, and-r, never, test, fails}
 use Rattle.mine_theory.specs.Words.Words.{Words}
-use Rattle.mine_thin.specs.KeptPlaces.{presentPlaces, thinBy, thinTo}
+use Rattle.mine_rows.specs.KeptPlaces.{presentPlaces, thinBy, thinTo}
 use Rattle.mine_thin.specs.KeptPlacesLaws.{thin-within}
-use Rattle.mine_thin.specs.PlaceLaws.{thin-absent, thin-more}
+use Rattle.mine_present.specs.PlaceLaws.{thin-absent, thin-more}
 
 pub present-low : (known attributes : List ℕ) (W : Words) (l : ℕ) → presentPlaces known attributes W l < 2 ^ 50
 unfolding presentPlaces

@@ -1,19 +1,15 @@
 -- What stands at the front of bytes, by place: the form in which code works it out.
 -- Assumes nothing.
-use Prim.Native.Nat.{ℕ, zero, suc, _+_, _*_}
+use Prim.Native.Nat.{ℕ}
 use lib.Dec.{eqb, ltb}
-use lib.ListN.{length, getD}
+use lib.ListN.{length}
 use mathlib.Core.Bool.{true, false, cond}
-use mathlib.Core.List.{List, [], _∷_}
+use mathlib.Core.List.{List}
 use Rattle.role_commands.specs.declared.Command.{Command}
 use Rattle.role_commands.specs.declared.Command.the-variants.{Sizes, Declare, Give, Assign, Permit, Line, End}
 use Rattle.role_commands.specs.declared.Decoded.{Decoded}
 use Rattle.role_commands.specs.declared.Decoded.the-variants.{Whole, Unknown, Short}
-
--- the number in w bytes from place i on, low byte first; 0 past the end
-abbrev pub numberAt : ℕ → List ℕ → ℕ → ℕ
-numberAt zero l i = 0
-numberAt (suc w) l i = getD l i 0 + 256 * numberAt w l (suc i)
+use Rattle.file_bytes.specs.Numbers.{numberAt}
 
 -- the bytes that a command takes, and 0 where there is no such command
 unfoldable pub widthOf : ℕ → ℕ
@@ -35,11 +31,3 @@ decodedOf l =
     cond (eqb (length l) 0) Short
     (cond (eqb (widthOf (numberAt 1 l 0)) 0) Unknown
     (cond (ltb (length l) (widthOf (numberAt 1 l 0))) Short (Whole (commandBy (numberAt 1 l 0) l) (widthOf (numberAt 1 l 0)))))
-
-abbrev pub totalOf : List ℕ → ℕ
-totalOf [] = 0
-totalOf (w ∷ ws) = w + totalOf ws
-
-abbrev pub numbersAt : List ℕ → List ℕ → ℕ → List ℕ
-numbersAt [] l i = []
-numbersAt (w ∷ ws) l i = numberAt w l i ∷ numbersAt ws l (i + w)

@@ -10,7 +10,8 @@ use mathlib.Core.List.{List, [], _∷_}
 use mathlib.Core.Option.{Option, none, some, Option·map}
 use mathlib.Core.Path.{_≡_, refl, sym, ap, ap₂, _∙_}
 use native.Mathlib.Omega.{arith}
-use Rattle.role_commands.specs.Decode.{numberAt, widthOf, commandBy, decodedOf, totalOf, numbersAt}
+use Rattle.file_bytes.specs.Numbers.{numberAt, totalOf, numbersAt}
+use Rattle.role_commands.specs.Decode.{widthOf, commandBy, decodedOf}
 use Rattle.role_commands.specs.declared.Command.{Command}
 use Rattle.role_commands.specs.declared.Command.the-variants.{Sizes, Declare, Give, Assign, Permit, Line, End}
 use Rattle.role_commands.specs.declared.Decoded.{Decoded}

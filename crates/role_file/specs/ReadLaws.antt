@@ -22,7 +22,7 @@ use Rattle.files.specs.RuleFile.{value}
 use Rattle.role_record.specs.RecordLaws.{assigned-marked, line-marked, permission-marked, known-marked, value-stored, kind-marked, attribute-counted, kind-values}
 use Rattle.policy.specs.Policy.{Table, Policy, kindOf}
 use Rattle.policy.specs.Rules.{Which, by, user, resource}
-use Rattle.role_file.specs.Reading.{applied, phaseAfter, Bounded, storedBy}
+use Rattle.role_store.specs.Storing.{applied, phaseAfter, Bounded, storedBy}
 use Rattle.sets.specs.ListLaws.{length-last}
 use Rattle.sets.specs.Tests.{Is, iff, isSome}
 use Rattle.sets.specs.TestLaws.{and-l, and-r, or-out, and-three}

@@ -22,16 +22,18 @@ use Rattle.role_record.specs.RecordLaws.{table-none}
 use Rattle.policy.specs.Policy.{Policy, circular}
 use Rattle.policy.specs.Rules.{Which, by, user, resource}
 use Rattle.role_file.specs.ReadLaws.{After, obeyed}
-use Rattle.role_file.specs.Reading.{Bounded, refusal, applied, phaseAfter, loadedOf, nextOf, firstSizes, withSizes, storedBy}
+use Rattle.role_store.specs.Storing.{Bounded, applied, phaseAfter, withSizes, storedBy}
+use Rattle.role_next.specs.Taking.{nextOf, firstSizes}
+use Rattle.role_file.specs.Reading.{refusal, loadedOf}
 use Rattle.sets.specs.ListLaws.{length-none}
 use Rattle.sets.specs.Sets.{maskOf}
 use Rattle.role_record.specs.declared.RoleFile.{RoleFile}
 use Rattle.role_commands.specs.declared.Command.{Command}
 use Rattle.role_file.specs.declared.Loaded.{Loaded}
 use lib.Dec.{eqb}
-use Rattle.role_file.specs.TakenLaws.{took, stopped, sizesAt, same-verdict, applied-so}
+use Rattle.role_next.specs.TakenLaws.{took, stopped, sizesAt, same-verdict, applied-so}
 use Rattle.role_record.specs.declared.Sizes.{Sizes as Counts}
-use Rattle.role_file.specs.declared.Taken.the-variants.{Obeyed, Refused}
+use Rattle.role_next.specs.declared.Taken.the-variants.{Obeyed, Refused}
 use Rattle.role_commands.specs.declared.Command.the-variants.{Sizes, Declare, Give, Assign, Permit, Line, End}
 use Rattle.role_commands.specs.declared.Decoded.the-variants.{Whole, Unknown, Short}
 

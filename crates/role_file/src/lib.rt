@@ -1,15 +1,14 @@
 // Reads a role file into one record by value.
 ghost use mathlib.Core.Path.{_≡_};
-ghost use Prim.Native.Nat.{_+_, _*_, _≤_, _<_};
-ghost use lib.Dec.{eqb};
-ghost use lib.ListN.{getD, length, set};
+ghost use Prim.Native.Nat.{_*_, _≤_, _<_};
+ghost use lib.ListN.{length};
 ghost use Rattle.files.specs.RoleFile.{readRoles};
-ghost use Rattle.role_record.specs.Record.{markedIf};
-ghost use Rattle.role_file.specs.Reading.{Bounded, added, firstSizes, loadedOf, nextOf, phaseAfter, refusal, settledOf, storedBy, tabled, withSizes};
+ghost use Rattle.role_store.specs.Storing.{tabled, withSizes};
+ghost use Rattle.role_next.specs.Taking.{firstSizes};
+ghost use Rattle.role_file.specs.Reading.{loadedOf, refusal, settledOf};
 use files::refusal;
 use role_admit::phase;
-use role_commands::Command;
-use role_commands::Decoded;
+use role_next::Taken;
 use role_record::ByAttribute;
 use role_record::ByRole;
 use role_record::ByRoleOperation;
@@ -25,166 +24,11 @@ pub struct Loaded {
     pub file: RoleFile,
 }
 
-// What comes next in a file: a command that may stand there, with the bytes that it takes; or a refusal.
-pub enum Taken {
-    Obeyed(Command, usize),
-    Refused(usize),
-}
-
 pub fn refuse(n: usize) -> Loaded
     ensures { λ r. ⌜ r ≡ refusal n ⌝ }
 {
     let e = RoleFile::empty();
     Loaded { code: n, file: e }
-}
-
-// The sizes by the first command. That is 01, since no other is admitted first; and before it none of them is asked for.
-fn first_sizes(s: &[u8]) -> Sizes
-    ensures { λ r. ⌜ r ≡ firstSizes (now (s .entry)) ⌝ }
-{
-    let users = role_commands::byte_at(s, 1);
-    let resources = role_commands::byte_at(s, 2);
-    let operations = role_commands::byte_at(s, 3);
-    let roles = role_commands::byte_at(s, 4);
-    Sizes {
-        users,
-        resources,
-        operations,
-        roles,
-    }
-}
-
-// What stands at the front of these bytes, and whether it may stand there.
-fn next<'a>(
-    s: &[u8],
-    phase: usize,
-    sizes: Sizes,
-    attributes: &'a CountBySide,
-    kinds: &'a BySide,
-    known: &'a ByAttribute,
-) -> Taken
-    requires { ⌜ (getD (now attributes) 0 0 ≤ 6) × (getD (now attributes) 1 0 ≤ 6) ⌝ }
-    ensures { λ r. ⌜
-        r
-        ≡ nextOf (now (s .entry)) phase sizes (now (attributes .entry)) (now (kinds .entry)) (now (known .entry)) ⌝ }
-{
-    match role_commands::decode(s) {
-        Decoded::Unknown => Taken::Refused(refusal::UNKNOWN_COMMAND),
-        Decoded::Short => Taken::Refused(refusal::CUT_OFF),
-        Decoded::Whole(c, w) => {
-            let v = role_admit::admit(c, phase, sizes, attributes, kinds, known);
-            if v == 0 {
-                Taken::Obeyed(c, w)
-            } else {
-                Taken::Refused(v)
-            }
-        }
-    }
-}
-
-// The set with x in it too, if the kind is that of sets.
-fn mark(m: u64, x: usize, kind: usize) -> u64
-    ensures { λ r. ⌜ r ≡ markedIf (eqb kind 1) m x ⌝ }
-{
-    if kind == 1 { sets::with(m, x) } else { m }
-}
-
-// One attribute more of a side, of this kind.
-fn declare(side: usize, kind: usize, attributes: &mut CountBySide, kinds: &mut BySide)
-    requires { ⌜ (side < 2) × (getD (now attributes) side 0 < 6) ⌝ }
-    ensures { λ _. ⌜
-        (now (attributes .exit) ≡ set (now (attributes .entry)) side (getD (now (attributes .entry)) side 0 + 1))
-        × (now (kinds .exit)
-        ≡ set (now (kinds .entry)) side
-        (markedIf (eqb kind 1) (getD (now (kinds .entry)) side 0) (getD (now (attributes .entry)) side 0))) ⌝ }
-{
-    let n = attributes[side];
-    kinds[side] = mark(kinds[side], n, kind);
-    attributes[side] = n + 1;
-}
-
-// One element more in set i of a table.
-fn add(t: &mut [u64], i: usize, x: usize)
-    requires { ⌜ i < length (now t) ⌝ }
-    ensures { λ _. ⌜ now (t .exit) ≡ added (now (t .entry)) i x ⌝ }
-{
-    t[i] = sets::with(t[i], x);
-}
-
-// A value more, and that it is known.
-fn give(
-    side: usize,
-    attribute: usize,
-    who: usize,
-    value: u64,
-    known: &mut ByAttribute,
-    values: &mut Values,
-)
-    requires { ⌜ (side < 2) × (attribute < 6) × (who < 64) ⌝ }
-    ensures { λ _. ⌜
-        (now (known .exit) ≡ added (now (known .entry)) (6 * side + attribute) who)
-        × (now (values .exit) ≡ set (now (values .entry)) (64 * (6 * side + attribute) + who) value) ⌝ }
-{
-    let column = RoleFile::ATTRIBUTES * side + attribute;
-    add(known, column, who);
-    values[RoleFile::MEMBERS * column + who] = value;
-}
-
-// Stores what an admitted command says in the table where it belongs; the phase after it.
-fn store(
-    c: Command,
-    attributes: &mut CountBySide,
-    kinds: &mut BySide,
-    known: &mut ByAttribute,
-    values: &mut Values,
-    assigned: &mut ByRole,
-    lines: &mut ByRole,
-    permissions: &mut ByRoleOperation,
-) -> usize
-    requires { ⌜ Bounded (now attributes) c ⌝ }
-    ensures { λ r. ⌜
-        (r ≡ phaseAfter c)
-        × (tabled (now (attributes .exit)) (now (kinds .exit)) (now (known .exit)) (now (values .exit))
-        (now (assigned .exit)) (now (lines .exit)) (now (permissions .exit))
-        ≡ storedBy
-        (tabled (now (attributes .entry)) (now (kinds .entry)) (now (known .entry)) (now (values .entry))
-        (now (assigned .entry)) (now (lines .entry)) (now (permissions .entry))) c) ⌝ }
-{
-    match c {
-        Command::Sizes { .. } => phase::DECLARING,
-        Command::Declare { side, kind } => {
-            declare(side, kind, attributes, kinds);
-            phase::DECLARING
-        }
-        Command::Give {
-            set: _,
-            side,
-            attribute,
-            who,
-            value,
-        } => {
-            give(side, attribute, who, value, known, values);
-            phase::TELLING
-        }
-        Command::Assign { role, user } => {
-            add(assigned, role, user);
-            phase::TELLING
-        }
-        Command::Permit {
-            role,
-            resource,
-            operation,
-        } => {
-            let i = RoleFile::OPERATIONS * role + operation;
-            add(permissions, i, resource);
-            phase::TELLING
-        }
-        Command::Line { junior, senior } => {
-            add(lines, junior, senior);
-            phase::TELLING
-        }
-        Command::End => phase::ENDED,
-    }
 }
 
 // The end of reading: all seniors and the holders worked out, or that a role is its own senior.
@@ -247,10 +91,10 @@ fn read_commands(s: &[u8], sizes: Sizes) -> Loaded
     let mut phase: usize = phase::NOTHING;
     let mut rest = s;
     while phase != phase::ENDED {
-        match next(rest, phase, sizes, &attributes, &kinds, &known) {
+        match role_next::next(rest, phase, sizes, &attributes, &kinds, &known) {
             Taken::Refused(v) => return refuse(v),
             Taken::Obeyed(c, w) => {
-                phase = store(
+                phase = role_store::store(
                     c,
                     &mut attributes,
                     &mut kinds,
@@ -286,5 +130,5 @@ pub fn read(s: &[u8]) -> Loaded
     if RoleFile::BYTES < s.len() {
         return refuse(refusal::TOO_LONG);
     }
-    read_commands(s, first_sizes(s))
+    read_commands(s, role_next::first_sizes(s))
 }

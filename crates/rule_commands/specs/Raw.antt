@@ -7,7 +7,7 @@ use mathlib.Core.Bool.{Bool, cond, _&&_, _||_}
 use mathlib.Core.List.{List, [], _∷_}
 use mathlib.Core.Option.{Option, none, some}
 use mathlib.Core.Path.{_≡_}
-use Rattle.role_commands.specs.Decode.{numberAt, totalOf, numbersAt}
+use Rattle.file_bytes.specs.Numbers.{numberAt, totalOf, numbersAt}
 use Rattle.files.specs.RuleFile.{RuleCommand as Command, ruleCommand, ruleWidths, opens, value, operations, link, part, ends, precedes, Lines}
 use Rattle.files.specs.RoleFile.{sideBy}
 use Rattle.rule_commands.specs.declared.Atom.{Atom}

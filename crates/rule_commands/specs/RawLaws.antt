@@ -9,7 +9,7 @@ use mathlib.Core.List.{List, [], _∷_}
 use mathlib.Core.Option.{Option, none, some}
 use mathlib.Core.Path.{_≡_, refl, sym, ap, _∙_, subst}
 use native.Mathlib.Omega.{arith}
-use Rattle.role_commands.specs.Decode.{numberAt, totalOf, numbersAt}
+use Rattle.file_bytes.specs.Numbers.{numberAt, totalOf, numbersAt}
 use Rattle.role_commands.specs.DecodeLaws.{operands-at, operands-short, first-byte}
 use Rattle.files.specs.Answer.{andThen, rulesCutOff, rulesUnknown, refused}
 use Rattle.files.specs.Bytes.{operands, turn, decode, readOn}

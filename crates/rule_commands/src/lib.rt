@@ -1,7 +1,7 @@
 // The commands of a rule file, taken from the front of its bytes.
 ghost use mathlib.Core.Path.{_≡_};
 ghost use mathlib.Core.List.{[], _∷_};
-ghost use Rattle.role_commands.specs.Decode.{numberAt};
+ghost use Rattle.file_bytes.specs.Numbers.{numberAt};
 ghost use Rattle.rule_commands.specs.Raw.{takenBy, rawOf, rawBefore};
 use files::rule_byte;
 
@@ -44,28 +44,28 @@ pub enum Raw {
 fn pair_at_1(s: &[u8]) -> u64
     ensures { λ r. ⌜ r ≡ numberAt 2 (now (s .entry)) 1 ⌝ }
 {
-    (role_commands::byte_at(s, 1) + 256 * role_commands::byte_at(s, 2)) as u64
+    (file_bytes::byte_at(s, 1) + 256 * file_bytes::byte_at(s, 2)) as u64
 }
 
 // Two bytes from place 2 on, low byte first.
 fn pair_at_2(s: &[u8]) -> u64
     ensures { λ r. ⌜ r ≡ numberAt 2 (now (s .entry)) 2 ⌝ }
 {
-    (role_commands::byte_at(s, 2) + 256 * role_commands::byte_at(s, 3)) as u64
+    (file_bytes::byte_at(s, 2) + 256 * file_bytes::byte_at(s, 3)) as u64
 }
 
 // Eight bytes from place 2 on, low byte first.
 fn word_at_2(s: &[u8]) -> u64
     ensures { λ r. ⌜ r ≡ numberAt 8 (now (s .entry)) 2 ⌝ }
 {
-    let b0 = role_commands::byte_at(s, 2) as u64;
-    let b1 = role_commands::byte_at(s, 3) as u64;
-    let b2 = role_commands::byte_at(s, 4) as u64;
-    let b3 = role_commands::byte_at(s, 5) as u64;
-    let b4 = role_commands::byte_at(s, 6) as u64;
-    let b5 = role_commands::byte_at(s, 7) as u64;
-    let b6 = role_commands::byte_at(s, 8) as u64;
-    let b7 = role_commands::byte_at(s, 9) as u64;
+    let b0 = file_bytes::byte_at(s, 2) as u64;
+    let b1 = file_bytes::byte_at(s, 3) as u64;
+    let b2 = file_bytes::byte_at(s, 4) as u64;
+    let b3 = file_bytes::byte_at(s, 5) as u64;
+    let b4 = file_bytes::byte_at(s, 6) as u64;
+    let b5 = file_bytes::byte_at(s, 7) as u64;
+    let b6 = file_bytes::byte_at(s, 8) as u64;
+    let b7 = file_bytes::byte_at(s, 9) as u64;
     b0 + 256 * (b1 + 256 * (b2 + 256 * (b3 + 256 * (b4 + 256 * (b5 + 256 * (b6 + 256 * b7))))))
 }
 
@@ -76,8 +76,8 @@ fn two_bytes(s: &[u8], b: usize) -> Raw
     if s.len() < 3 {
         return Raw::Short;
     }
-    let x = role_commands::byte_at(s, 1) as u64;
-    let y = role_commands::byte_at(s, 2) as u64;
+    let x = file_bytes::byte_at(s, 1) as u64;
+    let y = file_bytes::byte_at(s, 2) as u64;
     Raw::Whole(b, x, y, 3)
 }
 
@@ -99,7 +99,7 @@ fn byte_and_pair(s: &[u8], b: usize) -> Raw
     if s.len() < 4 {
         return Raw::Short;
     }
-    let x = role_commands::byte_at(s, 1) as u64;
+    let x = file_bytes::byte_at(s, 1) as u64;
     let y = pair_at_2(s);
     Raw::Whole(b, x, y, 4)
 }
@@ -111,7 +111,7 @@ fn byte_and_word(s: &[u8], b: usize) -> Raw
     if s.len() < 10 {
         return Raw::Short;
     }
-    let x = role_commands::byte_at(s, 1) as u64;
+    let x = file_bytes::byte_at(s, 1) as u64;
     let y = word_at_2(s);
     Raw::Whole(b, x, y, 10)
 }
@@ -123,7 +123,7 @@ pub fn next(s: &[u8]) -> Raw
     if s.len() == 0 {
         return Raw::Short;
     }
-    let b = role_commands::byte_at(s, 0);
+    let b = file_bytes::byte_at(s, 0);
     match b {
         rule_byte::OPENS | rule_byte::ENDS => Raw::Whole(b, 0, 0, 1),
         rule_byte::USER_SINGLE | rule_byte::RESOURCE_SINGLE | rule_byte::PART => byte_and_pair(

@@ -18,12 +18,12 @@ use Rattle.policy.specs.Policy.{Policy, settingOf, rolesIn}
 use Rattle.policy.specs.Roles.{Roles}
 use Rattle.policy.specs.Rules.{Setting, user, resource}
 use Rattle.role_file.specs.SizedLaws.{accepted-sized}
-use Rattle.rule_file.specs.BothFiles.{nothingRead, bothOf}
-use Rattle.rule_file.specs.RuleStateLaws.{openLines, start}
+use Rattle.rule_reading.specs.BothFiles.{nothingRead, bothOf}
+use Rattle.rule_reading.specs.RuleStateLaws.{openLines, start}
 use Rattle.rule_satisfaction.specs.Satisfaction.{Legal}
 use Rattle.sets.specs.Tests.{Is, _isIn_}
 use Rattle.sets.specs.TestLaws.{only-out}
-use Rattle.rule_file.specs.declared.BothFiles.{BothFiles}
+use Rattle.rule_reading.specs.declared.BothFiles.{BothFiles}
 
 module _ (P : Setting) (R : Roles) where
   abbrev pub AllLegal : List Lines → Type 0

@@ -1,6 +1,1 @@
-pub mod BothFiles
 pub mod LegalLaws
-pub mod ReadsLaws
-pub mod RuleStateLaws
-pub mod TurnLaws
-pub mod Turns

@@ -10,7 +10,7 @@ use mathlib.Core.List.{List}
 use mathlib.Core.Option.{Option, none, some}
 use mathlib.Core.Path.{_≡_, refl, sym, ap, ap₂, _∙_, subst}
 use native.Mathlib.Omega.{arith}
-use Rattle.role_commands.specs.Decode.{numberAt, totalOf, numbersAt}
+use Rattle.file_bytes.specs.Numbers.{numberAt, totalOf, numbersAt}
 use Rattle.rule_headings.specs.Headings.{asLine, lineOf, inRule, noted, notesOn, notesOf}
 use Rattle.files.specs.RuleFile.{ruleWidths}
 use Rattle.rule_commands.specs.Raw.{takenBy, rawBy, rawOf}

@@ -20,7 +20,7 @@ use Rattle.rule_listings.specs.Listed.{strayOf, strayPartOf}
 use Rattle.rule_listings.specs.ListedLaws.{stray-means}
 use Rattle.policy.specs.Policy.{Policy, sideOf, settingOf, rolesIn}
 use Rattle.policy.specs.Rules.{Triple, user, resource}
-use Rattle.rule_file.specs.BothFiles.{nothingRead, bothOf}
+use Rattle.rule_reading.specs.BothFiles.{nothingRead, bothOf}
 use Rattle.rule_file.specs.LegalLaws.{AllLegal, Sound as SoundFiles, both-sound}
 use Rattle.rule_steps.specs.Shows.{grantedWithin}
 use Rattle.sets.specs.Tests.{isSome}
@@ -31,7 +31,7 @@ use Rattle.rule_judge.specs.declared.Judgement.{Judgement}
 use Rattle.rule_judge.specs.declared.Judgement.the-variants.{Sound, Differ, StrayRule, StrayPart, Refused}
 use Rattle.rule_listings.specs.declared.StrayPart.{StrayPart as Stray}
 use Rattle.rule_listings.specs.declared.StrayPart.the-variants.{NoneStray, At as Part}
-use Rattle.rule_file.specs.declared.BothFiles.{BothFiles}
+use Rattle.rule_reading.specs.declared.BothFiles.{BothFiles}
 
 -- ---- the verdict, by the outcomes of the three comparisons
 

@@ -28,7 +28,13 @@ pub fn judge(file: &[u8], rules: &[u8]) -> Judgement
     let f = b.file;
     let mut granted = [0u64; RoleFile::USERS * RoleFile::OPERATIONS];
     grant_grids::roles_grid(&f.holders, &f.permissions, f.roles, &mut granted);
-    match grant_grids::first_difference(&granted, &b.grid, f.users, f.resources, f.operations) {
+    match grant_differences::first_difference(
+        &granted,
+        &b.grid,
+        f.users,
+        f.resources,
+        f.operations,
+    ) {
         Difference::At(user, resource, operation) => Judgement::Differ(user, resource, operation),
         Difference::Same => {
             if b.strays {

@@ -6,7 +6,7 @@ use lib.ListN.{getD}
 use mathlib.Core.Bool.{Bool, true, false, cond, _&&_}
 use mathlib.Core.List.{List}
 use Rattle.role_record.specs.Record.{attributeTable, kindTable, permissionTable, recordOf}
-use Rattle.rule_operands.specs.Operands.{valueLegal, linkLegal, partLegal}
+use Rattle.rule_legal.specs.Operands.{valueLegal, linkLegal, partLegal}
 use Rattle.policy.specs.Policy.{Policy}
 use Rattle.policy.specs.Rules.{Form, resource, setContainsSet, setContainsSingle, singleEqualsSingle}
 use Rattle.sets.specs.Sets.{bit}

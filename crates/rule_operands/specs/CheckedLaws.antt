@@ -11,7 +11,7 @@ use Rattle.role_record.specs.Record.{Sized, attributeTable, kindTable}
 use Rattle.files.specs.RoleFile.{sideBy}
 use Rattle.files.specs.RuleFile.{legal, value, link}
 use Rattle.rule_operands.specs.Checked.{legalIf, valueCommand, atomOf, checkedValue, checkedOperations, checkedLink, checkedPart, checkedOf, checkedBeside}
-use Rattle.rule_operands.specs.OperandLaws.{value-means, link-means}
+use Rattle.rule_legal.specs.OperandLaws.{value-means, link-means}
 use Rattle.rule_operands.specs.PartLegalLaws.{part-means}
 use Rattle.policy.specs.Policy.{Policy, settingOf, rolesIn}
 use Rattle.policy.specs.Rules.{resource}

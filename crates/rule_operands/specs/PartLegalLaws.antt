@@ -11,7 +11,7 @@ use Rattle.role_record.specs.Cells.{rowCells, cellAt}
 use Rattle.role_record.specs.Record.{Sized, permissionTable, recordWith, recordOf}
 use Rattle.role_admit.specs.RoleTableLaws.{permittedOn, row-shown, holders-shown, holder-within}
 use Rattle.files.specs.RuleFile.{legal, part}
-use Rattle.rule_operands.specs.Operands.{partLegal}
+use Rattle.rule_legal.specs.Operands.{partLegal}
 use Rattle.grant_parts.specs.PartTableLaws.{class-shown}
 use Rattle.grant_parts.specs.Parts.{classRow}
 use Rattle.policy.specs.ClassLaws.{PartFacts, part-facts}

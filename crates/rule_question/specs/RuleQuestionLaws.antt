@@ -18,12 +18,12 @@ use Rattle.policy.specs.Policy.{Policy, sideOf, settingOf}
 use Rattle.policy.specs.Rules.{user, resource}
 use Rattle.role_question.specs.RoleQuestionLaws.{yes-no}
 use Rattle.role_question.specs.Reply.{replyNumbers}
-use Rattle.rule_file.specs.BothFiles.{nothingRead, bothOf}
+use Rattle.rule_reading.specs.BothFiles.{nothingRead, bothOf}
 use Rattle.rule_file.specs.LegalLaws.{Sound, both-sound}
 use Rattle.rule_steps.specs.Shows.{grantedWithin}
 use Rattle.role_question.specs.declared.Reply.{Reply}
 use Rattle.role_question.specs.declared.Reply.the-variants.{Yes, No, Refused}
-use Rattle.rule_file.specs.declared.BothFiles.{BothFiles}
+use Rattle.rule_reading.specs.declared.BothFiles.{BothFiles}
 
 -- the answer from what was read
 unfoldable pub answeredBy : BothFiles → ℕ → ℕ → ℕ → Reply

@@ -16,7 +16,7 @@ use Rattle.policy.specs.Rules.{Block}
 use Rattle.rule_commands.specs.Raw.{InOrder}
 use Rattle.rule_satisfaction.specs.Satisfaction.{Legal}
 use Rattle.sets.specs.Tests.{_isIn_, any, isSome}
-use Rattle.rule_steps.specs.declared.Tally.{Tally}
+use Rattle.rule_notes.specs.declared.Tally.{Tally}
 
 module _ (F : Policy) where
   -- what some rules grant within the sizes

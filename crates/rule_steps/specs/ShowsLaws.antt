@@ -37,8 +37,8 @@ use Rattle.rule_commands.specs.Raw.{InOrder, rawBefore, commandOf, linkMeaning,
 use Rattle.rule_grants.specs.RuleGrid.{summaryGrants}
 use Rattle.rule_satisfaction.specs.Satisfaction.{Legal}
 use Rattle.rule_grants.specs.SummaryGridLaws.{summary-means}
-use Rattle.rule_steps.specs.Tally.{begunWith, countedWith, ruleGrid, closedWith, mayClose, followsWith}
-use Rattle.rule_steps.specs.LineSteps.{placeBy, pairNumber, atomNumber, tallyWith, notedWith, metMore, metAfter, PartWithin, listedAfter, seenBy, againBy}
+use Rattle.rule_notes.specs.Tally.{begunWith, countedWith, ruleGrid, closedWith, mayClose, followsWith}
+use Rattle.rule_notes.specs.LineSteps.{placeBy, pairNumber, atomNumber, tallyWith, notedWith, metMore, metAfter, PartWithin, listedAfter, seenBy, againBy}
 use Rattle.rule_steps.specs.Shows.{grantedWithin, Stored, Shows}
 use Rattle.grant_grids.specs.Links.{linksOf}
 use Rattle.rule_steps.specs.StrayLaws.{orElse, strays, stray-more, grants-more}
@@ -49,8 +49,8 @@ use Rattle.sets.specs.Tests.{Is, iff, _isIn_, any, isSome}
 use Rattle.sets.specs.TestLaws.{and-in, and-l, and-r, test, iff-out, any-out, only-out}
 use Rattle.rule_commands.specs.declared.Atom.{Atom}
 use Rattle.rule_commands.specs.declared.RuleCommand.{RuleCommand}
-use Rattle.rule_steps.specs.declared.Tally.{Tally}
-use Rattle.rule_steps.specs.LineSteps.{metWith}
+use Rattle.rule_notes.specs.declared.Tally.{Tally}
+use Rattle.rule_notes.specs.LineSteps.{metWith}
 use Rattle.rule_commands.specs.declared.Atom.the-variants.{SetContainsSet, SetContainsSingle, SingleEqualsSingle}
 use Rattle.rule_commands.specs.declared.RuleCommand.the-variants.{Opens, Value, Operations, Link, Part, Ends}
 

@@ -18,9 +18,9 @@ use Rattle.files.specs.RuleFile.{RuleCommand, Lines, Reading, whole, finished, 
 use Rattle.policy.specs.Policy.{Policy, settingOf, rolesIn}
 use Rattle.rule_commands.specs.Raw.{rawOf, commandOf, Shape, shape-opens, shape-user-single, shape-user-set, shape-resource-single, shape-resource-set, shape-operations, shape-link, shape-part, shape-ends}
 use Rattle.rule_commands.specs.RawLaws.{raw-whole}
-use Rattle.rule_file.specs.BothFiles.{nothingRead, bothOf}
+use Rattle.rule_reading.specs.BothFiles.{nothingRead, bothOf}
 use Rattle.rule_commands.specs.declared.Raw.{Raw}
-use Rattle.rule_file.specs.declared.BothFiles.{BothFiles}
+use Rattle.rule_reading.specs.declared.BothFiles.{BothFiles}
 use Rattle.sets.specs.ListLaws.{length-last}
 use Rattle.rule_headings.specs.Headings.{asLine, lineOf, RuleAt}
 use Rattle.rule_headings.specs.RuleLevelLaws.{comesTo, onFrom, refuted}

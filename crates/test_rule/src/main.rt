@@ -4,15 +4,10 @@
 ghost use mathlib.Core.Path.{_≡_};
 ghost use Prim.Native.Nat.{_+_, _≤_, min};
 ghost use lib.ListN.{length};
-ghost use Rattle.role_commands.specs.Decode.{numberAt};
-use role_question::Reply;
+ghost use Rattle.file_bytes.specs.Numbers.{numberAt};
+use files::rule_byte;
+use role_record::RoleFile;
 use rule_judge::Judgement;
-
-// Prints a space and a number.
-fn print_number(n: usize) {
-    io::write_all(1, b" ");
-    io::print_decimal(1, n as u64);
-}
 
 // Prints a verdict with its number and its values, or a refusal.
 fn print_judgement(judgement: Judgement) {
@@ -22,38 +17,21 @@ fn print_judgement(judgement: Judgement) {
         }
         Judgement::Differ(user, resource, operation) => {
             io::write_all(1, b"verdict 1");
-            print_number(user);
-            print_number(resource);
-            print_number(operation);
+            test_lines::print_number(b" ", user);
+            test_lines::print_number(b" ", resource);
+            test_lines::print_number(b" ", operation);
         }
         Judgement::StrayRule(n) => {
             io::write_all(1, b"verdict 2");
-            print_number(n);
+            test_lines::print_number(b" ", n);
         }
         Judgement::StrayPart(n) => {
             io::write_all(1, b"verdict 3");
-            print_number(n);
+            test_lines::print_number(b" ", n);
         }
         Judgement::Refused(n) => {
             io::write_all(1, b"refused");
-            print_number(n);
-        }
-    }
-}
-
-// Prints the reply and ends the line.
-fn print_reply(reply: Reply) {
-    match reply {
-        Reply::Yes => {
-            io::write_all(1, b"yes\n");
-        }
-        Reply::No => {
-            io::write_all(1, b"no\n");
-        }
-        Reply::Refused(n) => {
-            io::write_all(1, b"refused ");
-            io::print_decimal(1, n as u64);
-            io::write_all(1, b"\n");
+            test_lines::print_number(b" ", n);
         }
     }
 }
@@ -62,7 +40,7 @@ fn print_reply(reply: Reply) {
 fn print_answers(file: &[u8], rules: &[u8], user: usize, resource: usize, operation: usize) {
     print_judgement(rule_judge::judge(file, rules));
     io::write_all(1, b", ");
-    print_reply(rule_question::ask(file, rules, user, resource, operation));
+    test_lines::print_reply(rule_question::ask(file, rules, user, resource, operation));
 }
 
 // Prints the line of the case in front, and returns how many bytes the case takes. A case is the length of its rule file (two bytes,
@@ -70,15 +48,15 @@ fn print_answers(file: &[u8], rules: &[u8], user: usize, resource: usize, operat
 fn case(file: &[u8], s: &[u8]) -> usize
     ensures { λ r. ⌜ r ≡ min (5 + numberAt 2 (now (s .entry)) 0) (length (now (s .entry))) ⌝ }
 {
-    let low = role_commands::byte_at(s, 0);
-    let high = role_commands::byte_at(s, 1);
+    let low = file_bytes::byte_at(s, 0);
+    let high = file_bytes::byte_at(s, 1);
     let end = 5 + low + 256 * high;
     if s.len() < end {
         return s.len();
     }
-    let user = role_commands::byte_at(s, 2);
-    let resource = role_commands::byte_at(s, 3);
-    let operation = role_commands::byte_at(s, 4);
+    let user = file_bytes::byte_at(s, 2);
+    let resource = file_bytes::byte_at(s, 3);
+    let operation = file_bytes::byte_at(s, 4);
     print_answers(file, &s[5..end], user, resource, operation);
     end
 }
@@ -99,13 +77,13 @@ fn cases(file: &[u8], count: usize, s: &[u8]) -> usize
 fn group(s: &[u8]) -> usize
     ensures { λ r. ⌜ (min 3 (length (now (s .entry))) ≤ r) × (r ≤ length (now (s .entry))) ⌝ }
 {
-    let low = role_commands::byte_at(s, 0);
-    let high = role_commands::byte_at(s, 1);
+    let low = file_bytes::byte_at(s, 0);
+    let high = file_bytes::byte_at(s, 1);
     let end = 3 + low + 256 * high;
     if s.len() < end {
         return s.len();
     }
-    let count = role_commands::byte_at(s, 2);
+    let count = file_bytes::byte_at(s, 2);
     end + cases(&s[3..end], count, &s[end..])
 }
 
@@ -117,28 +95,43 @@ fn groups(s: &[u8]) {
     }
 }
 
-// 8,192 rules that list the one part there is, and the end: a rule file of 65,537 bytes, and a zero behind it.
-fn many_rules() -> [u8; 65538]
+const OPENS: u8 = rule_byte::OPENS as u8;
+
+const OPERATIONS: u8 = rule_byte::OPERATIONS as u8;
+
+const PART: u8 = rule_byte::PART as u8;
+
+const ENDS: u8 = rule_byte::ENDS as u8;
+
+// As many rules of eight bytes as make a rule file longer than a role file may be.
+const RULES: usize = (RoleFile::BYTES + 1) / 8;
+
+const LAST: usize = 8 * RULES;
+
+const LENGTH: usize = LAST + 1;
+
+// Rules that list the one part there is, and the end; and a zero behind it.
+fn many_rules() -> [u8; LENGTH + 1]
     ensures { λ r. ⌜ 65538 ≡ length r ⌝ }
 {
-    let mut s = [0u8; 65538];
-    for k in 0..8192 {
-        s[8 * k] = 0x21;
-        s[8 * k + 1] = 0x26;
+    let mut s = [0u8; LENGTH + 1];
+    for k in 0..RULES {
+        s[8 * k] = OPENS;
+        s[8 * k + 1] = OPERATIONS;
         s[8 * k + 2] = 1;
-        s[8 * k + 4] = 0x28;
+        s[8 * k + 4] = PART;
         s[8 * k + 6] = 1;
     }
-    s[65536] = 0x2F;
+    s[LAST] = ENDS;
     s
 }
 
-// Prints the lines of a long rule file: the first 65,537 bytes, a byte less and a byte more.
+// Prints the lines of a long rule file: whole, a byte less and a byte more.
 fn print_long(file: &[u8], s: &[u8])
     requires { ⌜ 65538 ≡ length (now s) ⌝ }
 {
-    print_answers(file, &s[0..65537], 0, 0, 0);
-    print_answers(file, &s[0..65536], 0, 0, 0);
+    print_answers(file, &s[0..LENGTH], 0, 0, 0);
+    print_answers(file, &s[0..LAST], 0, 0, 0);
     print_answers(file, s, 0, 0, 0);
 }
 

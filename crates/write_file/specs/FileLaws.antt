@@ -10,7 +10,8 @@ use Rattle.role_record.specs.Cells.{roleCells}
 use Rattle.role_record.specs.Record.{Sized, recordOf}
 use Rattle.files.specs.Calls.{minedBytes, minedCounts}
 use Rattle.files.specs.RuleFile.{encode, encodeAll, opens}
-use Rattle.write_file.specs.FileTable.{keptAt, keptHead, keptTable, costWith, ruleWith, fileBytes, measuredOf}
+use Rattle.write_kept.specs.Kept.{keptAt, keptHead, keptTable}
+use Rattle.write_measure.specs.FileTable.{costWith, ruleWith, fileBytes, measuredOf}
 use Rattle.role_record.specs.RecordLaws.{table-get}
 use Rattle.mine_matches.specs.Matches.{knownIn, matchesIn}
 use Rattle.grant_grids.specs.Links.{linksOf}
@@ -31,7 +32,7 @@ use Rattle.mine_groups.specs.SeatGroupLaws.{bytes-seats, counts-seats}
 use Rattle.mine_groups.specs.SeatGroups.{seatBlock, seatGroups, seatsOf, seatMerges, seatRule, seatLines}
 use Rattle.mine_thin.specs.KeptPlacesLaws.{kept-means}
 use Rattle.mine_theory.specs.Words.Flags.{keptPlaces}
-use Rattle.write_file.specs.declared.Measured.{Measured}
+use Rattle.write_measure.specs.declared.Measured.{Measured}
 
 -- ---- lists
 

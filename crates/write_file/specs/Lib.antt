@@ -1,3 +1,1 @@
-pub mod FileTable
 pub mod FileLaws
-pub mod MeasureLaws

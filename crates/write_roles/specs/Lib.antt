@@ -1,2 +1,3 @@
 pub mod GroupRoles
 pub mod GroupRoleLaws
+pub mod RoleVisitLaws

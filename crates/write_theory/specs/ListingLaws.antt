@@ -28,8 +28,8 @@ use Rattle.mine_seats.specs.Seats.{operationsAt, restAt, membersAt, headIn, wor
 use Rattle.mine_theory.specs.Words.Words.{membersOf}
 use Rattle.write_theory.specs.RuleLists.{setPlace, listedAt, classAt, classAmong, ClassTable, inGroup, memberSet, partsAt, classesAt, placeCostIn, ruleCostIn}
 use Rattle.mine_seats.specs.SeatLaws.{users-first, resources-second}
-use Rattle.grant_values.specs.ValueLaws.{among-nobody}
-use Rattle.grant_values.specs.Values.{valuesAmong, listedOf}
+use Rattle.grant_listed.specs.ValueLaws.{among-nobody}
+use Rattle.grant_listed.specs.Values.{valuesAmong, listedOf}
 
 -- ---- lists
 

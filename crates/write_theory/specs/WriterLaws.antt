@@ -47,7 +47,7 @@ use Rattle.mine_theory.specs.Words.Words.{Words, membersOf, wordsOf, spans}
 use Rattle.write_theory.specs.RuleLists.{setPlace, listedAt, classAt, inGroup, partsAt, classesAt, placeCostIn, ruleCostIn}
 use Rattle.write_theory.specs.RuleTable.{keptAs, placeBytesIn, kindBytesIn, atomBytesAt, atomBytesIn, roleBytesIn, partBytesIn, ruleBytesIn}
 use Rattle.mine_matches.specs.ValueMeansLaws.{valuesIn, least-means, values-place, members-valued}
-use Rattle.grant_values.specs.Values.{listsLeast, listedOf}
+use Rattle.grant_listed.specs.Values.{listsLeast, listedOf}
 
 -- ---- what thinning keeps was there
 

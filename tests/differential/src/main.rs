@@ -16,6 +16,7 @@ mod rules;
 mod tally;
 
 use std::process::ExitCode;
+use std::thread::{available_parallelism, scope};
 use tally::Tally;
 
 /// The change requests that have landed: none.
@@ -39,9 +40,26 @@ fn words() -> Option<(u64, u64)> {
     }
 }
 
-fn compare(seed: u64, count: u64, tally: &mut Tally) -> Result<(), String> {
-    case::limits(tally)?;
-    (seed..seed + count).try_for_each(|seed| case::seeded(seed, tally))
+/// Every so many of the seeds, from the first on.
+fn compare_some(first: u64, end: u64, step: usize) -> Result<Tally, String> {
+    let mut tally = Tally::default();
+    (first..end).step_by(step).try_for_each(|seed| case::seeded(seed, &mut tally))?;
+    Ok(tally)
+}
+
+/// The seeds are dealt out to the processors.
+fn compare(seed: u64, count: u64) -> Result<Tally, String> {
+    let mut all = Tally::default();
+    case::limits(&mut all)?;
+    let many = available_parallelism().map_or(1, usize::from);
+    scope(|scope| {
+        let deal = |k| scope.spawn(move || compare_some(seed + k, seed + count, many));
+        let parts: Vec<_> = (0..many as u64).map(deal).collect();
+        for part in parts {
+            all.add(&part.join().expect("a comparison ends")?);
+        }
+        Ok(all)
+    })
 }
 
 fn main() -> ExitCode {
@@ -49,9 +67,8 @@ fn main() -> ExitCode {
         eprintln!("usage: tests/differential/run SEED COUNT");
         return ExitCode::from(2);
     };
-    let mut tally = Tally::default();
-    match compare(seed, count, &mut tally) {
-        Ok(()) => {
+    match compare(seed, count) {
+        Ok(tally) => {
             println!("{tally}");
             ExitCode::SUCCESS
         }

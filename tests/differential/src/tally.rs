@@ -24,6 +24,16 @@ impl Tally {
     pub fn judged(&mut self, verdict: usize) {
         self.verdicts[verdict] += 1;
     }
+
+    /// Adds what was compared beside.
+    pub fn add(&mut self, other: &Tally) {
+        self.role_files += other.role_files;
+        self.rule_files += other.rule_files;
+        self.minings += other.minings;
+        self.questions += other.questions;
+        self.answers.iter_mut().zip(other.answers).for_each(|(sum, often)| *sum += often);
+        self.verdicts.iter_mut().zip(other.verdicts).for_each(|(sum, often)| *sum += often);
+    }
 }
 
 /// `number: how often`, for each number that was met.

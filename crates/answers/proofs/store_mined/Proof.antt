@@ -5,7 +5,7 @@ use mathlib.Core.List.{[], _∷_}
 use mathlib.Core.Path.{sym, ap}
 use native.Mathlib.Omega.{arith}
 use Prim.Native.Nat.{zero}
-use Rattle.mining.specs.MinedNumbers.{minedNumbers}
+use Rattle.write_answer.specs.MinedNumbers.{minedNumbers}
 use Rattle.answers.specs.AnswerNumberLaws.{put-long, handed}
 use Rattle.answers.proofs.store_mined.Statement.{statement}
 use Rattle.answers.proofs.store_mined.Tie as tie

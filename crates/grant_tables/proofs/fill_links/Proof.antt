@@ -6,8 +6,8 @@ use mathlib.Core.Path.{_≡_}
 use native.Mathlib.Omega.{arith}
 use Rattle.role_record.specs.Record.{tableOf}
 use Rattle.sets.specs.LoopLaws.{turn-within}
-use Rattle.grant_tables.specs.Tables.{turns, linkAtom, linksBy}
-use Rattle.grant_tables.specs.LinkTurnLaws.{turns-next, turns-end, link-long}
+use Rattle.grant_joins.specs.Tables.{turns, linkAtom, linksBy}
+use Rattle.grant_joins.specs.LinkTurnLaws.{turns-next, turns-end, link-long}
 use Rattle.role_record.specs.RecordLaws.{cleared, cleared-long}
 use Rattle.grant_tables.proofs.fill_links.Statement.{statement}
 use Rattle.grant_tables.proofs.fill_links.Tie as tie

@@ -5,9 +5,9 @@ use lib.ListN.{length}
 use mathlib.Core.Path.{_≡_, refl}
 use native.Mathlib.Omega.{arith}
 use Rattle.sets.specs.LoopLaws.{turn-within}
-use Rattle.grant_tables.specs.Tables.{valueCount}
-use Rattle.grant_tables.specs.Tables.{turns, linkValue, linkAtom}
-use Rattle.grant_tables.specs.LinkTurnLaws.{turns-next, turns-end, spread-keeps, number-most, link-turn}
+use Rattle.grant_joins.specs.Tables.{valueCount}
+use Rattle.grant_joins.specs.Tables.{turns, linkValue, linkAtom}
+use Rattle.grant_joins.specs.LinkTurnLaws.{turns-next, turns-end, spread-keeps, number-most, link-turn}
 use Rattle.grant_tables.proofs.link_atom.Statement.{statement}
 use Rattle.grant_tables.proofs.link_atom.Tie as tie
 

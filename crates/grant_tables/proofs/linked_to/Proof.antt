@@ -1,7 +1,7 @@
 -- Assumes nothing.
 use Prim.Native.Nat.{_+_}
 use borrow.Author.Needs.{needs}
-use Rattle.grant_tables.specs.LinkTurnLaws.{number-most, linked-law}
+use Rattle.grant_joins.specs.LinkTurnLaws.{number-most, linked-law}
 use Rattle.grant_tables.proofs.linked_to.Statement.{statement}
 use Rattle.grant_tables.proofs.linked_to.Tie as tie
 

@@ -5,7 +5,7 @@ use mathlib.Core.Path.{subst}
 use Rattle.mine.specs.Room.{Fits}
 use Rattle.mine.proofs.finish.Statement.{statement}
 use Rattle.mine.proofs.finish.Tie as tie
-use Rattle.mining.specs.declared.Mined.{Mined}
+use Rattle.write_answer.specs.declared.Mined.{Mined}
 
 part-save-end : tie.Need-part-save-end
 part-save-end c =

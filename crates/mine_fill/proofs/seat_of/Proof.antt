@@ -1,11 +1,11 @@
 -- Assumes nothing.
 use borrow.Author.Needs.{needs}
-use Rattle.mine_matches.specs.MetLaws.{met-first}
+use Rattle.mine_widen.specs.MetLaws.{met-first}
 use Rattle.mine_fill.specs.FillLaws.{part-atoms, part-level, filled-part, filled-none}
-use Rattle.mine_pairs.specs.Pairing.{wordsIn}
+use Rattle.mine_corners.specs.Pairing.{wordsIn}
 use Rattle.mine_fill.proofs.seat_of.Statement.{statement}
 use lib.ListN.{drop}
-use Rattle.mine_matches.specs.MetLaws.{none-met}
+use Rattle.mine_widen.specs.MetLaws.{none-met}
 use Rattle.mine_fill.proofs.seat_of.Tie as tie
 
 level-of-group-requires : tie.Need-level-of-group-requires

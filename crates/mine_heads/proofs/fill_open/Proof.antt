@@ -7,7 +7,7 @@ use mathlib.Core.List.{List}
 use mathlib.Core.Path.{_≡_, sym, ap, _∙_}
 use native.Mathlib.Omega.{arith}
 use Rattle.mine_heads.specs.HeadLaws.{open-made}
-use Rattle.mine_pairs.specs.Pairing.{wordsIn, reaches}
+use Rattle.mine_corners.specs.Pairing.{wordsIn, reaches}
 use Rattle.sets.specs.LoopLaws.{store-next}
 use Rattle.sets.specs.Sets.{bit, maskOf}
 use Rattle.mine_seats.specs.Seats.{wordsAt}

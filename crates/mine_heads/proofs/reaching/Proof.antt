@@ -10,7 +10,7 @@ use Rattle.mine_words.specs.AtomLaws.{with-low, keeping, keep-in, keep-out, kee
 use Rattle.sets.specs.Sets.{lessOne, bit, maskOf}
 use Rattle.sets.specs.MemberLaws.{least-in, less-less}
 use Rattle.mine_heads.specs.HeadLaws.{reaching-begin}
-use Rattle.mine_pairs.specs.Pairing.{wordsIn, reaches}
+use Rattle.mine_corners.specs.Pairing.{wordsIn, reaches}
 use Rattle.mine_seats.specs.Seats.{wordsAt}
 use Rattle.mine_theory.specs.Words.Words.{Words}
 use Rattle.mine_heads.proofs.reaching.Statement.{statement}

@@ -17,7 +17,7 @@ use Rattle.mine_join.specs.Joins.{Prepared}
 use Rattle.mine_search.specs.PartnerSearch.{pairAt, Finds}
 use Rattle.mine_search.specs.PartnerSearchLaws.{partner-first, partner-later, Chosen, chosen-partner, chosen-behind, Taking, taking}
 use Rattle.policy.specs.Policy.{Policy}
-use Rattle.mine_matches.specs.MetLaws.{none-met}
+use Rattle.mine_widen.specs.MetLaws.{none-met}
 use Rattle.mine_merge.proofs.settle_head.Tie as tie
 
 abbrev Inv-loop : tie.InvT-loop

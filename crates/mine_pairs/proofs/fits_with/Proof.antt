@@ -5,10 +5,10 @@ use mathlib.Core.Bool.{_&&_}
 use mathlib.Core.Path.{sym, ap, _∙_}
 use native.Mathlib.Omega.{arith}
 use Rattle.sets.specs.Sets.{bit, maskOf}
-use Rattle.mine_pairs.specs.ExactLaws.{besides-decide}
-use Rattle.mine_pairs.specs.MayJoinLaws.{first-fails, second-decides}
-use Rattle.mine_pairs.specs.LookedLaws.{strangers-same}
-use Rattle.mine_pairs.specs.Pairing.{wordsIn, rimFree}
+use Rattle.mine_exact.specs.ExactLaws.{besides-decide}
+use Rattle.mine_corners.specs.MayJoinLaws.{first-fails, second-decides}
+use Rattle.mine_exact.specs.LookedLaws.{strangers-same}
+use Rattle.mine_corners.specs.Pairing.{wordsIn, rimFree}
 use Rattle.mine_pairs.proofs.fits_with.Statement.{statement}
 use Rattle.mine_pairs.proofs.fits_with.Tie as tie
 

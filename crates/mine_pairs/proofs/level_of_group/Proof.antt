@@ -1,10 +1,10 @@
 -- Assumes nothing.
 use native.Mathlib.Omega.{arith}
-use Rattle.mine_matches.specs.MetLaws.{met-alone}
-use Rattle.mine_pairs.specs.ExactLaws.{self-joins}
+use Rattle.mine_widen.specs.MetLaws.{met-alone}
+use Rattle.mine_exact.specs.ExactLaws.{self-joins}
 use Rattle.mine_pairs.specs.PairLevelLaws.{group-found, group-none}
 use Rattle.mine_pairs.specs.PairLevels.{tablesFit, groupLevel}
-use Rattle.mine_pairs.specs.Pairing.{wordsIn}
+use Rattle.mine_corners.specs.Pairing.{wordsIn}
 use Rattle.mine_pairs.proofs.level_of_group.Statement.{statement}
 use lib.ListN.{drop}
 use Rattle.mine_pairs.proofs.level_of_group.Tie as tie

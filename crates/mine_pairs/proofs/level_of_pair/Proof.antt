@@ -2,7 +2,7 @@
 use borrow.Author.Needs.{needs}
 use mathlib.Core.Path.{sym, _∙_}
 use Rattle.mine_pairs.specs.PairLevelLaws.{pair-refused, pair-level}
-use Rattle.mine_pairs.specs.Pairing.{wordsIn}
+use Rattle.mine_corners.specs.Pairing.{wordsIn}
 use Rattle.mine_pairs.proofs.level_of_pair.Statement.{statement}
 use Rattle.mine_pairs.proofs.level_of_pair.Tie as tie
 

@@ -9,7 +9,7 @@ use Rattle.sets.specs.LoopLaws.{any-none, any-on}
 use Rattle.sets.specs.Tests.{any, upTo}
 use Rattle.mine_pairs.specs.PairLevelLaws.{level-found, level-none, met-together, pass-within, level-fits}
 use Rattle.mine_pairs.specs.PairLevels.{tablesFit}
-use Rattle.mine_pairs.specs.Pairing.{wordsIn}
+use Rattle.mine_corners.specs.Pairing.{wordsIn}
 use Rattle.mine_pairs.proofs.level_within.Statement.{statement}
 use Rattle.mine_pairs.proofs.level_within.Tie as tie
 

@@ -7,7 +7,7 @@ use native.Mathlib.Omega.{arith}
 use Rattle.sets.specs.Sets.{lessOne}
 use Rattle.sets.specs.MemberLaws.{least-in, less-less}
 use Rattle.mine_search.specs.PartnerSearchLaws.{LeftOf, within-none, within-found, within-turn}
-use Rattle.mine_pairs.specs.Pairing.{wordsIn, reaches}
+use Rattle.mine_corners.specs.Pairing.{wordsIn, reaches}
 use Rattle.mine_theory.specs.Words.Words.{Words}
 use Rattle.mine_search.proofs.near_within.Statement.{statement}
 use Rattle.mine_search.proofs.near_within.Tie as tie

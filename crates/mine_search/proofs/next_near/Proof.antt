@@ -6,7 +6,7 @@ use mathlib.Core.Path.{refl}
 use native.Mathlib.Omega.{arith}
 use Rattle.mine_search.specs.PartnerSearchLaws.{near-found, near-on}
 use Rattle.mine_search.specs.PartnerSearch.{NoneIn, nearHead}
-use Rattle.mine_pairs.specs.Pairing.{wordsIn}
+use Rattle.mine_corners.specs.Pairing.{wordsIn}
 use Rattle.mine_search.proofs.next_near.Statement.{statement}
 use Rattle.mine_search.proofs.next_near.Tie as tie
 

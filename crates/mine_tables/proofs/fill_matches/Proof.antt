@@ -6,8 +6,8 @@ use mathlib.Core.Path.{_≡_}
 use native.Mathlib.Omega.{arith}
 use Rattle.role_record.specs.Record.{tableOf}
 use Rattle.sets.specs.LoopLaws.{turn-within}
-use Rattle.grant_tables.specs.Tables.{turns}
-use Rattle.grant_tables.specs.LinkTurnLaws.{turns-next, turns-end}
+use Rattle.grant_joins.specs.Tables.{turns}
+use Rattle.grant_joins.specs.LinkTurnLaws.{turns-next, turns-end}
 use Rattle.mine_tables.specs.Matching.{matchPlace, matchesBy}
 use Rattle.mine_tables.specs.MatchingLaws.{match-long}
 use Rattle.role_record.specs.RecordLaws.{cleared, cleared-long}

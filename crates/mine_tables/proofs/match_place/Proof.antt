@@ -5,10 +5,10 @@ use lib.ListN.{length}
 use mathlib.Core.Path.{_≡_, refl}
 use native.Mathlib.Omega.{arith}
 use Rattle.sets.specs.LoopLaws.{turn-within}
-use Rattle.grant_tables.specs.Tables.{valueCount}
+use Rattle.grant_joins.specs.Tables.{valueCount}
 use Rattle.mine_tables.proofs.match_place.Statement.{statement}
-use Rattle.grant_tables.specs.Tables.{turns}
-use Rattle.grant_tables.specs.LinkTurnLaws.{turns-next, turns-end, spread-keeps, number-most}
+use Rattle.grant_joins.specs.Tables.{turns}
+use Rattle.grant_joins.specs.LinkTurnLaws.{turns-next, turns-end, spread-keeps, number-most}
 use Rattle.mine_tables.specs.Matching.{matchValue, matchPlace}
 use Rattle.mine_tables.specs.MatchingLaws.{match-turn}
 use Rattle.mine_tables.proofs.match_place.Tie as tie

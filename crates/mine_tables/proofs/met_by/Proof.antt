@@ -1,6 +1,6 @@
 -- Assumes nothing.
 use borrow.Author.Needs.{needs}
-use Rattle.grant_tables.specs.LinkTurnLaws.{number-most}
+use Rattle.grant_joins.specs.LinkTurnLaws.{number-most}
 use Rattle.mine_tables.specs.MatchingLaws.{met-least, met-other}
 use Rattle.mine_tables.proofs.met_by.Statement.{statement}
 use Rattle.mine_tables.proofs.met_by.Tie as tie

@@ -9,12 +9,12 @@ use mathlib.Core.Path.{_≡_, sym, ap, _∙_}
 use native.Mathlib.Omega.{arith}
 use Rattle.grant_links.specs.Linked.{linkedWith}
 use Rattle.sets.specs.MemberLaws.{least-in, less-less, all-turn, all-left, all-done}
-use Rattle.mine_pairs.specs.Pairing.{wordsIn, less}
+use Rattle.mine_corners.specs.Pairing.{wordsIn, less}
 use Rattle.sets.specs.Sets.{bit, lessOne}
 use Rattle.sets.specs.Tests.{imp, all, upTo}
 use Rattle.mine_theory.specs.Words.Words.{Words}
-use Rattle.mine_thin.specs.RowLaws.{open-enough}
-use Rattle.mine_thin.specs.Rows.{rowIn, addsNone}
+use Rattle.mine_rows.specs.RowLaws.{open-enough}
+use Rattle.mine_rows.specs.Rows.{rowIn, addsNone}
 use Rattle.mine_thin.proofs.adds_none.Statement.{statement}
 use Rattle.mine_thin.proofs.adds_none.Tie as tie
 

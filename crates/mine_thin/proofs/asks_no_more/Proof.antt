@@ -1,7 +1,7 @@
 -- Assumes nothing.
 use borrow.Author.Needs.{needs}
-use Rattle.mine_pairs.specs.Pairing.{wordsIn}
-use Rattle.mine_thin.specs.RowLaws.{asks-nothing, asks-some}
+use Rattle.mine_corners.specs.Pairing.{wordsIn}
+use Rattle.mine_rows.specs.RowLaws.{asks-nothing, asks-some}
 use Rattle.mine_thin.proofs.asks_no_more.Statement.{statement}
 use Rattle.mine_thin.proofs.asks_no_more.Tie as tie
 

@@ -11,8 +11,8 @@ use native.Mathlib.Omega.{arith}
 use Rattle.sets.specs.MemberLaws.{least-in, less-less, all-turn, all-left, all-done}
 use Rattle.sets.specs.Sets.{bit, lessOne}
 use Rattle.sets.specs.Tests.{imp, all, upTo}
-use Rattle.mine_thin.specs.RowLaws.{corner-nothing}
-use Rattle.mine_thin.specs.Rows.{shared, freeCorner}
+use Rattle.mine_rows.specs.RowLaws.{corner-nothing}
+use Rattle.mine_rows.specs.Rows.{shared, freeCorner}
 use Rattle.mine_thin.proofs.corner_free.Statement.{statement}
 use Rattle.mine_thin.proofs.corner_free.Tie as tie
 

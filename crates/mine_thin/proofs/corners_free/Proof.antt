@@ -1,7 +1,7 @@
 -- Assumes nothing.
 use borrow.Author.Needs.{needs}
-use Rattle.mine_pairs.specs.Pairing.{wordsIn}
-use Rattle.mine_thin.specs.RowLaws.{corners-refused, corners-rest}
+use Rattle.mine_corners.specs.Pairing.{wordsIn}
+use Rattle.mine_rows.specs.RowLaws.{corners-refused, corners-rest}
 use Rattle.mine_thin.proofs.corners_free.Statement.{statement}
 use Rattle.mine_thin.proofs.corners_free.Tie as tie
 

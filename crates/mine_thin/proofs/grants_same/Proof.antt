@@ -1,8 +1,8 @@
 -- Assumes nothing.
 use borrow.Author.Needs.{needs}
-use Rattle.mine_pairs.specs.Pairing.{wordsIn}
+use Rattle.mine_corners.specs.Pairing.{wordsIn}
 use Rattle.grant_links.specs.LinkedLaws.{atoms-cut}
-use Rattle.mine_thin.specs.RowLaws.{told-by-triples, told-by-corners, told-by-rows}
+use Rattle.mine_rows.specs.RowLaws.{told-by-triples, told-by-corners, told-by-rows}
 use Rattle.mine_thin.proofs.grants_same.Statement.{statement}
 use Rattle.mine_thin.proofs.grants_same.Tie as tie
 

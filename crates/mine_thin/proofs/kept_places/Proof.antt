@@ -5,9 +5,9 @@ use mathlib.Core.Path.{refl, sym, ap, _∙_}
 use native.Mathlib.Omega.{arith}
 use Rattle.sets.specs.Sets.{lessOne}
 use Rattle.sets.specs.MemberLaws.{least-in, less-less}
-use Rattle.mine_pairs.specs.Pairing.{wordsIn}
-use Rattle.mine_thin.specs.KeptPlaces.{presentPlaces, metPlaces}
-use Rattle.mine_thin.specs.PlaceLaws.{thin-end}
+use Rattle.mine_corners.specs.Pairing.{wordsIn}
+use Rattle.mine_rows.specs.KeptPlaces.{presentPlaces, metPlaces}
+use Rattle.mine_present.specs.PlaceLaws.{thin-end}
 use Rattle.mine_thin.specs.PlaceVisitLaws.{present-low, Visited, visit-begin, visit-turn, visit-done}
 use Rattle.mine_thin.proofs.kept_places.Statement.{statement}
 use Rattle.mine_thin.proofs.kept_places.Tie as tie

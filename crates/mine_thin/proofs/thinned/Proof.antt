@@ -1,8 +1,8 @@
 -- Assumes nothing.
 use borrow.Author.Needs.{needs}
 use mathlib.Core.Path.{sym, _∙_}
-use Rattle.mine_pairs.specs.Pairing.{wordsIn}
-use Rattle.mine_thin.specs.PlaceLaws.{less-one, thin-absent, thin-goes, thin-stays}
+use Rattle.mine_corners.specs.Pairing.{wordsIn}
+use Rattle.mine_present.specs.PlaceLaws.{less-one, thin-absent, thin-goes, thin-stays}
 use Rattle.mine_thin.proofs.thinned.Statement.{statement}
 use Rattle.mine_thin.proofs.thinned.Tie as tie
 

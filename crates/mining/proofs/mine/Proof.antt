@@ -4,9 +4,9 @@ use denote.Ref.{now}
 use lib.ListN.{length}
 use native.Mathlib.Omega.{arith}
 use Rattle.files.specs.BytesLaws.{Bytes}
-use Rattle.mining.specs.AssemblyLaws.{bytes-all}
-use Rattle.mining.specs.MineLaws.{small, promised}
-use Rattle.mining.specs.declared.Mined.the-variants.{Refused}
+use Rattle.write_answer.specs.AssemblyLaws.{bytes-all}
+use Rattle.write_answer.specs.MineLaws.{small, promised}
+use Rattle.write_answer.specs.declared.Mined.the-variants.{Refused}
 use Rattle.mining.proofs.mine.Statement.{statement}
 use Rattle.mining.proofs.mine.Tie as tie
 

@@ -5,9 +5,9 @@ use mathlib.Core.Path.{_≡_, sym, ap, _∙_}
 use Rattle.role_record.specs.Record.{Sized, recordOf}
 use Rattle.files.specs.Answer.{accepted}
 use Rattle.files.specs.RoleFile.{readRoles}
-use Rattle.mining.specs.AssemblyLaws.{record-sizes, stored}
-use Rattle.mining.specs.MineLaws.{unread, unread-bytes}
-use Rattle.mining.specs.Stages.{bytesFor}
+use Rattle.write_answer.specs.AssemblyLaws.{record-sizes, stored}
+use Rattle.write_answer.specs.MineLaws.{unread, unread-bytes}
+use Rattle.write_answer.specs.Stages.{bytesFor}
 use Rattle.policy.specs.Policy.{Policy}
 use Rattle.mining.proofs.mine_in.Statement.{statement}
 use Rattle.role_file.specs.SizedLaws.{loaded-policy}

@@ -3,7 +3,7 @@ use borrow.Author.Needs.{needs}
 use denote.Ref.{now}
 use lib.ListN.{length}
 use native.Mathlib.Omega.{arith}
-use Rattle.mining.specs.MineLaws.{needed-none, needed-some}
+use Rattle.write_answer.specs.MineLaws.{needed-none, needed-some}
 use Rattle.mining.proofs.rule_bytes.Statement.{statement}
 use Rattle.mining.proofs.rule_bytes.Tie as tie
 use Rattle.mining.proofs.rule_bytes.Reads as reads

@@ -1,13 +1,14 @@
 use borrow.Author.Tests.{eq-eqb, ne-eqb, lt-ltb, le-ltb}
 use mathlib.Core.Path.{_≡_, _∙_, ap}
 use denote.Ref.{now}
-use Rattle.role_commands.specs.Decode.{decodedOf, widthOf, numberAt}
+use Rattle.file_bytes.specs.Numbers.{numberAt}
+use Rattle.role_commands.specs.Decode.{decodedOf, widthOf}
 use borrow.Author.Needs.{needs}
 use Rattle.role_commands.proofs.decode.Statement.{statement}
 use Rattle.role_commands.proofs.decode.Tie as tie
 use Rattle.role_commands.proofs.decode.Reads as reads
 use Rattle.role_commands.proofs.decode.Lts as lts
-use Rattle.role_commands.proofs.byte_at.Reads as byte-at-reads
+use Rattle.file_bytes.proofs.byte_at.Reads as byte-at-reads
 use Rattle.role_commands.proofs.operands.Reads as operands-reads
 use Rattle.role_commands.proofs.width.Reads as width-reads
 

@@ -6,9 +6,9 @@ use Rattle.role_commands.proofs.operands.Statement.{statement}
 use Rattle.role_commands.proofs.operands.Tie as tie
 use Rattle.role_commands.proofs.operands.Reads as reads
 use Rattle.role_commands.proofs.operands.Lts as lts
-use Rattle.role_commands.proofs.byte_at.Reads as byte-at-reads
-use Rattle.role_commands.proofs.pair.Reads as pair-reads
-use Rattle.role_commands.proofs.word.Reads as word-reads
+use Rattle.file_bytes.proofs.byte_at.Reads as byte-at-reads
+use Rattle.file_bytes.proofs.pair.Reads as pair-reads
+use Rattle.file_bytes.proofs.word.Reads as word-reads
 
 returns : tie.Need-returns
 unfolding commandBy

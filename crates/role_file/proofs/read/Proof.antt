@@ -5,7 +5,7 @@ use Rattle.role_file.proofs.read.Statement.{statement}
 use Rattle.role_file.proofs.read.Tie as tie
 use Rattle.role_file.proofs.read.Reads as reads
 use Rattle.role_file.proofs.read.Lts as lts
-use Rattle.role_file.proofs.first_sizes.Reads as first-sizes-reads
+use Rattle.role_next.proofs.first_sizes.Reads as first-sizes-reads
 use Rattle.role_file.proofs.read_commands.Reads as read-commands-reads
 use Rattle.role_file.proofs.refuse.Reads as refuse-reads
 

@@ -9,19 +9,21 @@ use Rattle.role_commands.specs.declared.Command.{Command}
 use Rattle.role_record.specs.Record.{emptyRecord}
 use Rattle.role_record.specs.declared.RoleFile.{RoleFile}
 use Rattle.role_record.specs.declared.Sizes.{Sizes as Counts}
-use Rattle.role_file.specs.Reading.{nextOf, tabled, withSizes, settledOf}
+use Rattle.role_store.specs.Storing.{tabled, withSizes}
+use Rattle.role_next.specs.Taking.{nextOf}
+use Rattle.role_file.specs.Reading.{settledOf}
 use Rattle.role_file.specs.SettleLaws.{settled}
 use Rattle.role_file.specs.RoleStateLaws.{State, Ended, Reached, begin, tail, few-attributes, few-roles, next-stops, next-some, next-inside, next-bounded, next-reached}
-use Rattle.role_file.specs.TakenLaws.{sizesAt}
-use Rattle.role_file.specs.declared.Taken.the-variants.{Obeyed}
+use Rattle.role_next.specs.TakenLaws.{sizesAt}
+use Rattle.role_next.specs.declared.Taken.the-variants.{Obeyed}
 use Rattle.role_file.proofs.read_commands.Statement.{statement}
 use Rattle.role_file.proofs.read_commands.Tie as tie
 use Rattle.role_file.proofs.read_commands.Reads as reads
 use Rattle.role_file.proofs.read_commands.Lts as lts
-use Rattle.role_file.proofs.next.Reads as next-reads
+use Rattle.role_next.proofs.next.Reads as next-reads
 use Rattle.role_file.proofs.refuse.Reads as refuse-reads
 use Rattle.role_file.proofs.settle.Reads as settle-reads
-use Rattle.role_file.proofs.store.Reads as store-reads
+use Rattle.role_store.proofs.store.Reads as store-reads
 
 abbrev Inv-loop : tie.InvT-loop
 Inv-loop s sizes attributes₀ kinds₀ known₀ values₀ assigned₀ lines₀ permissions₀ phase₀ rest₀ attributes kinds known values assigned lines permissions phase rest =

@@ -2,7 +2,7 @@
 use borrow.Author.Needs.{needs}
 use denote.Ref.{now}
 use mathlib.Core.Path.{_∙_}
-use Rattle.rule_file.specs.ReadsLaws.{roles-refused, roles-beside, roles-bounds}
+use Rattle.rule_reading.specs.ReadsLaws.{roles-refused, roles-beside, roles-bounds}
 use Rattle.rule_file.proofs.read.Statement.{statement}
 use Rattle.rule_file.proofs.read.Tie as tie
 

@@ -10,11 +10,11 @@ use Rattle.policy.specs.Policy.{Policy}
 use Rattle.role_file.specs.RoleStateLaws.{tail}
 use Rattle.role_record.specs.Record.{WithinLimits}
 use Rattle.rule_commands.specs.Raw.{Sided}
-use Rattle.rule_file.specs.ReadsLaws.{reads-begun, within-limits, inside, command-bytes, reads-refused, reads-opened, reads-ended, line-within, reads-line}
-use Rattle.rule_file.specs.RuleStateLaws.{State}
-use Rattle.rule_file.specs.TurnLaws.{Closing, Lining, turned-refused, turned-opens, turned-ends, turned-line}
-use Rattle.rule_file.specs.Turns.{turnOf, Beside}
-use Rattle.rule_steps.specs.LineSteps.{PartWithin}
+use Rattle.rule_reading.specs.ReadsLaws.{reads-begun, within-limits, inside, command-bytes, reads-refused, reads-opened, reads-ended, line-within, reads-line}
+use Rattle.rule_reading.specs.RuleStateLaws.{State}
+use Rattle.rule_reading.specs.TurnLaws.{Closing, Lining, turned-refused, turned-opens, turned-ends, turned-line}
+use Rattle.rule_reading.specs.Turns.{turnOf, Beside}
+use Rattle.rule_notes.specs.LineSteps.{PartWithin}
 use Rattle.rule_file.proofs.read_rules.Statement.{statement}
 use Rattle.rule_file.proofs.read_rules.Tie as tie
 

@@ -1,6 +1,6 @@
 -- Assumes nothing.
 use borrow.Author.Needs.{needs}
-use Rattle.rule_file.specs.ReadsLaws.{refused-with}
+use Rattle.rule_reading.specs.ReadsLaws.{refused-with}
 use Rattle.rule_file.proofs.refuse.Statement.{statement}
 use Rattle.rule_file.proofs.refuse.Tie as tie
 

@@ -8,7 +8,7 @@ use Rattle.rule_operands.proofs.check_link.Tie as tie
 use Rattle.rule_operands.proofs.check_link.Reads as reads
 use Rattle.rule_operands.proofs.check_link.Lts as lts
 use Rattle.rule_operands.proofs.atom_of.Reads as atom-of-reads
-use Rattle.rule_operands.proofs.link_legal.Reads as link-legal-reads
+use Rattle.rule_legal.proofs.link_legal.Reads as link-legal-reads
 
 returns : tie.Need-returns
 unfolding checkedLink

@@ -6,7 +6,7 @@ use Rattle.rule_operands.proofs.check_operations.Statement.{statement}
 use Rattle.rule_operands.proofs.check_operations.Tie as tie
 use Rattle.rule_operands.proofs.check_operations.Reads as reads
 use Rattle.rule_operands.proofs.check_operations.Lts as lts
-use Rattle.rule_operands.proofs.operations_legal.Reads as operations-legal-reads
+use Rattle.rule_legal.proofs.operations_legal.Reads as operations-legal-reads
 
 returns : tie.Need-returns
 unfolding checkedOperations

@@ -6,7 +6,7 @@ use Rattle.rule_operands.proofs.check_part.Statement.{statement}
 use Rattle.rule_operands.proofs.check_part.Tie as tie
 use Rattle.rule_operands.proofs.check_part.Reads as reads
 use Rattle.rule_operands.proofs.check_part.Lts as lts
-use Rattle.rule_operands.proofs.part_legal.Reads as part-legal-reads
+use Rattle.rule_legal.proofs.part_legal.Reads as part-legal-reads
 
 returns : tie.Need-returns
 unfolding checkedPart

@@ -6,7 +6,7 @@ use Rattle.rule_operands.proofs.check_value.Statement.{statement}
 use Rattle.rule_operands.proofs.check_value.Tie as tie
 use Rattle.rule_operands.proofs.check_value.Reads as reads
 use Rattle.rule_operands.proofs.check_value.Lts as lts
-use Rattle.rule_operands.proofs.value_legal.Reads as value-legal-reads
+use Rattle.rule_legal.proofs.value_legal.Reads as value-legal-reads
 
 returns : tie.Need-returns
 unfolding checkedValue

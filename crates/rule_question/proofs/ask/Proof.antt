@@ -11,7 +11,7 @@ use Rattle.role_question.specs.Reply.{replyNumbers}
 use Rattle.role_question.specs.declared.Reply.{Reply}
 use Rattle.role_question.specs.declared.Reply.the-variants.{Yes, No, Refused}
 use Rattle.rule_file.specs.LegalLaws.{both-sizes}
-use Rattle.rule_file.specs.declared.BothFiles.{BothFiles}
+use Rattle.rule_reading.specs.declared.BothFiles.{BothFiles}
 use Rattle.rule_question.specs.RuleQuestionLaws.{answeredBy, answered-means, answered-refused, answered-by}
 use Rattle.rule_question.proofs.ask.Statement.{statement}
 use Rattle.rule_question.proofs.ask.Tie as tie

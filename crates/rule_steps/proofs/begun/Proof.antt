@@ -1,6 +1,6 @@
 -- Assumes nothing.
 use mathlib.Core.Path.{refl}
-use Rattle.rule_steps.specs.Tally.{begunWith}
+use Rattle.rule_notes.specs.Tally.{begunWith}
 use Rattle.rule_steps.proofs.begun.Statement.{statement}
 use Rattle.rule_steps.proofs.begun.Tie as tie
 

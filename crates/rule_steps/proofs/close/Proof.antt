@@ -2,8 +2,8 @@
 use borrow.Author.Needs.{needs}
 use mathlib.Core.Path.{ap, _∙_}
 use Rattle.grant_blocks.specs.PartGrid.{joinedGrid}
-use Rattle.rule_steps.specs.Tally.{ruleGrid}
-use Rattle.rule_steps.specs.KeptLaws.{closed-by}
+use Rattle.rule_notes.specs.Tally.{ruleGrid}
+use Rattle.rule_notes.specs.KeptLaws.{closed-by}
 use Rattle.rule_steps.proofs.close.Statement.{statement}
 use Rattle.rule_steps.proofs.close.Tie as tie
 

@@ -1,6 +1,6 @@
 -- Assumes nothing.
 use borrow.Author.Needs.{needs}
-use Rattle.rule_steps.specs.KeptLaws.{counted-same, counted-late, counted-first}
+use Rattle.rule_notes.specs.KeptLaws.{counted-same, counted-late, counted-first}
 use Rattle.rule_steps.proofs.counted.Statement.{statement}
 use Rattle.rule_steps.proofs.counted.Tie as tie
 

@@ -1,7 +1,7 @@
 -- Assumes nothing.
 use borrow.Author.Needs.{needs}
 use mathlib.Core.Path.{_∙_}
-use Rattle.rule_steps.specs.KeptLaws.{finish-inside, finish-outside}
+use Rattle.rule_notes.specs.KeptLaws.{finish-inside, finish-outside}
 use Rattle.rule_steps.proofs.finish.Statement.{statement}
 use Rattle.rule_steps.proofs.finish.Tie as tie
 

@@ -1,7 +1,7 @@
 -- Assumes nothing.
 use borrow.Author.Needs.{needs}
 use mathlib.Core.Path.{sym, _∙_}
-use Rattle.rule_steps.specs.KeptLaws.{follow-outside, follow-second, follow-inside}
+use Rattle.rule_notes.specs.KeptLaws.{follow-outside, follow-second, follow-inside}
 use Rattle.rule_steps.proofs.follows.Statement.{statement}
 use Rattle.rule_steps.proofs.follows.Tie as tie
 

@@ -1,5 +1,5 @@
 -- Assumes nothing.
-use Rattle.rule_steps.specs.KeptLaws.{second-some, second-none}
+use Rattle.rule_notes.specs.KeptLaws.{second-some, second-none}
 use Rattle.rule_steps.proofs.is_second.Statement.{statement}
 use Rattle.rule_steps.proofs.is_second.Tie as tie
 

@@ -1,7 +1,7 @@
 -- Assumes nothing.
 use borrow.Author.Needs.{needs}
 use mathlib.Core.Path.{sym, ap, _∙_, subst}
-use Rattle.rule_steps.specs.LineSteps.{PartWithin, listedAfter}
+use Rattle.rule_notes.specs.LineSteps.{PartWithin, listedAfter}
 use Rattle.rule_steps.proofs.join_part.Statement.{statement}
 use Rattle.rule_steps.proofs.join_part.Tie as tie
 

@@ -1,6 +1,6 @@
 -- Assumes nothing.
 use mathlib.Core.Path.{refl}
-use Rattle.rule_steps.specs.Tally.{openedWith}
+use Rattle.rule_notes.specs.Tally.{openedWith}
 use Rattle.rule_steps.proofs.opened.Statement.{statement}
 use Rattle.rule_steps.proofs.opened.Tie as tie
 

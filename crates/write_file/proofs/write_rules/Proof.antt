@@ -4,8 +4,8 @@ use borrow.Author.Needs.{needs}
 use denote.Ref.{now}
 use native.Mathlib.Omega.{arith}
 use Prim.Native.Nat.{_≤_, _-_}
-use Rattle.write_file.specs.MeasureLaws.{file-room, file-ended}
-use Rattle.write_file.specs.FileTable.{ruleAt}
+use Rattle.write_measure.specs.MeasureLaws.{file-room, file-ended}
+use Rattle.write_measure.specs.FileTable.{ruleAt}
 use Rattle.role_record.specs.Cells.{roleCells}
 use Rattle.write_lines.specs.WritingLaws.{Runs, runs-begin, runs-room, runs-within, runs-more}
 use Rattle.write_file.proofs.write_rules.Statement.{statement}

@@ -6,8 +6,8 @@ use mathlib.Core.List.{List}
 use native.Mathlib.Omega.{arith}
 use Prim.Native.Nat.{ℕ}
 use lib.ListN.{length}
-use Rattle.write_file.specs.MeasureLaws.{seat-head, seat-none, nothing-wrote}
-use Rattle.write_file.specs.FileTable.{ruleWith}
+use Rattle.write_measure.specs.MeasureLaws.{seat-head, seat-none, nothing-wrote}
+use Rattle.write_measure.specs.FileTable.{ruleWith}
 use Rattle.write_lines.specs.Writing.{wrote}
 use Rattle.write_lines.specs.WritingLaws.{length-wrote}
 use Rattle.write_file.proofs.write_seat.Statement.{statement}

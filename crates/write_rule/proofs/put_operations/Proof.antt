@@ -3,7 +3,7 @@ use borrow.Author.Needs.{needs}
 use denote.Ref.{now}
 use lib.ListN.{length}
 use mathlib.Core.Path.{refl}
-use Rattle.write_rule.specs.SectionLaws.{written-as, room-as, operations-line}
+use Rattle.write_theory.specs.SectionLaws.{written-as, room-as, operations-line}
 use Rattle.write_rule.proofs.put_operations.Statement.{statement}
 use Rattle.write_rule.proofs.put_operations.Tie as tie
 

@@ -8,7 +8,7 @@ use mathlib.Core.Path.{_≡_}
 use native.Mathlib.Omega.{arith}
 use Rattle.write_lines.specs.WritingLaws.{backIn, Writing, room-for, place-within, all-written}
 use Rattle.write_theory.specs.RuleTable.{conjunctBytesIn, operationBytesIn, atomBytesIn, partBytesIn, ruleBytesIn}
-use Rattle.write_rule.specs.SectionLaws.{rule-sections, opening-room, opened, section-on, at-within}
+use Rattle.write_theory.specs.SectionLaws.{rule-sections, opening-room, opened, section-on, at-within}
 use Rattle.write_rule.proofs.write_rule.Statement.{statement}
 use Rattle.write_rule.proofs.write_rule.Tie as tie
 

@@ -1,0 +1,3 @@
+pub mod Filling
+pub mod Entering
+pub mod EnteringLaws

@@ -1,0 +1,3 @@
+pub mod PairingLaws
+pub mod ExactLaws
+pub mod LookedLaws

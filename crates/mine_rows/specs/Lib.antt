@@ -1,0 +1,5 @@
+pub mod Others
+pub mod KeptPlaces
+pub mod Rows
+pub mod RowLaws
+pub mod FirstOtherLaws

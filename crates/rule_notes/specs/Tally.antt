@@ -1,0 +1,51 @@
+-- The numbers that the reader of rule files keeps, and what its steps make of them.
+-- Assumes nothing.
+use Prim.Native.Nat.{ℕ, _+_}
+use lib.Dec.{eqb}
+use mathlib.Core.Bool.{Bool, true, false, cond, _&&_, not}
+use mathlib.Core.List.{List}
+use Rattle.grant_grids.specs.Grid.{gridOf, gridDifference, differenceOf, isSame}
+use Rattle.grant_blocks.specs.PartGrid.{joinedGrid}
+use Rattle.rule_commands.specs.Raw.{rawBefore}
+use Rattle.rule_grants.specs.RuleGrid.{summaryGrants}
+use Rattle.rule_notes.specs.declared.Tally.{Tally}
+
+unfoldable pub begunWith : Tally
+begunWith = record { inside = false; asked = 0; atoms = 0; operations = 0; listing = false; last = 0x21; x = 0; y = 0; rules = 0; strays = false; stray = 0 }
+
+-- behind a 21
+unfoldable pub openedWith : Tally → Tally
+openedWith k = record { inside = true; asked = 0; atoms = 0; operations = 0; listing = false; last = 0x21; x = 0; y = 0; rules = k .rules; strays = k .strays; stray = k .stray }
+
+abbrev pub tallied : Tally → Bool → ℕ → Tally
+tallied k b n = record { inside = k .inside; asked = k .asked; atoms = k .atoms; operations = k .operations; listing = k .listing; last = k .last; x = k .x; y = k .y; rules = k .rules + 1; strays = b; stray = n }
+
+-- one more rule, stray unless it grants the same as its parts
+unfoldable pub countedWith : Tally → Bool → Tally
+countedWith k true = tallied k (k .strays) (k .stray)
+countedWith k false = cond (k .strays) (tallied k (k .strays) (k .stray)) (tallied k true (k .rules))
+
+-- the grid of the open rule, from its summary
+unfoldable pub ruleGrid : Tally → List ℕ → List ℕ → ℕ → ℕ → List ℕ
+ruleGrid k met links users resources = gridOf (summaryGrants met (k .asked) (k .atoms) (k .operations) links users resources)
+
+-- the open rule closed: it is stray if its grid differs from that of the parts listed under it
+unfoldable pub closedWith : Tally → List ℕ → List ℕ → List ℕ → ℕ → ℕ → ℕ → Tally
+closedWith k met listed links users resources acts = countedWith k (isSame (differenceOf (gridDifference (ruleGrid k met links users resources) listed users resources acts)))
+
+-- the open rule closed, if there is one
+unfoldable pub finishedWith : Tally → List ℕ → List ℕ → List ℕ → ℕ → ℕ → ℕ → Tally
+finishedWith k met listed links users resources acts = cond (k .inside) (closedWith k met listed links users resources acts) k
+
+unfoldable pub finishedGrid : Tally → List ℕ → List ℕ → ℕ → ℕ → List ℕ → List ℕ
+finishedGrid k met links users resources grid = cond (k .inside) (joinedGrid (ruleGrid k met links users resources) grid) grid
+
+-- ---- where commands may stand
+
+-- a 21 or 2F: the open rule has operations and a part
+unfoldable pub mayClose : Tally → Bool
+mayClose k = cond (k .inside) (not (eqb (k .operations) 0) && k .listing) true
+
+-- another: in an open rule, behind its last command, and no second 26
+unfoldable pub followsWith : Tally → ℕ → ℕ → ℕ → Bool
+followsWith k b x y = k .inside && (not (eqb b 0x26 && not (eqb (k .operations) 0)) && rawBefore (k .last) (k .x) (k .y) b x y)

@@ -1,0 +1,163 @@
+-- The tables that mining works out of a record are those of its policy, and so is what comes of them.
+-- Assumes nothing.
+use Prim.Native.Nat.{ℕ, suc, _≤_, _<_}
+use lib.ListN.{length, getD}
+use mathlib.Core.List.{List, List·Memᴰ·head, List·Memᴰ·tail}
+use mathlib.Core.Path.{_≡_, refl, sym, ap, _∙_, subst}
+use native.Mathlib.Omega.{arith}
+use Rattle.role_record.specs.Record.{Sized, attributeTable, recordWith, recordOf}
+use Rattle.mine_distinct.specs.InsideValues.{insideTable}
+use Rattle.files.specs.Answer.{accepted}
+use Rattle.files.specs.BytesLaws.{Bytes}
+use Rattle.files.specs.Calls.{Counts, minedBytes, minedCounts}
+use Rattle.files.specs.RoleFile.{readRoles}
+use Rattle.grant_grids.specs.Links.{linkTable}
+use Rattle.mine_matches.specs.Matches.{matchTable, knownPlaces}
+use Rattle.write_file.specs.FileLaws.{file-means, measure-means}
+use Rattle.write_kept.specs.Kept.{keptTable}
+use Rattle.write_measure.specs.FileTable.{fileBytes, measuredOf}
+use Rattle.write_answer.specs.MineLaws.{written}
+use Rattle.write_answer.specs.Stages.{OfRecord, Outcome, keptFor, MergedBy, WrittenBy}
+use Rattle.write_lines.specs.Writing.{wrote}
+use Rattle.write_lines.specs.WritingLaws.{length-wrote}
+use Rattle.policy.specs.Policy.{Policy}
+use Rattle.policy.specs.Rules.{user, resource}
+use Rattle.sets.specs.Tests.{_isIn_}
+use Rattle.mine_groups.specs.Scratch.{Merged}
+use Rattle.mine_groups.specs.SeatGroups.{seatMerges}
+use Rattle.role_record.specs.declared.RoleFile.{RoleFile}
+use Rattle.write_measure.specs.declared.Measured.{Measured}
+use Rattle.mine_merge.specs.Steps.{Tables}
+use Rattle.write_answer.specs.declared.Mined.{Mined}
+use Rattle.grant_distinct.specs.Distinct.{distinctTable, havingTable}
+use Rattle.write_answer.specs.declared.Mined.the-variants.{Written}
+
+-- ---- the role file
+
+byte-low : {s : List ℕ} {g : ℕ} → g isIn s → ((i : ℕ) → getD s i 0 < 256) → g < 256
+byte-low (List·Memᴰ·head {x = x} {xs = xs} e) h = subst (λ (n : ℕ). n < 256) (sym e) (h 0)
+byte-low (List·Memᴰ·tail {x = x} {xs = xs} m) h = byte-low m (λ i. h (suc i))
+
+-- bytes, place by place
+pub bytes-all : (s : List ℕ) → ((i : ℕ) → getD s i 0 < 256) → Bytes s
+bytes-all s h g m = byte-low m h
+
+-- ---- the record
+
+pub stored : (F : Policy) (f : RoleFile) → f ≡ recordOf F → OfRecord F (f .known) (f .values) (f .kinds) (f .attributes) (f .holders) (f .permissions) (f .users) (f .resources) (f .operations) (f .roles)
+stored F f e = record {
+  of-known = ap (λ (g : RoleFile). g .known) e;
+  of-values = ap (λ (g : RoleFile). g .values) e;
+  of-kinds = ap (λ (g : RoleFile). g .kinds) e;
+  of-attributes = ap (λ (g : RoleFile). g .attributes) e;
+  of-holders = ap (λ (g : RoleFile). g .holders) e;
+  of-permissions = ap (λ (g : RoleFile). g .permissions) e;
+  of-users = ap (λ (g : RoleFile). g .users) e;
+  of-resources = ap (λ (g : RoleFile). g .resources) e;
+  of-operations = ap (λ (g : RoleFile). g .operations) e;
+  of-roles = ap (λ (g : RoleFile). g .roles) e;
+}
+
+-- ---- the tables
+
+-- the tables of distinct values are those of the policy
+module _ (F : Policy) (known values kinds attributes holders permissions : List ℕ) (users resources operations roles : ℕ) (s : OfRecord F known values kinds attributes holders permissions users resources operations roles) (distinct having inside : List ℕ)
+    (d : distinct ≡ distinctTable known values holders users resources roles) (h : having ≡ havingTable known values holders users resources roles) (i : inside ≡ insideTable known values holders kinds users resources roles) where
+  pub merged-by : MergedBy F known kinds attributes holders permissions distinct having users resources operations roles
+  merged-by = record {
+    of-known = s .of-known;
+    of-kinds = s .of-kinds;
+    of-attributes = s .of-attributes;
+    of-holders = s .of-holders;
+    of-permissions = s .of-permissions;
+    of-distinct = d ∙ rw (s .of-known, s .of-values, s .of-holders, s .of-users, s .of-resources, s .of-roles) refl;
+    of-having = h ∙ rw (s .of-known, s .of-values, s .of-holders, s .of-users, s .of-resources, s .of-roles) refl;
+    of-users = s .of-users;
+    of-resources = s .of-resources;
+    of-operations = s .of-operations;
+    of-roles = s .of-roles;
+  }
+
+  pub written-by : (kept t : List ℕ) → Merged F t → kept ≡ keptFor F t → WrittenBy F kept distinct having inside kinds permissions operations t
+  written-by kept t M k = record {
+    merged = M;
+    of-kept = k;
+    of-distinct = merged-by .of-distinct;
+    of-having = merged-by .of-having;
+    of-inside = i ∙ rw (s .of-known, s .of-values, s .of-holders, s .of-kinds, s .of-users, s .of-resources, s .of-roles) refl;
+    of-kinds = s .of-kinds;
+    of-permissions = s .of-permissions;
+    of-operations = s .of-operations;
+  }
+
+-- ---- merging
+
+module _ (F : Policy) (known kinds attributes holders permissions distinct having : List ℕ) (users resources operations roles : ℕ) (m : MergedBy F known kinds attributes holders permissions distinct having users resources operations roles) where
+  -- the tables of distinct values, as those of a policy's record
+  pub distinct-so : distinct ≡ distinctTable known (recordOf F .values) holders users resources roles
+  distinct-so = m .of-distinct ∙ rw (m .of-known, m .of-holders, m .of-users, m .of-resources, m .of-roles) refl
+
+  pub having-so : having ≡ havingTable known (recordOf F .values) holders users resources roles
+  having-so = m .of-having ∙ rw (m .of-known, m .of-holders, m .of-users, m .of-resources, m .of-roles) refl
+
+  module _ (links matched places : List ℕ) (p : links ≡ linkTable known (recordOf F .values) kinds resources) (q : matched ≡ matchTable kinds known (recordOf F .values) holders users resources roles) (r : places ≡ knownPlaces users resources known) where
+    -- the tables by which parts are merged are those of the policy
+    pub tables-so : Tables F links matched places attributes holders permissions users resources operations roles
+    tables-so = record {
+      of-links = p ∙ rw (m .of-known, m .of-kinds, m .of-resources) refl;
+      of-matches = q ∙ rw (m .of-kinds, m .of-known, m .of-holders, m .of-users, m .of-resources, m .of-roles) refl;
+      of-known = r ∙ rw (m .of-users, m .of-resources, m .of-known) refl;
+      of-attributes = m .of-attributes;
+      of-holders = m .of-holders;
+      of-permissions = m .of-permissions;
+      of-users = m .of-users;
+      of-resources = m .of-resources;
+      of-operations = m .of-operations;
+      of-roles = m .of-roles;
+    }
+
+    pub kept-so : (kept t : List ℕ) → kept ≡ keptTable links matched places attributes users resources operations t → kept ≡ keptFor F t
+    kept-so kept t k = k ∙ rw (tables-so .of-links, tables-so .of-matches, tables-so .of-known, m .of-attributes, m .of-users, m .of-resources, m .of-operations) refl
+
+-- ---- writing
+
+module _ (F : Policy) (Z : Sized F) (kept distinct having inside kinds permissions : List ℕ) (operations : ℕ) (t : List ℕ) (w : WrittenBy F kept distinct having inside kinds permissions operations t) where
+  pub file-so : fileBytes kept distinct having inside kinds permissions operations t ≡ minedBytes 2 F
+  file-so = rw (w .of-kept, w .of-distinct, w .of-having, w .of-inside, w .of-kinds, w .of-permissions, w .of-operations) (file-means F Z t (w .merged))
+
+  pub measured-so : (m : Measured) → m ≡ measuredOf kept distinct having inside kinds permissions operations t
+      → (m .bytes ≡ length (minedBytes 2 F)) × (minedCounts 2 F ≡ record { size = m .bytes; parts = m .parts; rules = m .rules; merges = seatMerges F; cost = m .cost })
+  measured-so m e =
+      measure-means F Z t (w .merged) m (e ∙ rw (w .of-kept, w .of-distinct, w .of-having, w .of-inside, w .of-kinds, w .of-permissions, w .of-operations) refl)
+
+-- what was measured is as long as what is written
+pub measured-long : (kept distinct having inside kinds permissions : List ℕ) (operations : ℕ) (t : List ℕ) (m : Measured) → m ≡ measuredOf kept distinct having inside kinds permissions operations t
+    → m .bytes ≡ length (fileBytes kept distinct having inside kinds permissions operations t)
+unfolding measuredOf
+measured-long kept distinct having inside kinds permissions operations t m e = ap (λ (x : Measured). x .bytes) e
+
+-- the sizes of a loaded record
+pub record-sizes : (F : Policy) → Sized F → (f : RoleFile) → f ≡ recordOf F → ((f .users ≤ 64) × (f .resources ≤ 64) × (f .operations ≤ 16) × (f .roles ≤ 32)) × (getD (f .attributes) 0 0 ≤ 6) × (getD (f .attributes) 1 0 ≤ 6)
+unfolding recordOf recordWith attributeTable
+record-sizes F Z f e =
+    subst (λ (g : RoleFile). ((g .users ≤ 64) × (g .resources ≤ 64) × (g .operations ≤ 16) × (g .roles ≤ 32)) × (getD (g .attributes) 0 0 ≤ 6) × (getD (g .attributes) 1 0 ≤ 6)) (sym e)
+    ((Z .many user, Z .many resource, Z .operable, Z .few), Z .declared user, Z .declared resource)
+
+-- the answer once the file is written
+pub answered : (file : List ℕ) (scratch : ℕ) (former : List ℕ) → 4096 ≤ scratch → (F : Policy) → readRoles 2 file ≡ accepted F → (m : Measured) (merges : ℕ)
+    → minedCounts 2 F ≡ record { size = m .bytes; parts = m .parts; rules = m .rules; merges = seatMerges F; cost = m .cost } → merges ≡ seatMerges F → length (minedBytes 2 F) ≤ length former
+    → (bytes out : List ℕ) → bytes ≡ minedBytes 2 F → out ≡ wrote bytes former → Outcome file scratch former (Written (m .bytes) (m .parts) (m .rules) merges (m .cost)) out
+answered file scratch former h F q m merges e g l bytes out b o =
+    subst (λ (c : Counts). Outcome file scratch former (Written (c .size) (c .parts) (c .rules) (c .merges) (c .cost)) out) (e ∙ ap (λ (k : ℕ). record { size = m .bytes; parts = m .parts; rules = m .rules; merges = k; cost = m .cost }) (sym g))
+    (written file scratch former h F q l out (o ∙ ap (λ (x : List ℕ). wrote x former) b))
+
+-- writing leaves the output as long as it was
+pub wrote-long : (kept distinct having inside kinds permissions : List ℕ) (operations : ℕ) (t : List ℕ) (m : Measured) → m ≡ measuredOf kept distinct having inside kinds permissions operations t
+    → (former out : List ℕ) → out ≡ wrote (fileBytes kept distinct having inside kinds permissions operations t) former → m .bytes ≤ length former → length out ≡ length former
+wrote-long kept distinct having inside kinds permissions operations t m e former out w q =
+    let p = measured-long kept distinct having inside kinds permissions operations t m e in
+    ap length w ∙ length-wrote (fileBytes kept distinct having inside kinds permissions operations t) former (omega (arith, p, q))
+
+-- the answer that is told
+pub told-so : (file : List ℕ) (scratch : ℕ) (former : List ℕ) {out : List ℕ} {r s : Mined} → r ≡ s → Outcome file scratch former s out → Outcome file scratch former r out
+told-so file scratch former {out} e o = subst (λ (x : Mined). Outcome file scratch former x out) (sym e) o

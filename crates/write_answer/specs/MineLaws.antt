@@ -1,0 +1,103 @@
+-- The answer and the output of mining, by the outcome of each test.
+-- Assumes nothing.
+use Prim.Native.Nat.{ℕ, _≤_, _<_}
+use borrow.Author.Tests.{le-leb, lt-leb}
+use lib.Dec.{leb}
+use lib.ListN.{length, drop, take}
+use mathlib.Core.Bool.{Bool, true, false}
+use mathlib.Core.List.{List, _++_}
+use mathlib.Core.Path.{_≡_, refl, sym, ap, _∙_, subst}
+use Rattle.files.specs.Answer.{Refusal, numberOf, Answer, told, unless, andThen, smallScratch, shortOutput, refused, accepted}
+use Rattle.files.specs.BytesLaws.{Bytes}
+use Rattle.files.specs.CallLaws.{third-demand}
+use Rattle.files.specs.Calls.{Counts, countValues, minedBytes, minedCounts, mayMine, mineAnswer, mineOutput}
+use Rattle.files.specs.Demand3.{Demand3}
+use Rattle.files.specs.RoleFile.{readRoles}
+use Rattle.write_answer.specs.MinedNumbers.{minedNumbers}
+use Rattle.write_answer.specs.Stages.{bytesFor, neededBytes, Outcome}
+use Rattle.policy.specs.Policy.{Policy, settingOf, rolesIn}
+use Rattle.role_file.specs.Reading.{refusal, loadedOf}
+use Rattle.write_answer.specs.declared.Mined.{Mined}
+use Rattle.write_answer.specs.declared.Mined.the-variants.{Refused, Written}
+use Rattle.role_file.specs.declared.Loaded.{Loaded}
+
+module _ (file : List ℕ) (scratch : ℕ) (former : List ℕ) where
+  -- a refusal
+  abbrev outputBy : Answer Policy → List ℕ
+  outputBy a = elim a [ refused e ↦ former | accepted F ↦ minedBytes 2 F ++ drop (length (minedBytes 2 F)) former ]
+
+  output-by : (a : Answer Policy) → mayMine 2 file scratch (length former) ≡ a → mineOutput 2 file scratch former ≡ outputBy a
+  unfolding mineOutput
+  output-by a h = ap outputBy h
+
+  refuses : (e : Refusal) → mayMine 2 file scratch (length former) ≡ refused e → Outcome file scratch former (Refused (numberOf e)) former
+  unfolding mineAnswer
+  refuses e h = (rw h refl, sym (output-by (refused e) h))
+
+  may-small : scratch < 4096 → mayMine 2 file scratch (length former) ≡ refused smallScratch
+  unfolding mayMine
+  may-small h = ap (λ (b : Bool). unless b smallScratch (andThen (readRoles 2 file) (λ F. unless (leb (length (minedBytes 2 F)) (length former)) shortOutput (accepted F)))) (lt-leb 4096 scratch h)
+
+  -- 8
+  pub small : scratch < 4096 → Outcome file scratch former (Refused 8) former
+  small h = refuses smallScratch (may-small h)
+
+  module _ (h : 4096 ≤ scratch) where
+    may-read : (a : Answer Policy) → readRoles 2 file ≡ a → mayMine 2 file scratch (length former) ≡ andThen a (λ F. unless (leb (length (minedBytes 2 F)) (length former)) shortOutput (accepted F))
+    unfolding mayMine
+    may-read a e = rw (le-leb 4096 scratch h) (ap (λ (r : Answer Policy). andThen r (λ F. unless (leb (length (minedBytes 2 F)) (length former)) shortOutput (accepted F))) e)
+
+    -- 1 to 7
+    pub unread : (l : Loaded) → l ≡ loadedOf (readRoles 2 file) → (l .code ≡ 0 → ⊥) → Outcome file scratch former (Refused (l .code)) former
+    unfolding loadedOf refusal
+    unread l e n = go (readRoles 2 file) refl e
+      where
+        go : (a : Answer Policy) → readRoles 2 file ≡ a → l ≡ loadedOf a → Outcome file scratch former (Refused (l .code)) former
+        go (refused d) q p = subst (λ (k : ℕ). Outcome file scratch former (Refused k) former) (ap (λ (m : Loaded). m .code) (sym p)) (refuses d (may-read (refused d) q))
+        go (accepted F) q p = absurd (n (ap (λ (m : Loaded). m .code) p))
+
+    module _ (F : Policy) (q : readRoles 2 file ≡ accepted F) where
+      may-room : (b : Bool) → leb (length (minedBytes 2 F)) (length former) ≡ b → mayMine 2 file scratch (length former) ≡ unless b shortOutput (accepted F)
+      may-room b e = may-read (accepted F) q ∙ ap (λ (x : Bool). unless x shortOutput (accepted F)) e
+
+      -- 9
+      pub short : length former < length (minedBytes 2 F) → Outcome file scratch former (Refused 9) former
+      short l = refuses shortOutput (may-room false (lt-leb (length (minedBytes 2 F)) (length former) l))
+
+      -- the file is written
+      pub written : length (minedBytes 2 F) ≤ length former → (out : List ℕ) → out ≡ minedBytes 2 F ++ drop (length (minedBytes 2 F)) former
+          → Outcome file scratch former (Written (minedCounts 2 F .size) (minedCounts 2 F .parts) (minedCounts 2 F .rules) (minedCounts 2 F .merges) (minedCounts 2 F .cost)) out
+      unfolding mineAnswer
+      written l out e =
+          let m = may-room true (le-leb (length (minedBytes 2 F)) (length former) l) in
+          (rw m refl, e ∙ sym (output-by (accepted F) m))
+
+  -- the third demand, of the first bytes of the output
+  pub demanded : Bytes file → (out : List ℕ) → out ≡ mineOutput 2 file scratch former → (c : Counts) → mineAnswer 2 file scratch (length former) ≡ accepted c
+      → (F : Policy) × (readRoles 2 file ≡ accepted F) × Demand3 2 (settingOf F) (rolesIn F) (take (c .size) out) c
+  demanded b out e c h =
+      subst (λ (o : List ℕ). (F : Policy) × (readRoles 2 file ≡ accepted F) × Demand3 2 (settingOf F) (rolesIn F) (take (c .size) o) c) (sym e) (third-demand 2 file b scratch former c h)
+
+  -- all three together
+  pub promised : Bytes file → (r : Mined) (out : List ℕ) → Outcome file scratch former r out
+      → (minedNumbers r ≡ told countValues (mineAnswer 2 file scratch (length former))) × (out ≡ mineOutput 2 file scratch former)
+      × ((c : Counts) → mineAnswer 2 file scratch (length former) ≡ accepted c → (F : Policy) × (readRoles 2 file ≡ accepted F) × Demand3 2 (settingOf F) (rolesIn F) (take (c .size) out) c)
+  promised b r out o = (o .0, o .1, demanded b out (o .1))
+
+-- a role file that is refused has no rule file
+pub unread-bytes : (file : List ℕ) (l : Loaded) → l ≡ loadedOf (readRoles 2 file) → (l .code ≡ 0 → ⊥) → 0 ≡ bytesFor (readRoles 2 file)
+unfolding loadedOf refusal
+unread-bytes file l e n = go (readRoles 2 file) e
+  where
+    go : (a : Answer Policy) → l ≡ loadedOf a → 0 ≡ bytesFor a
+    go (refused d) p = refl
+    go (accepted F) p = absurd (n (ap (λ (m : Loaded). m .code) p))
+
+-- the length that is needed, by the words of scratch
+pub needed-none : (file : List ℕ) (scratch : ℕ) → scratch < 4096 → 0 ≡ neededBytes file scratch
+unfolding neededBytes
+needed-none file scratch h = rw (lt-leb 4096 scratch h)
+
+pub needed-some : (file : List ℕ) (scratch n : ℕ) → 4096 ≤ scratch → n ≡ bytesFor (readRoles 2 file) → n ≡ neededBytes file scratch
+unfolding neededBytes
+needed-some file scratch n h e = rw (le-leb 4096 scratch h) e

@@ -1,0 +1,79 @@
+-- The stages of mining: what each is handed of a policy, and what it leaves.
+-- Assumes nothing.
+use Prim.Native.Nat.{ℕ, _≤_}
+use lib.Dec.{leb}
+use lib.ListN.{length}
+use mathlib.Core.Bool.{cond}
+use mathlib.Core.List.{List}
+use mathlib.Core.Path.{_≡_}
+use Rattle.mine_distinct.specs.InsideValues.{distinctIn, havingIn, insideIn}
+use Rattle.files.specs.Answer.{Answer, told, refused, accepted}
+use Rattle.files.specs.Calls.{countValues, minedBytes, mineAnswer, mineOutput}
+use Rattle.files.specs.RoleFile.{readRoles}
+use Rattle.role_record.specs.Record.{recordOf}
+use Rattle.write_answer.specs.MinedNumbers.{minedNumbers}
+use Rattle.policy.specs.Policy.{Policy}
+use Rattle.write_answer.specs.declared.Mined.{Mined}
+use Rattle.grant_grids.specs.Links.{linksOf}
+use Rattle.mine_groups.specs.Scratch.{Merged}
+use Rattle.mine_matches.specs.Matches.{knownIn, matchesIn}
+use Rattle.write_kept.specs.Kept.{keptTable}
+
+-- how long the rule file is: 0 where the role file is refused
+abbrev pub bytesFor : Answer Policy → ℕ
+bytesFor (refused e) = 0
+bytesFor (accepted F) = length (minedBytes 2 F)
+
+-- and where scratch is too small
+unfoldable pub neededBytes : List ℕ → ℕ → ℕ
+neededBytes file scratch = cond (leb 4096 scratch) (bytesFor (readRoles 2 file)) 0
+
+-- the tables and numbers are those of the policy's record
+pub record OfRecord (F : Policy) (known values kinds attributes holders permissions : List ℕ) (users resources operations roles : ℕ) : Type 0 where
+  pub of-known : known ≡ recordOf F .known
+  pub of-values : values ≡ recordOf F .values
+  pub of-kinds : kinds ≡ recordOf F .kinds
+  pub of-attributes : attributes ≡ recordOf F .attributes
+  pub of-holders : holders ≡ recordOf F .holders
+  pub of-permissions : permissions ≡ recordOf F .permissions
+  pub of-users : users ≡ recordOf F .users
+  pub of-resources : resources ≡ recordOf F .resources
+  pub of-operations : operations ≡ recordOf F .operations
+  pub of-roles : roles ≡ recordOf F .roles
+
+-- parts are merged by tables of the policy's record and by those of its distinct values
+pub record MergedBy (F : Policy) (known kinds attributes holders permissions distinct having : List ℕ) (users resources operations roles : ℕ) : Type 0 where
+  pub of-known : known ≡ recordOf F .known
+  pub of-kinds : kinds ≡ recordOf F .kinds
+  pub of-attributes : attributes ≡ recordOf F .attributes
+  pub of-holders : holders ≡ recordOf F .holders
+  pub of-permissions : permissions ≡ recordOf F .permissions
+  pub of-distinct : distinct ≡ distinctIn F
+  pub of-having : having ≡ havingIn F
+  pub of-users : users ≡ recordOf F .users
+  pub of-resources : resources ≡ recordOf F .resources
+  pub of-operations : operations ≡ recordOf F .operations
+  pub of-roles : roles ≡ recordOf F .roles
+
+-- the places that the rule of each group in scratch memory keeps
+abbrev pub keptFor : Policy → List ℕ → List ℕ
+keptFor F = keptTable (linksOf F) (matchesIn F) (knownIn F) (recordOf F .attributes) (recordOf F .users) (recordOf F .resources) (recordOf F .operations)
+
+-- rules are written by what they keep of the merged groups, and by tables of the policy
+pub record WrittenBy (F : Policy) (kept distinct having inside kinds permissions : List ℕ) (operations : ℕ) (t : List ℕ) : Type 0 where
+  pub merged : Merged F t
+  pub of-kept : kept ≡ keptFor F t
+  pub of-distinct : distinct ≡ distinctIn F
+  pub of-having : having ≡ havingIn F
+  pub of-inside : inside ≡ insideIn F
+  pub of-kinds : kinds ≡ recordOf F .kinds
+  pub of-permissions : permissions ≡ recordOf F .permissions
+  pub of-operations : operations ≡ recordOf F .operations
+
+-- the answer and the output, from the file, the words of scratch and the former output
+abbrev pub Outcome : List ℕ → ℕ → List ℕ → Mined → List ℕ → Type 0
+Outcome file scratch former r out = (minedNumbers r ≡ told countValues (mineAnswer 2 file scratch (length former))) × (out ≡ mineOutput 2 file scratch former)
+
+-- the same for every file that states a policy
+abbrev pub Result : Policy → List ℕ → Mined → List ℕ → Type 0
+Result F former r out = (file : List ℕ) (n : ℕ) → 4096 ≤ n → readRoles 2 file ≡ accepted F → Outcome file n former r out

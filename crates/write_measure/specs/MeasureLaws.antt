@@ -1,0 +1,169 @@
+-- The loops that measure and write a rule file, seat by seat.
+-- Assumes nothing.
+use Prim.Native.Nat.{ℕ, _+_, _*_, _≤_, _<_}
+use lib.ListN.{length, getD, set, length-append}
+use mathlib.Core.Bool.{Bool, true, false, cond}
+use mathlib.Core.List.{List, [], _∷_, _++_}
+use mathlib.Core.Path.{_≡_, refl, sym, ap, ap₂, _∙_}
+use native.Mathlib.Omega.{arith}
+use Rattle.write_measure.specs.FileTable.{ruleAt, costAt, fileBytes, measuredOf, costWith, ruleWith}
+use Rattle.write_theory.specs.SectionLaws.{bytes-most}
+use Rattle.write_lines.specs.Writing.{wrote}
+use Rattle.write_lines.specs.WritingLaws.{length-wrote, Runs, runs-end}
+use Rattle.role_record.specs.Cells.{roleCells}
+use Rattle.mine_theory.specs.Lines.RuleLines.{atomSet}
+use Rattle.sets.specs.ListLaws.{each-more, sum-more, keep-more}
+use Rattle.sets.specs.MaskLaws.{size-most}
+use Rattle.sets.specs.Tests.{keep, each, only, upTo, sum}
+use Rattle.mine_seats.specs.Seats.{wordsAt, isPartAt, isHeadAt}
+use Rattle.write_measure.specs.declared.Measured.{Measured}
+use Rattle.write_theory.specs.RuleLists.{ruleCostIn}
+use Rattle.write_theory.specs.RuleTable.{ruleBytesIn}
+use Rattle.write_theory.specs.ListingLaws.{costs-most}
+
+-- the last byte behind what was written
+pub end-written : (e o : List ℕ) (x : ℕ) → length (e ++ (x ∷ [])) ≤ length o → set (wrote e o) (length e) x ≡ wrote (e ++ (x ∷ [])) o
+end-written [] [] x h = absurd (omega arith)
+end-written [] (y ∷ o) x h = refl
+end-written (a ∷ e) [] x h = absurd (omega arith)
+end-written (a ∷ e) (y ∷ o) x h = ap (λ r. a ∷ r) (end-written e o x (omega arith))
+
+pub nothing-wrote : (e o : List ℕ) → e ≡ [] → o ≡ wrote e o
+nothing-wrote e o h = rw h refl
+
+pub flag-low : (b : Bool) → cond b 1 0 ≤ 1
+flag-low true = omega arith
+flag-low false = omega arith
+
+-- ---- what one seat can take
+
+-- what one rule can cost
+rule-cost-most : (distinct having inside kinds : List ℕ) (t : List ℕ) (head kept : ℕ) → ruleCostIn distinct having inside kinds t head kept ≤ 65536
+unfolding ruleCostIn
+rule-cost-most distinct having inside kinds t head kept =
+    let a = costs-most distinct having inside kinds t head kept 14 in
+    let b = size-most (wordsAt t head .ops) in
+    let c = size-most (atomSet kept) in
+    omega (arith, a, b, c)
+
+module _ (distinct having inside kinds t : List ℕ) (head kept : ℕ) where
+  pub cost-head : isHeadAt t head ≡ true → ruleCostIn distinct having inside kinds t head kept ≡ costWith distinct having inside kinds t head kept
+  unfolding costWith
+  cost-head h = sym (ap (λ (b : Bool). cond b (ruleCostIn distinct having inside kinds t head kept) 0) h)
+
+  pub cost-none : isHeadAt t head ≡ false → 0 ≡ costWith distinct having inside kinds t head kept
+  unfolding costWith
+  cost-none h = sym (ap (λ (b : Bool). cond b (ruleCostIn distinct having inside kinds t head kept) 0) h)
+
+  pub cost-low : costWith distinct having inside kinds t head kept ≤ 65536
+  unfolding costWith
+  cost-low = go (isHeadAt t head)
+    where
+      go : (b : Bool) → cond b (ruleCostIn distinct having inside kinds t head kept) 0 ≤ 65536
+      go true = rule-cost-most distinct having inside kinds t head kept
+      go false = omega arith
+
+module _ (distinct having inside kinds permissions : List ℕ) (operations : ℕ) (t : List ℕ) (head kept : ℕ) where
+  pub seat-head : isHeadAt t head ≡ true → ruleBytesIn distinct having inside kinds permissions operations t head kept ≡ ruleWith distinct having inside kinds permissions operations t head kept
+  unfolding ruleWith
+  seat-head h = sym (ap (λ (b : Bool). cond b (ruleBytesIn distinct having inside kinds permissions operations t head kept) []) h)
+
+  pub seat-none : isHeadAt t head ≡ false → ruleWith distinct having inside kinds permissions operations t head kept ≡ []
+  unfolding ruleWith
+  seat-none h = ap (λ (b : Bool). cond b (ruleBytesIn distinct having inside kinds permissions operations t head kept) []) h
+
+  pub rule-most : length (ruleWith distinct having inside kinds permissions operations t head kept) ≤ 12288
+  unfolding ruleWith
+  rule-most = go (isHeadAt t head)
+    where
+      go : (b : Bool) → length (cond b (ruleBytesIn distinct having inside kinds permissions operations t head kept) []) ≤ 12288
+      go true = bytes-most distinct having inside kinds permissions operations t head kept
+      go false = omega arith
+
+module _ (kept distinct having inside kinds permissions : List ℕ) (operations : ℕ) (t : List ℕ) where
+  abbrev rule : ℕ → List ℕ
+  rule = ruleAt kept distinct having inside kinds permissions operations t
+
+  abbrev cost : ℕ → ℕ
+  cost = costAt kept distinct having inside kinds t
+
+  -- ---- so many seats
+
+  pub record Counted (bytes rules costs parts i : ℕ) : Type 0 where
+    pub within : i ≤ roleCells
+    pub bytes-so : bytes ≡ length (each (ruleAt kept distinct having inside kinds permissions operations t) (upTo i))
+    pub bytes-low : bytes ≤ 12288 * i
+    pub rules-so : rules ≡ length (keep (isHeadAt t) (upTo i))
+    pub rules-low : rules ≤ i
+    pub costs-so : costs ≡ sum (costAt kept distinct having inside kinds t) (upTo i)
+    pub costs-low : costs ≤ 65536 * i
+    pub parts-so : parts ≡ length (keep (isPartAt t) (upTo i))
+    pub parts-low : parts ≤ i
+
+  pub counted-none : Counted 0 0 0 0 0
+  counted-none = record { within = omega arith; bytes-so = refl; bytes-low = omega arith; rules-so = refl; rules-low = omega arith; costs-so = refl; costs-low = omega arith; parts-so = refl; parts-low = omega arith }
+
+  kept-more : (p : ℕ → Bool) (i : ℕ) → length (keep p (upTo (i + 1))) ≡ length (keep p (upTo i)) + cond (p i) 1 0
+  kept-more p i = ap length (keep-more p i) ∙ length-append (keep p (upTo i)) (only (p i) i) ∙ ap (λ (k : ℕ). length (keep p (upTo i)) + k) (one (p i))
+    where
+      one : (b : Bool) → length (only b i) ≡ cond b 1 0
+      one true = refl
+      one false = refl
+
+  pub counted-more : (b r c p i db dr dc dp : ℕ) → Counted b r c p i → i < roleCells → db ≡ length (rule i) → dr ≡ cond (isHeadAt t i) 1 0 → dc ≡ cost i → dp ≡ cond (isPartAt t i) 1 0 → Counted (b + db) (r + dr) (c + dc) (p + dp) (i + 1)
+  counted-more b r c p i db dr dc dp n l e f g h =
+      let m = rule-most distinct having inside kinds permissions operations t i (getD kept i 0) in
+      let o = cost-low distinct having inside kinds t i (getD kept i 0) in
+      let x = flag-low (isHeadAt t i) in
+      let y = flag-low (isPartAt t i) in
+      let q = n .bytes-low in
+      let u = n .rules-low in
+      let v = n .costs-low in
+      let w = n .parts-low in
+      record {
+        within = omega arith;
+        bytes-so = ap₂ _+_ (n .bytes-so) e ∙ sym (ap length (each-more rule i) ∙ length-append (each rule (upTo i)) (rule i));
+        bytes-low = omega arith;
+        rules-so = ap₂ _+_ (n .rules-so) f ∙ sym (kept-more (isHeadAt t) i);
+        rules-low = omega arith;
+        costs-so = ap₂ _+_ (n .costs-so) g ∙ sym (sum-more cost i);
+        costs-low = omega arith;
+        parts-so = ap₂ _+_ (n .parts-so) h ∙ sym (kept-more (isPartAt t) i);
+        parts-low = omega arith;
+      }
+
+  pub counted-end : (b r c p i : ℕ) → Counted b r c p i → i ≡ roleCells
+      → record { bytes = b + 1; rules = r; cost = c; parts = p } ≡ measuredOf kept distinct having inside kinds permissions operations t
+  unfolding measuredOf fileBytes
+  counted-end b r c p i n e =
+      let long : b + 1 ≡ length (each rule (upTo roleCells) ++ (0x2F ∷ [])) = ap (λ (k : ℕ). k + 1) (n .bytes-so ∙ ap (λ (k : ℕ). length (each rule (upTo k))) e) ∙ sym (length-append (each rule (upTo roleCells)) (0x2F ∷ [])) in
+      let ruled : r ≡ length (keep (isHeadAt t) (upTo roleCells)) = n .rules-so ∙ ap (λ (k : ℕ). length (keep (isHeadAt t) (upTo k))) e in
+      let costed : c ≡ sum cost (upTo roleCells) = n .costs-so ∙ ap (λ (k : ℕ). sum cost (upTo k)) e in
+      let parted : p ≡ length (keep (isPartAt t) (upTo roleCells)) = n .parts-so ∙ ap (λ (k : ℕ). length (keep (isPartAt t) (upTo k))) e in
+      made long ruled costed parted
+    where
+      made : {b r c p x y z w : ℕ} → b ≡ x → r ≡ y → c ≡ z → p ≡ w → _≡_ {A = Measured} (record { bytes = b; rules = r; cost = c; parts = p }) (record { bytes = x; rules = y; cost = z; parts = w })
+      made e f g h = rw (e, f, g, h) refl
+
+  -- ---- the end of writing
+
+  -- behind all rules there is room for the last byte, and with it the file is written
+  pub file-room : (o : List ℕ) → length (fileBytes kept distinct having inside kinds permissions operations t) ≤ length o → length (each (ruleAt kept distinct having inside kinds permissions operations t) (upTo roleCells)) < length o
+  unfolding fileBytes
+  file-room o h = let e = length-append (each rule (upTo roleCells)) (0x2F ∷ []) in omega arith
+
+  pub file-written : (o out : List ℕ) (at : ℕ) → length (fileBytes kept distinct having inside kinds permissions operations t) ≤ length o
+      → at ≡ length (each (ruleAt kept distinct having inside kinds permissions operations t) (upTo roleCells)) → out ≡ wrote (each (ruleAt kept distinct having inside kinds permissions operations t) (upTo roleCells)) o
+      → set out at 0x2F ≡ wrote (fileBytes kept distinct having inside kinds permissions operations t) o
+  unfolding fileBytes
+  file-written o out at h e f = ap₂ (λ (l : List ℕ) (k : ℕ). set l k 0x2F) f e ∙ end-written (each rule (upTo roleCells)) o 0x2F h
+
+  pub file-ended : (o out : List ℕ) (at i : ℕ) → Runs (ruleAt kept distinct having inside kinds permissions operations t) roleCells o out at i → i ≡ roleCells → length (fileBytes kept distinct having inside kinds permissions operations t) ≤ length o
+      → (at < length out) × (set out at 0x2F ≡ wrote (fileBytes kept distinct having inside kinds permissions operations t) o) × (length (set out at 0x2F) ≡ length o)
+  file-ended o out at i w e h =
+      let r = runs-end rule roleCells o out at i e w in
+      let f = file-written o out at h (r .0) (r .1) in
+      let k = file-room o h in
+      let l = w .long in
+      let x = r .0 in
+      (omega (arith, k, l, x), f, ap length f ∙ length-wrote (fileBytes kept distinct having inside kinds permissions operations t) o h)
