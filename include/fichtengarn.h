@@ -32,6 +32,13 @@
  *
  * Lengths of files and of output are in bytes, that of scratch is in words of 64 bits. Users,
  * resources, operations, roles, rules and parts are numbered from 0.
+ *
+ * Attributes have domains. In a role file command 08 (side, kind, domain, a byte each) declares an
+ * attribute with its domain, 0 to 255, and 02 (side, kind) one of domain 0; both stand directly
+ * behind 01, 02 or 08, and there are at most 6 of them a side. An atom of a rule, command 27, joins
+ * a user attribute and a resource attribute only if their domains are equal: mining writes no other,
+ * and reading refuses another by 13. Conditions on one side alone, commands 22 to 25, do not look at
+ * domains.
  */
 #ifndef FICHTENGARN_H
 #define FICHTENGARN_H
@@ -65,8 +72,8 @@ enum {
     FICHTENGARN_RULES_CUT_OFF = 10, /* it ends inside operands or before 2F */
     FICHTENGARN_RULES_UNKNOWN = 11, /* a byte that is no command */
     FICHTENGARN_RULES_ORDER = 12,   /* out of order, missing or repeated, or a byte after the end */
-    FICHTENGARN_RULES_OPERAND = 13  /* an operand beyond its size or of the wrong kind, no operation,
-                                       or no part of the role file */
+    FICHTENGARN_RULES_OPERAND = 13  /* an operand beyond its size or of the wrong kind, an atom across
+                                       domains, no operation, or no part of the role file */
 };
 
 /* Sizes of the memory that mining is lent. Output is as long as the caller likes. */
@@ -152,7 +159,8 @@ enum {
  * The rule file is read without refusal beside its role file. Its rules grant a triple exactly when
  * the roles do. Every part is listed under exactly one rule, which grants what its parts do. No rule
  * of a lower level could grant what a rule of the file does; no single rule, of a level no higher
- * than the higher of two, could grant what both do; and nothing could be struck from a rule.
+ * than the higher of two, could grant what both do; and nothing could be struck from a rule. Rules
+ * with atoms across domains are none here.
  *
  * Scratch may hold anything before, and holds anything after. Stack: 110 KB.
  */

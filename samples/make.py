@@ -13,7 +13,8 @@ statement a line. Users, resources, operations, roles and attributes are named, 
 they are named:
 
     users NAME ...            resources NAME ...        operations NAME ...       roles NAME ...
-    user attribute NAME single|set                      resource attribute NAME single|set
+    user attribute NAME single|set [domain DOMAIN]      resource attribute NAME single|set [domain DOMAIN]
+    domain NAME NUMBER        a name for a domain, a number from 0 to 255
     value NAME NUMBER         a name for a number, for use as a value or an element
     USER ATTRIBUTE VALUE      a value of a user or a resource; of a set attribute: { ELEMENT ... }
     ROLE held by USER ...     assignments
@@ -22,6 +23,10 @@ they are named:
 
 A name is declared above its use. It is made of letters, digits and . : / @ _ + - and is no number and none of the words in
 small letters above. Statements begin with users, resources and roles, so none of these has the name of another.
+
+Values of all attributes are numbers, and a rule may ask that a user's attribute equals a resource's, or contains it, but only if
+both have the same domain. So attributes whose numbers have nothing to do with each other, as region 7 and model 7, get different
+domains. An attribute with a domain is declared by command 08, one without by 02, which means domain 0.
 
 The commands are written in the order of the statements, behind the sizes and the attributes.
 """
@@ -40,12 +45,15 @@ MOST = {"users": 64, "resources": 64, "operations": 16, "roles": 32}
 MOST_ATTRIBUTES = 6
 LAST_VALUE = 65535
 LAST_ELEMENT = 63
+LAST_DOMAIN = 255
 MOST_BYTES = 65535
 
 SIDES = ["user", "resource"]
 KINDS = ["single", "set"]
 BEGINNERS = ["users", "resources", "roles"]
-KEYWORDS = {*MOST, *SIDES, *KINDS, "attribute", "value", "held", "by", "may", "on", "above"}
+# What else may be named, with its last number.
+NAMED = {"value": LAST_VALUE, "domain": LAST_DOMAIN}
+KEYWORDS = {*MOST, *SIDES, *KINDS, *NAMED, "attribute", "held", "by", "may", "on", "above"}
 NAME = re.compile(r"[\w.:/@+-]+")
 NUMBER = re.compile(r"[+-]?\d+")
 HEXADECIMAL = re.compile(r"([0-9A-Fa-f]{2})+")
@@ -76,7 +84,7 @@ class Roles:
     def __init__(self):
         self.numbers = {kind: {} for kind in MOST}
         self.attributes = {side: {} for side in SIDES}
-        self.values = {}
+        self.named = {what: {} for what in NAMED}
         self.given = set()
         self.below = collections.defaultdict(set)
         self.commands = b""
@@ -87,7 +95,7 @@ class Roles:
 
     def made(self):
         sizes = bytes([0x01] + [len(self.numbers[kind]) for kind in MOST])
-        declared = [bytes([0x02, SIDES.index(side), kind]) for side in SIDES for _, kind in self.attributes[side].values()]
+        declared = [command for side in SIDES for _, _, command in self.attributes[side].values()]
         return sizes + b"".join(declared) + self.commands + bytes([0x0F])
 
     def statement(self, first, words):
@@ -95,8 +103,8 @@ class Roles:
             return self.declare(first, words)
         if first in SIDES:
             return self.declare_attribute(first, words)
-        if first == "value":
-            return self.name_value(words)
+        if first in NAMED:
+            return self.name_number(first, words)
         if first in self.numbers["roles"]:
             return self.say_of_role(first, words)
         for side in SIDES:
@@ -117,20 +125,22 @@ class Roles:
         return b""
 
     def declare_attribute(self, side, words):
-        need_form(len(words) == 3 and words[0] == "attribute" and words[2] in KINDS, f"{side} attribute NAME single|set")
-        declared, name = self.attributes[side], words[1]
+        form = f"{side} attribute NAME single|set [domain DOMAIN]"
+        need_form(len(words) in (3, 5) and words[0] == "attribute" and words[2] in KINDS and words[3:4] in ([], ["domain"]), form)
+        declared, name, kind = self.attributes[side], words[1], KINDS.index(words[2])
         need_name(name)
         need(name not in declared, f"{name!r} is already a {side} attribute")
-        declared[name] = len(declared), KINDS.index(words[2])
+        domain = [self.number(word, "domain", "a domain", LAST_DOMAIN) for word in words[4:]]
+        declared[name] = len(declared), kind, bytes([0x08 if domain else 0x02, SIDES.index(side), kind, *domain])
         need(len(declared) <= MOST_ATTRIBUTES, f"too many {side} attributes: a role file has at most {MOST_ATTRIBUTES} a side")
         return b""
 
-    def name_value(self, words):
-        need_form(len(words) == 2 and NUMBER.fullmatch(words[1]), "value NAME NUMBER")
+    def name_number(self, what, words):
+        need_form(len(words) == 2 and NUMBER.fullmatch(words[1]), f"{what} NAME NUMBER")
         name, number = words
         need_name(name)
-        need(name not in self.values, f"{name!r} is already the name of a value")
-        self.values[name] = self.number(number, "a value", LAST_VALUE)
+        need(name not in self.named[what], f"{name!r} is already the name of a {what}")
+        self.named[what][name] = self.number(number, what, f"a {what}", NAMED[what])
         return b""
 
     # ---- values
@@ -141,23 +151,25 @@ class Roles:
         need(name in self.attributes[side], f"{name!r} is no {side} attribute declared above")
         need((who, name) not in self.given, f"{who!r} already has a value of {name!r}")
         self.given.add((who, name))
-        attribute, kind = self.attributes[side][name]
+        attribute, kind, _ = self.attributes[side][name]
         value = [self.single, self.set][kind](name, words[1:])
         return bytes([0x03 + kind, SIDES.index(side), attribute, self.numbers[side + "s"][who]]) + value
 
     def single(self, name, words):
         need(len(words) == 1, f"{name!r} is single and takes one value")
-        return self.number(words[0], "a value", LAST_VALUE).to_bytes(2, "little")
+        return self.number(words[0], "value", "a value", LAST_VALUE).to_bytes(2, "little")
 
     def set(self, name, words):
         need(words[0] == "{" and words[-1] == "}", f"{name!r} is a set and takes {{ ELEMENT ... }}")
-        elements = {self.number(word, "an element", LAST_ELEMENT) for word in words[1:-1]}
+        elements = {self.number(word, "value", "an element", LAST_ELEMENT) for word in words[1:-1]}
         return sum(1 << element for element in elements).to_bytes(8, "little")
 
-    def number(self, word, what, last):
-        need(word in self.values or NUMBER.fullmatch(word), f"{word!r} is no number, and no value named above")
+    def number(self, word, named, what, last):
+        """What a word stands for: a number, or the name of a value or domain."""
+        names = self.named[named]
+        need(word in names or NUMBER.fullmatch(word), f"{word!r} is no number, and no {named} named above")
         # Python takes no number of thousands of digits; -1 is as far beyond the limit.
-        number = self.values[word] if word in self.values else int(word) if len(word) < 100 else -1
+        number = names[word] if word in names else int(word) if len(word) < 100 else -1
         need(0 <= number <= last, f"{word!r} is beyond the limit: {what} is a number from 0 to {last}")
         return number
 

@@ -36,6 +36,7 @@ from rolefiles import (
     CHAIN_DOWN,
     CHAIN_UP,
     END,
+    EQUAL_DOMAINS,
     EXAMPLE_A,
     FULL,
     INHERITS,
@@ -45,6 +46,7 @@ from rolefiles import (
     ONE_PART,
     SETS,
     TWO_PARTS,
+    UNEQUAL_DOMAINS,
     assign,
     declare,
     each_once,
@@ -55,6 +57,7 @@ from rolefiles import (
     random_numbers,
     single,
     sizes,
+    with_domains,
 )
 from secondminer import Folder, told
 
@@ -100,9 +103,9 @@ def given(side, attribute, kind, values):
 def policy(users, resources, roles, operations=1, lines=()):
     """A role file.
 
-    users and resources are lists of attributes, each its kind and the values by who, or the
-    number of them alone if there are no attributes. A role is its users, and its resources by
-    operation.
+    users and resources are lists of attributes, each its kind, the values by who and, where it is
+    declared by 08, its domain; or the number of them alone if there are no attributes. A role is
+    its users, and its resources by operation.
     """
 
     def count(side):
@@ -114,11 +117,11 @@ def policy(users, resources, roles, operations=1, lines=()):
     sides = list(enumerate([attributes(users), attributes(resources)]))
     return joined(
         sizes(count(users), count(resources), operations, len(roles)),
-        *[declare(side, kind) for side, of_side in sides for kind, _ in of_side],
+        *[declare(side, kind, *domain) for side, of_side in sides for kind, _, *domain in of_side],
         *[
             given(side, attribute, kind, values)
             for side, of_side in sides
-            for attribute, (kind, values) in enumerate(of_side)
+            for attribute, (kind, values, *_) in enumerate(of_side)
         ],
         *[assign(role, user) for role, (holders, _) in enumerate(roles) for user in holders],
         *[
@@ -171,6 +174,8 @@ REFUSED = [
     EXAMPLE_A[:-3],
     joined(BOTH_KINDS, NO_COMMAND, END),
     joined(BOTH_KINDS, assign(0, 0), declare(0, 0), END),
+    joined(BOTH_KINDS, assign(0, 0), declare(0, 0, 1), END),
+    joined(BOTH_KINDS, declare(0, 2, 1), END),
     joined(EXAMPLE_A, END),
     joined(BOTH_KINDS, assign(2, 0), END),
     joined(sizes(1, 1, 17, 1), END),
@@ -290,6 +295,78 @@ def atoms():
             of_resources = [(SINGLE, [1, 2 if a == resource_attribute else 1]) for a in range(6)]
             yield from mined(pairs(of_users, of_resources, (0, 0), (1, 1)))
             yield from mined(one_role(of_users, of_resources, [0], [0]))
+
+
+def with_domain(attribute, domain):
+    """The attribute with this domain, None for 02."""
+    return attribute if domain is None else (*attribute, domain)
+
+
+def domains():
+    """Atoms over attributes of equal domains and of others: which are kept, which merges they make, what stands in their place."""
+    for pair in EQUAL_DOMAINS + UNEQUAL_DOMAINS:
+        yield from mined(with_domains(*pair), SHORT, EXACT, Beyond(2))
+    # the three forms, each true of a pair or of three pairs; then the form that is none
+    three = [elements(3), elements(4), elements(5)]
+    for user_attribute, resource_attribute in [
+        ((SINGLE, [3, 4, 5]), (SINGLE, [3, 4, 5])),
+        ((SET, three), (SINGLE, [3, 4, 5])),
+        ((SET, three), (SET, three)),
+        ((SINGLE, [3, 4, 5]), (SET, three)),
+    ]:
+        for user_domain, resource_domain in [(None, None), (0, None), (9, 9), (9, None), (None, 9), (8, 9)]:
+            users = [with_domain(user_attribute, user_domain)]
+            resources = [with_domain(resource_attribute, resource_domain)]
+            yield from mined(one_role(users, resources, [0], [0]))
+            yield from mined(pairs(users, resources, (0, 0), (1, 1)))
+            yield from mined(pairs(users, resources, (2, 2), (1, 1), (0, 0)))
+            yield from mined(pairs(users, resources, (0, 0), (1, 1), (2, 2), (0, 1)))
+    # region 7 and model 7: the region of users may be joined with that of resources, but not with their model
+    region, model = (SINGLE, [7, 8, 9]), (SINGLE, [7, 8, 9])
+    for of_users, of_regions, of_models in [(1, 1, 2), (1, 2, 1), (1, 1, 1), (1, 2, 3), (0, 0, 1), (0, 1, 0)]:
+        users = [with_domain(region, of_users)]
+        for resources in [
+            [with_domain(region, of_regions), with_domain(model, of_models)],
+            [with_domain(model, of_models), with_domain(region, of_regions)],
+            [with_domain(model, of_models)],
+        ]:
+            yield from mined(pairs(users, resources, (0, 0), (1, 1)))
+            yield from mined(pairs(users, resources, (0, 0), (1, 1), (2, 2)))
+            yield from mined(one_role(users, resources, [0], [0]))
+    # an atom is struck where another will do, and kept where that one has become none
+    for of_users in [[1, 1], [1, 2], [2, 1], [2, 2], [3, None]]:
+        for of_resources in [[1, 1], [1, 2], [2, 1], [2, 2], [None, 3]]:
+            users = [with_domain((SINGLE, [5, 7]), domain) for domain in of_users]
+            resources = [with_domain((SINGLE, [5, 7]), domain) for domain in of_resources]
+            yield from mined(pairs(users, resources, (0, 0), (1, 1)))
+            yield from mined(one_role(users, [(SINGLE, [5], domain or 0) for domain in of_resources], [0], [0]))
+    # twelve attributes of several domains, single and of both kinds
+    for kinds in [[SINGLE] * 6, [SINGLE, SET] * 3, [SET] * 6]:
+        values = {SINGLE: [1, 2], SET: [elements(1), elements(2)]}
+        for of_users, of_resources in [
+            ([0] * 6, [0] * 6),
+            ([0] * 6, [1] * 6),
+            ([0, 1, 2, 3, 4, 5], [0, 1, 2, 3, 4, 5]),
+            ([0, 1, 2, 3, 4, 5], [5, 4, 3, 2, 1, 0]),
+            ([0, 1, 2, 3, 4, 5], [1, 2, 3, 4, 5, 6]),
+            ([None, 0, 1, 1, 255, 254], [254, 255, 1, 2, None, 0]),
+            ([1, 1, 1, 2, 2, 2], [2, 2, 2, 1, 1, 1]),
+            ([7, None, 7, None, 7, None], [None, 7, None, 7, None, 7]),
+            ([255] * 6, [0, 0, 0, 0, 0, 255]),
+            ([255, 0, 0, 0, 0, 0], [255, 1, 1, 1, 1, 1]),
+        ]:
+            users = [with_domain((kind, values[kind]), domain) for kind, domain in zip(kinds, of_users)]
+            resources = [with_domain((kind, values[kind]), domain) for kind, domain in zip(kinds, of_resources)]
+            yield from mined(pairs(users, resources, (0, 0), (1, 1)))
+            yield from mined(pairs(users, resources, (1, 0), (0, 1)))
+            yield from mined(one_role(users, resources, [0], [0]))
+    # a union that fits only by the atom, at each level
+    for domain in [None, 1]:
+        for of_users, of_resources in [([5, 7, None], [5, 7]), ([5, 7], [5, 7, None]), ([5, 7, None], [5, 7, None])]:
+            users, resources = [with_domain((SINGLE, of_users), domain)], [(SINGLE, of_resources)]
+            last = (len(of_users) - 1, len(of_resources) - 1)
+            yield from mined(pairs(users, resources, (0, 0), (1, 1), last))
+            yield from mined(pairs(users, resources, last, (1, 1), (0, 0)))
 
 
 def unknown_values():
@@ -513,6 +590,7 @@ GROUPS = [
     sizes_at_limits,
     levels,
     atoms,
+    domains,
     unknown_values,
     larger_sets,
     striking,

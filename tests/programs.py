@@ -21,7 +21,7 @@ import tempfile
 
 # no files beside this one are left
 sys.dont_write_bytecode = True
-from rolefiles import END, EXAMPLE_A, NOBODY, assign, declare, joined, line, members, permit, single, sizes
+from rolefiles import END, EXAMPLE_A, NOBODY, NO_COMMAND, assign, declare, joined, line, members, permit, single, sizes
 
 HERE = os.path.dirname(os.path.abspath(__file__))
 SAMPLES = os.path.join(os.path.dirname(HERE), "samples")
@@ -53,14 +53,14 @@ MEANING = {
     10: "the rule file is cut off",
     11: "the rule file has an unknown command",
     12: "the rule file has a byte after its end or a command out of order, missing or repeated",
-    13: "the rule file has an operand beyond its size or of the wrong kind, a zero operation set, or a part that the role file does not have",
+    13: "the rule file has an operand beyond its size or of the wrong kind, an atom across domains, a zero operation set, or a part that the role file does not have",
 }
 
 # Role files that reading refuses, by the number.
 REFUSED_ROLES = {
     1: EXAMPLE_A + bytes(65536 - len(EXAMPLE_A)),
     2: EXAMPLE_A[:-1],
-    3: EXAMPLE_A[:5] + b"\x08" + EXAMPLE_A[5:],
+    3: EXAMPLE_A[:5] + NO_COMMAND + EXAMPLE_A[5:],
     4: EXAMPLE_A + END,
     5: joined(sizes(65, 0, 0, 0), END),
     6: EXAMPLE_A[:-1] + single(0, 0, 0, 5) + END,
@@ -153,9 +153,9 @@ rule 0, level 3: any user may do operations 0, 1 on any resource
   and the resource's attribute 0 is 5
   and the resource is number 0 or number 1
   and the resource's attribute 1 is exactly {1} or exactly {1, 2}
-  and the user's attribute 0 equals the resource's attribute 0
-  and the user's attribute 1 contains the resource's attribute 0
-  and the user's attribute 1 contains all of the resource's attribute 1
+  and the user's attribute 0 equals the resource's attribute 0, both of domain 0
+  and the user's attribute 1 contains the resource's attribute 0, both of domain 0
+  and the user's attribute 1 contains all of the resource's attribute 1, both of domain 0
   in place of role 0 for operations 0, 1
 
 rule 1, level 0: any user may do operation 2 on any resource
@@ -168,7 +168,7 @@ rule 2, level 2: any user may do operation 2 on any resource
 
 BRANCHES_TOLD = """\
 rule 0, level 0: any user may do operation 0 on any resource
-  if the user's attribute 0 equals the resource's attribute 0
+  if the user's attribute 0 equals the resource's attribute 0, both of domain 0
   in place of role 0 for operation 0
   in place of role 1 for operation 0
   in place of role 2 for operation 0
@@ -186,6 +186,18 @@ rule 3, level 1: any user may do operations 0, 1 on any resource
   if the user holds all of the roles {6}
   and the resource's attribute 0 is 303
   in place of role 6 for operations 0, 1
+"""
+
+REGIONS_TOLD = """\
+rule 0, level 0: any user may do operation 0 on any resource
+  if the user's attribute 0 equals the resource's attribute 0, both of domain 1
+  in place of role 0 for operation 0
+  in place of role 1 for operation 0
+
+rule 1, level 0: any user may do operation 1 on any resource
+  if the user's attribute 1 contains the resource's attribute 1, both of domain 2
+  in place of role 2 for operation 1
+  in place of role 3 for operation 1
 """
 
 # Example A's two parts under rules of their own, of which the second grants both; the same with each rule right, and the
@@ -273,6 +285,7 @@ def mined():
         "example-a": "parts 2 rules 1 merges 1 cost 2",
         "hierarchy": "parts 3 rules 3 merges 0 cost 13",
         "provider": "parts 8 rules 4 merges 4 cost 11",
+        "regions": "parts 4 rules 2 merges 2 cost 4",
     }
     for name, printed in counts.items():
         rules = sample(name + ".rules")
@@ -406,13 +419,15 @@ def two_files_wrongly(program):
 
 def judged():
     sound = "verdict 0: roles and rules grant the same, every rule what its parts do, and every part stands under one rule\n"
-    for name in ["branches", "example-a", "hierarchy", "provider"]:
+    for name in ["branches", "example-a", "hierarchy", "provider", "regions"]:
         yield both("judge", sample(name + ".roles"), sample(name + ".rules"), out=sound)
     differ = "verdict 1: user {}, resource {}, operation {} is granted by roles or rules only: {}\n"
     rule_alone, roles_alone = "a rule grants it, the roles do not", "the roles grant it, no rule does"
     yield both("judge", sample("provider.roles"), sample("provider-wide.rules"), out=differ.format(7, 0, 0, rule_alone))
     yield both("judge", sample("provider.roles"), b"\x2f", out=differ.format(0, 0, 0, roles_alone))
     yield both("judge", KINDS, ONE_OF_KINDS, out=differ.format(1, 1, 2, roles_alone))
+    # a rule that ties region to model, because both happened to be 7
+    yield both("judge", sample("regions.roles"), sample("regions-tied.rules"), out=refused(13))
     yield both("judge", EXAMPLE_A, STRAY_RULE, out="verdict 2: rule 1 grants other than its parts\n")
     yield both("judge", EXAMPLE_A, TWICE_LISTED, out="verdict 3: part 1 stands under no rule or several\n")
     yield both("judge", EQUAL_PARTS, NOT_LISTED, out="verdict 3: part 1 stands under no rule or several\n")
@@ -429,6 +444,11 @@ def asked():
         ("hierarchy", True, "0", "2", "2"): "answer 0: no, no rule grants user 0, resource 2, operation 2\n",
         ("provider", True, "005", "3", "02"): "answer 1: yes, some rule grants user 5, resource 3, operation 2\n",
         ("provider", False, "7", "0", "0"): "answer 0: no, the roles do not grant user 7, resource 0, operation 0\n",
+        ("regions", False, "0", "1", "0"): "answer 1: yes, the roles grant user 0, resource 1, operation 0\n",
+        ("regions", True, "0", "1", "0"): "answer 1: yes, some rule grants user 0, resource 1, operation 0\n",
+        ("regions", True, "0", "2", "0"): "answer 0: no, no rule grants user 0, resource 2, operation 0\n",
+        ("regions", True, "3", "2", "1"): "answer 1: yes, some rule grants user 3, resource 2, operation 1\n",
+        ("regions", True, "3", "2", "0"): "answer 0: no, no rule grants user 3, resource 2, operation 0\n",
     }
     # the provider has 8 users, 6 resources and 3 operations
     beyond = [("8", "0", "0"), ("0", "6", "0"), ("0", "0", "3")]
@@ -441,6 +461,9 @@ def asked():
     # the rules that somebody widened grant what the roles do not
     files = {"roles": sample("provider.roles"), "rules": sample("provider-wide.rules")}
     yield Use("ask", "roles", "rules", "7", "0", "0", files=files, out="answer 1: yes, some rule grants user 7, resource 0, operation 0\n")
+    # an atom across domains is refused, whatever is asked
+    files = {"roles": sample("regions.roles"), "rules": sample("regions-tied.rules")}
+    yield Use("ask", "roles", "rules", "0", "1", "0", files=files, out=refused(13))
 
 
 def ask_refusals():
@@ -478,6 +501,8 @@ def ask_wrongly():
 def explained():
     yield both("explain", KINDS, KINDS_RULES, out=KINDS_TOLD)
     yield both("explain", sample("branches.roles"), sample("branches.rules"), out=BRANCHES_TOLD)
+    yield both("explain", sample("regions.roles"), sample("regions.rules"), out=REGIONS_TOLD)
+    yield both("explain", sample("regions.roles"), sample("regions-tied.rules"), out=refused(13))
     yield both("explain", NOBODY, b"\x2f", out="there is no rule: nobody may do anything\n")
 
 

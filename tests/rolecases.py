@@ -27,6 +27,7 @@ from rolefiles import (
     CHAIN_DOWN,
     CHAIN_UP,
     END,
+    EQUAL_DOMAINS,
     EXAMPLE_A,
     FULL,
     INHERITS,
@@ -37,6 +38,7 @@ from rolefiles import (
     ONE_PART,
     SETS,
     TWO_PARTS,
+    UNEQUAL_DOMAINS,
     UNKNOWN,
     assign,
     declare,
@@ -49,6 +51,7 @@ from rolefiles import (
     random_numbers,
     single,
     sizes,
+    with_domains,
     with_operand,
 )
 from secondminer import Folder, told
@@ -112,6 +115,7 @@ WHOLE = [
     assign(0, 0),
     permit(0, 0, 0),
     line(0, 1),
+    declare(0, 0, 1),
     END,
 ]
 
@@ -123,9 +127,10 @@ def places():
         yield from asked(command)
         yield from asked(command[:1])
         yield from asked(command + sizes(2, 2, 2, 2) + END)
-        # 01 a second time, and 02, behind each command
+        # 01 a second time, 02, and 08, behind each command
         yield from asked(joined(BOTH_KINDS, command, sizes(2, 2, 2, 2), END))
         yield from asked(joined(BOTH_KINDS, command, declare(1, 0), END))
+        yield from asked(joined(BOTH_KINDS, command, declare(1, 0, 7), END))
         # behind the end: whole, and its first byte
         yield from asked(joined(BOTH_KINDS, END, command))
         yield from asked(joined(BOTH_KINDS, END, command[:1]))
@@ -136,6 +141,8 @@ def places():
     # 02 out of place with operands beyond: still 4; two steps behind the last 02: still 4
     yield from asked(joined(sizes(1, 1, 1, 1), assign(0, 0), declare(2, 2), END))
     yield from asked(joined(BOTH_KINDS, assign(0, 0), permit(0, 0, 0), declare(0, 0), END))
+    yield from asked(joined(sizes(1, 1, 1, 1), assign(0, 0), declare(2, 2, 2), END))
+    yield from asked(joined(BOTH_KINDS, assign(0, 0), permit(0, 0, 0), declare(0, 0, 0), END))
     # unknown and many bytes behind the end
     for byte in NO_COMMANDS:
         yield from asked(joined(sizes(1, 1, 1, 1), END, bytes([byte])))
@@ -208,6 +215,63 @@ def attributes():
             yield from asked(six + give(side, 5, 0, 9) + END)
             yield from asked(six + give(side, 6, 0, 9) + END)
             yield from asked(six + give(side, 255, 0, 9) + END)
+
+
+def domains():
+    """08: where it stands, its three operands, and the six attributes that it counts among; and what else is as with 02."""
+    # any byte is a domain
+    for domain in [0, 1, 2, 15, 127, 128, 254, 255]:
+        for side in [0, 1]:
+            for kind in [0, 1]:
+                yield from asked(joined(sizes(1, 1, 1, 1), declare(side, kind, domain), END))
+    # side and kind, whatever the domain; cut off is seen only behind a command that passed
+    for domain in [0, 1, 255]:
+        for place in [1, 2]:
+            for value in [0, 1, 2, 255]:
+                command = with_operand(declare(1, 1, domain), place, value)
+                yield from asked(joined(sizes(1, 1, 1, 1), command, END))
+                yield from asked(joined(sizes(1, 1, 1, 1), command))
+    # directly behind 01, 02 and 08 and behind others: cut at each byte, cut before an end that is then an operand, and whole
+    two = [declare(0, 0), declare(1, 1, 9)]
+    for before in [[], *[[one] for one in two], two, two[::-1], *[[*two, command] for command in WHOLE]]:
+        for command in [declare(0, 1, 3), declare(0, 1, 255)]:
+            for length in range(1, len(command) + 1):
+                yield from asked(joined(sizes(2, 2, 2, 2), *before, command[:length]))
+                yield from asked(joined(sizes(2, 2, 2, 2), *before, command[:length], END))
+        yield from asked(joined(sizes(2, 2, 2, 2), *before, declare(0, 1, 3), declare(0, 1), END))
+    # 08 and 02 mixed to six attributes of a side, and to seven
+    for side in [0, 1]:
+        for mask in [0b000001, 0b100000, 0b010101, 0b101010, 0b000111, 0b111110, 0b011111, 0b111111]:
+            each = [declare(side, n % 2, n if mask >> n & 1 else None) for n in range(6)]
+            six = joined(*each)
+            others = joined(*[declare(1 - side, 0, None if mask >> n & 1 else 255) for n in range(6)])
+            yield from asked(joined(sizes(1, 1, 1, 1), six, END))
+            yield from asked(joined(sizes(1, 1, 1, 1), six, others, END))
+            yield from asked(joined(sizes(1, 1, 1, 1), others, six, END))
+            for seventh in [declare(side, 0), declare(side, 0, 0), declare(side, 1, 255)]:
+                yield from asked(joined(sizes(1, 1, 1, 1), six, seventh, END))
+                yield from asked(joined(sizes(1, 1, 1, 1), *each[:5], seventh, END))
+                yield from asked(joined(sizes(1, 1, 1, 1), others, six, seventh, END))
+            # values of all six, by their kinds; of the wrong kind, twice, and of a seventh
+            gives = [[single, members][n % 2](side, n, 0, 9) for n in range(6)]
+            yield from asked(joined(sizes(1, 1, 1, 1), six, *gives, END))
+            for n in [0, 1, 4, 5]:
+                yield from asked(joined(sizes(1, 1, 1, 1), six, [members, single][n % 2](side, n, 0, 9), END))
+                yield from asked(joined(sizes(1, 1, 1, 1), six, gives[n], gives[n], END))
+            yield from asked(joined(sizes(1, 1, 1, 1), six, single(side, 6, 0, 9), END))
+    # the roles grant what they do, whatever the domains
+    for pair in EQUAL_DOMAINS + UNEQUAL_DOMAINS:
+        yield from asked(with_domains(*pair), (0, 0, 0), (0, 1, 0))
+    # before 01, and alone
+    for length in range(1, 5):
+        yield from asked(declare(0, 0, 0)[:length])
+        yield from asked(declare(0, 0, 0)[:length] + END)
+    # an earlier refusal wins, a later one does not
+    for refused in [declare(2, 0, 0), declare(0, 2, 0), declare(0, 0, 0)[:2]]:
+        yield from asked(joined(BOTH_KINDS, assign(2, 0), refused))
+        yield from asked(joined(BOTH_KINDS, NO_COMMAND, refused, END))
+        yield from asked(joined(BOTH_KINDS, refused, NO_COMMAND, END))
+        yield from asked(joined(BOTH_KINDS, line(0, 0), refused, END))
 
 
 def values():
@@ -355,7 +419,7 @@ def random_file(below):
     file = sizes(users, resources, operations, roles)
     kinds = [[below(2) for _ in range(below(3))] for _ in range(2)]
     for side, of_side in enumerate(kinds):
-        file += joined(*[declare(side, kind) for kind in of_side])
+        file += joined(*[declare(side, kind, [None, below(3)][below(2)]) for kind in of_side])
     given = set()
     for _ in range(4 + below(16)):
         choice = below(8)
@@ -396,11 +460,12 @@ def random_files():
 
 
 def each_byte():
-    """Example A with each byte changed in turn."""
-    for place, byte in enumerate(EXAMPLE_A):
-        for other in [0x00, 0x0F, (byte + 1) % 256]:
-            if other != byte:
-                yield from asked(EXAMPLE_A[:place] + bytes([other]) + EXAMPLE_A[place + 1 :])
+    """Example A, with 02 and with 08, and each byte of it changed in turn."""
+    for file in [EXAMPLE_A, with_domains(3, 3)]:
+        for place, byte in enumerate(file):
+            for other in [0x00, 0x0F, (byte + 1) % 256]:
+                if other != byte:
+                    yield from asked(file[:place] + bytes([other]) + file[place + 1 :])
 
 
 GROUPS = [
@@ -410,6 +475,7 @@ GROUPS = [
     places,
     operands,
     attributes,
+    domains,
     values,
     order,
     circles,

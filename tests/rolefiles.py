@@ -4,19 +4,20 @@ cases use, and what else the makers of cases have in common."""
 # ---- commands of a role file
 
 END = bytes([0x0F])
-COMMANDS = [0x01, 0x02, 0x03, 0x04, 0x05, 0x06, 0x07, 0x0F]
+COMMANDS = [0x01, 0x02, 0x03, 0x04, 0x05, 0x06, 0x07, 0x08, 0x0F]
 UNKNOWN = [byte for byte in range(256) if byte not in COMMANDS]
 # A byte that is no command, and some: the first and the last, and those beside commands.
-NO_COMMAND = bytes([0x08])
-NO_COMMANDS = [0x00, 0x08, 0x0E, 0x10, 0xFF]
+NO_COMMAND = bytes([0x09])
+NO_COMMANDS = [0x00, 0x09, 0x0E, 0x10, 0xFF]
 
 
 def sizes(users, resources, operations, roles):
     return bytes([0x01, users, resources, operations, roles])
 
 
-def declare(side, kind):
-    return bytes([0x02, side, kind])
+def declare(side, kind, domain=None):
+    """By 02, or by 08 where a domain is given."""
+    return bytes([0x02, side, kind]) if domain is None else bytes([0x08, side, kind, domain])
 
 
 def single(side, attribute, who, value):
@@ -51,6 +52,16 @@ EXAMPLE_A = bytes.fromhex(
     "03 01 00 00 05 00 03 01 00 01 07 00 05 00 00 05 01 01 06 00 00 00 06 01 01 00 0F"
 )
 
+
+def with_domains(user_domain, resource_domain):
+    """Example A with these domains of its two attributes, None for 02."""
+    return joined(EXAMPLE_A[:5], declare(0, 0, user_domain), declare(1, 0, resource_domain), EXAMPLE_A[11:])
+
+
+# Pairs of domains that are equal, 02 and 08 with 0 being the same, and pairs that are not.
+EQUAL_DOMAINS = [(None, 0), (0, None), (0, 0), (1, 1), (7, 7), (255, 255)]
+UNEQUAL_DOMAINS = [(None, 1), (1, None), (0, 1), (1, 0), (1, 2), (7, 5), (5, 7), (0, 255), (255, 254), (127, 255), (0, 128)]
+
 NOBODY = joined(sizes(0, 0, 0, 0), END)
 
 # No attributes, role 0 with user 0 and resource 0.
@@ -81,6 +92,8 @@ BOTH_KINDS = joined(sizes(2, 2, 2, 2), declare(0, 0), declare(0, 1), declare(1, 
 # Every command of a role file once or more, with some of the largest values.
 ALL_KINDS = joined(
     BOTH_KINDS,
+    declare(0, 0, 1),
+    declare(1, 1, 255),
     single(0, 0, 0, 65535),
     single(1, 0, 1, 256),
     members(0, 1, 1, 2**64 - 1),

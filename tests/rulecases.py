@@ -37,6 +37,7 @@ from rolefiles import (
     CHAIN_DOWN,
     CHAIN_UP,
     END as END_OF_ROLES,
+    EQUAL_DOMAINS,
     EXAMPLE_A,
     FULL,
     INHERITS,
@@ -46,6 +47,7 @@ from rolefiles import (
     ONE_PART,
     SETS,
     TWO_PARTS,
+    UNEQUAL_DOMAINS,
     assign,
     declare,
     each_once,
@@ -57,6 +59,7 @@ from rolefiles import (
     random_numbers,
     single,
     sizes,
+    with_domains,
     with_operand,
 )
 from secondminer import Folder, told
@@ -840,16 +843,19 @@ def verdicts_in_order():
         yield from asked(BASE, filed(*rules), (0, 0, 1))
 
 
-def paired(kinds, user_values, resource_values):
-    """A role file of one attribute a side with these values, None for unknown; user 0 has role 0, with resource 0."""
+def paired(kinds, user_values, resource_values, domains=(None, None)):
+    """A role file of one attribute a side with these values, None for unknown; user 0 has role 0, with resource 0.
+
+    The domains are None for 02.
+    """
     values = []
     for side, given in enumerate([user_values, resource_values]):
         give = [single, members][kinds[side]]
         values += [give(side, 0, who, value) for who, value in enumerate(given) if value is not None]
     return joined(
         sizes(len(user_values), len(resource_values), 1, 1),
-        declare(0, kinds[0]),
-        declare(1, kinds[1]),
+        declare(0, kinds[0], domains[0]),
+        declare(1, kinds[1], domains[1]),
         *values,
         assign(0, 0),
         permit(0, 0, 0),
@@ -897,6 +903,96 @@ def atoms():
     for mask in range(8):
         lines = [atom(*pair) for n, pair in enumerate(pairs) if mask >> n & 1]
         yield from asked(two, filed(rule(operations(0b1), *lines, part(0, 0b1))), *every(two))
+
+
+# Six attributes a side, single and set in turn, with domains of which some are equal, None for 02; the last user and resource
+# have the same values in all of them.
+USER_DOMAINS = [None, 1, 2, 2, 255, 0]
+RESOURCE_DOMAINS = [2, 0, 1, 255, None, 2]
+TWELVE = joined(
+    sizes(64, 64, 16, 32),
+    *[declare(0, n % 2, domain) for n, domain in enumerate(USER_DOMAINS)],
+    *[declare(1, n % 2, domain) for n, domain in enumerate(RESOURCE_DOMAINS)],
+    *[[single, members][n % 2](side, n, 63, 7) for n in range(6) for side in [0, 1]],
+    assign(31, 63),
+    permit(31, 63, 15),
+    END_OF_ROLES,
+)
+
+
+def domains():
+    """Refusal 13 for an atom across domains, in each form; equal values are no excuse, and conjuncts do not look at domains."""
+    yield from asked(EXAMPLE_A, RULES_OF_A)
+    by_values = filed(
+        *[
+            rule(user_single(0, value), resource_single(0, value), operations(0b1), part(role, 0b1))
+            for role, value in enumerate([5, 7])
+        ]
+    )
+    for pair in EQUAL_DOMAINS + UNEQUAL_DOMAINS:
+        yield from asked(with_domains(*pair), RULES_OF_A, (0, 0, 0), (0, 1, 0))
+        yield from asked(with_domains(*pair), by_values, (0, 0, 0), (0, 1, 0))
+    # the three forms and the one that is none, with values of which the atom is true
+    one = rule(operations(0b1), atom(0, 0), part(0, 0b1))
+    for kinds, user_values, resource_values in [
+        ((1, 1), [elements(1, 2), elements(3)], [elements(1, 2), elements(3)]),
+        ((1, 0), [elements(5, 7), elements(7)], [7, 5]),
+        ((0, 0), [7, 65535], [7, 65535]),
+        ((0, 1), [7, 5], [elements(7), elements(5)]),
+    ]:
+        for pair in [(None, None), (None, 0), (9, 9), (None, 9), (9, 0), (8, 9)]:
+            roles = paired(kinds, user_values, resource_values, pair)
+            yield from asked(roles, filed(one), *every(roles))
+            # only part of a rule, and behind a whole one
+            yield from asked(roles, joined(OPEN, atom(0, 0)))
+            yield from asked(roles, filed(OF_SETS, one))
+    # where the kind is tested: behind 10, 11 and 12 of its command, before those of the next, and before 5 of the question
+    across = paired((0, 0), [7], [7], (1, 2))
+    for rules in [
+        atom(0, 0),
+        joined(OPEN, atom(0, 0)[:2]),
+        joined(OPEN, part(0, 0b1), atom(0, 0)),
+        joined(END, atom(0, 0)),
+        joined(OPEN, atom(0, 0), NO_COMMAND),
+        joined(OPEN, atom(0, 0), atom(0, 0)),
+        joined(OPEN, atom(0, 0), END),
+        joined(OPEN, atom(0, 0), part(9, 9)),
+        joined(OPEN, operations(0), atom(0, 0)),
+        joined(OPEN, atom(0, 1)),
+        joined(OPEN, atom(1, 0)),
+        joined(OPEN, atom(OWN, 0)),
+        joined(OPEN, atom(0, OWN)),
+    ]:
+        yield from asked(across, rules, (0, 0, 0), (1, 1, 1))
+    # an attribute has its own domain, whatever those before and behind it have; all 36 atoms
+    for number in range(6):
+        for other in range(6):
+            rules = filed(in_rule(atom(number, other), elements(15), LAST_PART))
+            yield from asked(TWELVE, rules, (63, 63, 15))
+    # all that are legal, together, and one of another domain among them
+    legal = [
+        atom(number, other)
+        for number, domain in enumerate(USER_DOMAINS)
+        for other, of_resource in enumerate(RESOURCE_DOMAINS)
+        if (domain or 0) == (of_resource or 0) and (number % 2, other % 2) != (0, 1)
+    ]
+    ends = [operations(elements(15)), LAST_PART]
+    yield from asked(TWELVE, filed(rule(ends[0], *legal, ends[1])), (63, 63, 15), (63, 62, 15), (62, 63, 15))
+    for added in [atom(1, 1), atom(2, 2), atom(4, 4), atom(5, 5)]:
+        yield from asked(TWELVE, filed(rule(ends[0], *sorted({*legal, added}), ends[1])), (63, 63, 15))
+    # the same numbers of attributes the other way round
+    for pair in [(1, 2), (2, 1)]:
+        declared = [declare(0, 0, 1), declare(0, 0, 2), *[declare(1, 0, domain) for domain in pair]]
+        values = [single(side, n, 0, 7) for side in [0, 1] for n in [0, 1]]
+        roles = joined(sizes(1, 1, 1, 1), *declared, *values, assign(0, 0), permit(0, 0, 0), END_OF_ROLES)
+        for number in [0, 1]:
+            for other in [0, 1]:
+                yield from asked(roles, filed(in_rule(atom(number, other), 0b1, part(0, 0b1))))
+    # a role file that 08 has refused
+    for command in [declare(2, 0, 0), declare(0, 2, 0), declare(0, 0, 0)[:3], joined(assign(0, 0), declare(0, 0, 0))]:
+        roles = joined(sizes(1, 1, 1, 1), command)
+        yield from asked(roles, filed(OF_SETS))
+        yield from asked(roles + END_OF_ROLES, filed(OF_SETS))
 
 
 def conjuncts():
@@ -1031,7 +1127,8 @@ def rules_in(file):
 def mined(second_miner):
     """Files mined by the second miner: as they are, with a rule left out, repeated or moved, and beside other files."""
     of_01 = [EXAMPLE_A, NOBODY, ONE_OF_TWO, INHERITS, TWO_PARTS, ONE_PART, SETS]
-    roles_of = [*of_01, BASE, FULL, CHAIN_UP, CHAIN_DOWN, CLASSES, TWO_OF_EACH, COVERED, LARGEST]
+    with_08 = [with_domains(3, 3), with_domains(None, 3), TWELVE]
+    roles_of = [*of_01, *with_08, BASE, FULL, CHAIN_UP, CHAIN_DOWN, CLASSES, TWO_OF_EACH, COVERED, LARGEST]
     with tempfile.TemporaryDirectory() as path:
         folder = Folder(path)
         names = [folder.file(roles) for roles in roles_of]
@@ -1131,6 +1228,7 @@ GROUPS = [
     stray_parts,
     verdicts_in_order,
     atoms,
+    domains,
     conjuncts,
     seniority,
     many,

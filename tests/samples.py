@@ -35,6 +35,7 @@ user attribute region single
 user attribute tariffs set
 resource attribute region single
 value north 1
+domain places 7
 """
 
 HELD = "a line of this kind reads: ROLE held by USER ..."
@@ -44,9 +45,10 @@ VERBS = "behind the role 'desk' stands held by, may or above"
 USER_VALUE = "a line of this kind reads: USER ATTRIBUTE VALUE"
 SINGLE = "'region' is single and takes one value"
 SET = "'tariffs' is a set and takes { ELEMENT ... }"
-USER_ATTRIBUTE = "a line of this kind reads: user attribute NAME single|set"
-RESOURCE_ATTRIBUTE = "a line of this kind reads: resource attribute NAME single|set"
+USER_ATTRIBUTE = "a line of this kind reads: user attribute NAME single|set [domain DOMAIN]"
+RESOURCE_ATTRIBUTE = "a line of this kind reads: resource attribute NAME single|set [domain DOMAIN]"
 VALUE = "a line of this kind reads: value NAME NUMBER"
+DOMAIN = "a line of this kind reads: domain NAME NUMBER"
 
 
 def no_value(word):
@@ -57,8 +59,12 @@ def no_element(word):
     return f"{word!r} is beyond the limit: an element is a number from 0 to 63"
 
 
-def no_number(word):
-    return f"{word!r} is no number, and no value named above"
+def no_domain(word):
+    return f"{word!r} is beyond the limit: a domain is a number from 0 to 255"
+
+
+def no_number(word, named="value"):
+    return f"{word!r} is no number, and no {named} named above"
 
 
 def none_of(kind, word):
@@ -205,6 +211,48 @@ FAULTS = [
         "".join(f"resource attribute n{number} set\n" for number in range(5)) + "resource attribute age single",
         "too many resource attributes: a role file has at most 6 a side",
     ),
+    (
+        "".join(f"user attribute n{number} set domain {number}\n" for number in range(4)) + "user attribute age single",
+        "too many user attributes: a role file has at most 6 a side",
+    ),
+    (
+        "".join(f"user attribute n{number} set\n" for number in range(4)) + "user attribute age single domain 5",
+        "too many user attributes: a role file has at most 6 a side",
+    ),
+    # domains
+    ("user attribute age single domain", USER_ATTRIBUTE),
+    ("user attribute age single domain 5 6", USER_ATTRIBUTE),
+    ("user attribute age single 5", USER_ATTRIBUTE),
+    ("user attribute age single in 5", USER_ATTRIBUTE),
+    ("user attribute age domain 5", USER_ATTRIBUTE),
+    ("user attribute age domain 5 single", USER_ATTRIBUTE),
+    ("user domain 5", USER_ATTRIBUTE),
+    ("resource attribute age set domain", RESOURCE_ATTRIBUTE),
+    ("user attribute domain single", "'domain' is a keyword and no name"),
+    ("user attribute region single domain 5", "'region' is already a user attribute"),
+    ("user attribute age single domain 256", no_domain("256")),
+    ("user attribute age single domain -1", no_domain("-1")),
+    ("resource attribute age set domain 65535", no_domain("65535")),
+    ("user attribute age single domain " + 5000 * "9", no_domain(5000 * "9")),
+    ("user attribute age single domain years", no_number("years", "domain")),
+    ("user attribute age single domain 0x5", no_number("0x5", "domain")),
+    # names of values are none of domains, and the other way round
+    ("user attribute age single domain north", no_number("north", "domain")),
+    ("anna region places", no_number("places")),
+    ("anna tariffs { places }", no_number("places")),
+    ("domain", DOMAIN),
+    ("domain years", DOMAIN),
+    ("domain years 2 3", DOMAIN),
+    ("domain years two", DOMAIN),
+    ("domain years places", DOMAIN),
+    ("domain 5 7", "'5' is a number and no name"),
+    ("domain set 7", "'set' is a keyword and no name"),
+    ("domain a,b 7", no_name("a,b")),
+    ("domain places 7", "'places' is already the name of a domain"),
+    ("domain places 8", "'places' is already the name of a domain"),
+    ("domain years 256", no_domain("256")),
+    ("domain years -1", no_domain("-1")),
+    ("users domain", "'domain' is a keyword and no name"),
     # names of values
     ("value", VALUE),
     ("value south", VALUE),
@@ -234,6 +282,7 @@ TOO_EARLY = [
     ("desk above chief", "roles chief", none_of("roles", "chief")),
     ("anna age 5", "user attribute age single", "'age' is no user attribute declared above"),
     ("anna region south", "value south 2", no_number("south")),
+    ("user attribute age single domain years", "domain years 2", no_number("years", "domain")),
 ]
 
 # The longest role file, 65,535 bytes: six, and 21,843 assignments of three.
@@ -261,26 +310,27 @@ RULES = [
 
 # ---- what a role file says
 
-SINGLE_KIND, SET_KIND = 0, 1
+# An attribute is its kind, and its domain where it was declared by 08.
+SINGLE_KIND, SET_KIND = (0, None), (1, None)
 
 
 def decoded(file):
-    """What the bytes of a legal role file say: sizes, kinds of the attributes of each side, values, assignments, permissions, and
-    pairs of a senior and a junior."""
+    """What the bytes of a legal role file say: sizes, attributes of each side, values, assignments, permissions, and pairs of a
+    senior and a junior."""
     assert len(file) <= 65535 and file[0] == 0x01 and file[-1] == 0x0F
     sizes, place = tuple(file[1:5]), 5
-    kinds, values, held, may, above = ([], []), {}, set(), set(), set()
+    attributes, values, held, may, above = ([], []), {}, set(), set(), set()
     while place < len(file) - 1:
         command = file[place]
-        operands = file[place + 1 : place + 1 + {2: 2, 3: 5, 4: 11, 5: 2, 6: 3, 7: 2}[command]]
+        operands = file[place + 1 : place + 1 + {2: 2, 3: 5, 4: 11, 5: 2, 6: 3, 7: 2, 8: 3}[command]]
         place += 1 + len(operands)
-        if command == 2:
+        if command in (2, 8):
             assert not (values or held or may or above), "an attribute out of place"
-            kinds[operands[0]].append(operands[1])
+            attributes[operands[0]].append((operands[1], operands[2] if command == 8 else None))
         elif command in (3, 4):
             side, attribute, who = operands[:3]
             number = int.from_bytes(operands[3:], "little")
-            assert kinds[side][attribute] == command - 3 and who < sizes[side] and (side, attribute, who) not in values
+            assert attributes[side][attribute][0] == command - 3 and who < sizes[side] and (side, attribute, who) not in values
             values[side, attribute, who] = number if command == 3 else {n for n in range(64) if number >> n & 1}
         elif command == 5:
             held.add((operands[0], operands[1]))
@@ -289,7 +339,7 @@ def decoded(file):
         else:
             above.add((operands[1], operands[0]))
     assert place == len(file) - 1, "cut off"
-    return sizes, kinds, values, held, may, above
+    return sizes, attributes, values, held, may, above
 
 
 # Sources with what they say.
@@ -336,6 +386,25 @@ GOOD = [
             set(),
         ),
     ),
+    # domains by number and by name, and none; a domain may have the name of a value, of an attribute or of somebody
+    (
+        "user attribute a single domain 0\nuser attribute b set domain 255\nuser attribute c single\ndomain a 7\n"
+        "resource attribute a single domain a\nusers a\nvalue a 9\na a a\ndomain b 007\nresource attribute b set domain b\n"
+        "resource attribute c set\nresource attribute d single domain 0\na b { a }\n",
+        (
+            (1, 0, 0, 0),
+            ([(0, 0), (1, 255), (0, None)], [(0, 7), (1, 7), (1, None), (0, 0)]),
+            {(0, 0, 0): 9, (0, 1, 0): {9}},
+            set(),
+            set(),
+            set(),
+        ),
+    ),
+    # six attributes of a side with and without domains
+    (
+        "".join(f"resource attribute n{number} set{' domain 1' if number % 3 else ''}\n" for number in range(6)),
+        ((0, 0, 0, 0), ([], [SET_KIND, (1, 1), (1, 1)] * 2), {}, set(), set(), set()),
+    ),
     # one role by two ways below another
     (
         "roles a b c d\na above b c\nb above d\nc above d\na above d\n",
@@ -360,10 +429,10 @@ def any_policy(below):
     """A policy with sizes up to the limits, by random numbers."""
     small = below(2)
     sizes = tuple(below(limit + 1) if not small else below(4) for limit in (64, 64, 16, 32))
-    kinds = tuple([below(2) for _ in range(below(7))] for _ in range(2))
+    attributes = tuple([(below(2), [None, below(256)][below(2)]) for _ in range(below(7))] for _ in range(2))
     values = {}
     for side in (0, 1):
-        for attribute, kind in enumerate(kinds[side]):
+        for attribute, (kind, _) in enumerate(attributes[side]):
             for who in range(sizes[side]):
                 if below(2):
                     values[side, attribute, who] = {below(64) for _ in range(below(5))} if kind else below(65536)
@@ -371,19 +440,22 @@ def any_policy(below):
     held = {(below(roles), below(users)) for _ in range(below(80))} if roles and users else set()
     may = {(below(roles), below(resources), below(operations)) for _ in range(below(200))} if roles and resources and operations else set()
     pairs = {(below(roles), below(roles)) for _ in range(below(40))} if roles else set()
-    return sizes, kinds, values, held, may, {(senior, junior) for senior, junior in pairs if senior > junior}
+    return sizes, attributes, values, held, may, {(senior, junior) for senior, junior in pairs if senior > junior}
 
 
 def source_of(policy, below):
     """A source that says this policy: declarations a few a line, then the statements in any order."""
-    sizes, kinds, values, held, may, above = policy
+    sizes, attributes, values, held, may, above = policy
     lines = []
     for kind, letter, size in zip(("users", "resources", "operations", "roles"), "urok", sizes):
         for first in range(0, size, 9):
             lines.append(f"{kind} " + " ".join(f"{letter}{number}" for number in range(first, min(first + 9, size))))
-    for side, declared in zip(("user", "resource"), kinds):
-        for attribute, kind in enumerate(declared):
-            lines.append(f"{side} attribute a{attribute} {('single', 'set')[kind]}")
+    for side, declared in zip(("user", "resource"), attributes):
+        for attribute, (kind, domain) in enumerate(declared):
+            # a domain by its number, or by a name for it
+            said_of = "" if domain is None else f" domain {domain}" if below(2) else f" domain d{side}{attribute}"
+            lines += [f"domain d{side}{attribute} {domain}"] if " domain d" in said_of else []
+            lines.append(f"{side} attribute a{attribute} {('single', 'set')[kind]}{said_of}")
     said = []
     for (side, attribute, who), value in values.items():
         value = value if isinstance(value, int) else "{ " + "".join(f"{element} " for element in value) + "}"
@@ -482,7 +554,7 @@ def test_faults(folder):
     for source, line, message in RULES:
         test_fault(folder, source, line, message, ("case.hex", "case.rules"))
     source = (BEFORE + "desk held anna ben\n").encode()
-    test_fault(folder, source, 9, HELD, made_by=run_program)
+    test_fault(folder, source, 10, HELD, made_by=run_program)
     return len(rows) + len(WHOLE) + len(RULES)
 
 
@@ -509,9 +581,9 @@ def test_sources(folder):
 
 def full_policy():
     """All sizes at their limits, and the last of everything."""
-    kinds = ([1, 0, 0, 0, 0, 1], [0, 0, 0, 0, 0, 0])
+    attributes = ([SET_KIND, *4 * [SINGLE_KIND], (1, 255)], 6 * [(0, 255)])
     values = {(0, 5, 63): set(range(64)), (1, 5, 63): 65535}
-    return (64, 64, 16, 32), kinds, values, {(31, 63)}, {(31, 63, 15)}, {(role + 1, role) for role in range(31)}
+    return (64, 64, 16, 32), attributes, values, {(31, 63)}, {(31, 63, 15)}, {(role + 1, role) for role in range(31)}
 
 
 def test_files(folder):

@@ -1,4 +1,4 @@
-//! The judge as one writes it in plain Rust: the same work as crates/judge. Both files are read in one pass each. A rule's lines are
+//! The judge as one writes it in plain Rust: the same work as crates/rule_judge. Both files are read in one pass each. A rule's lines are
 //! summed up in masks as they are read; at its end what it grants is compared with the grid of its parts, and joined to the grid of
 //! all rules.
 
@@ -201,7 +201,7 @@ impl<'a> Reading<'a> {
             return Err(13);
         }
         let is_set = [file.kinds[0] >> user & 1 == 1, file.kinds[1] >> resource & 1 == 1];
-        if is_set == [false, true] {
+        if is_set == [false, true] || file.domains[0][user] != file.domains[1][resource] {
             return Err(13);
         }
         let atom = 6 * user + resource;

@@ -1,10 +1,15 @@
 //! Mines a role file with the second miner, as often as the proved program does, and must print the same checksum.
 //!
-//! With the name of a profile and a seed it writes the second miner's random role file of these to standard output.
+//! With the name of a profile and a seed it writes the second miner's random role file of these to standard output. Role files are
+//! made as before all requests, so that what is measured now and then is the same file.
+
+#[path = "../revision.rs"]
+mod revision;
 
 #[path = "../turns.rs"]
 mod turns;
 
+use revision::REV;
 use second_miner::makers::role_file;
 use second_miner::mining::{mine, Lent};
 use std::hint::black_box;
@@ -12,7 +17,7 @@ use std::io::Write;
 
 /// Mines once, and adds up the length, the counts, the cost and the turn.
 fn sample(file: &[u8], lent: &Lent, turn: usize) -> u64 {
-    let said = match mine(black_box(file), lent, 0) {
+    let said = match mine(black_box(file), lent, REV) {
         Ok(mined) => (mined.bytes.len() + mined.parts + mined.rules + mined.merges) as u64 + mined.cost,
         Err(number) => number as u64,
     };

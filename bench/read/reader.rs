@@ -1,4 +1,4 @@
-//! The reader of role files as one writes it in plain Rust: the same work as crates/rolefile, one pass over the bytes into tables of
+//! The reader of role files as one writes it in plain Rust: the same work as crates/role_file, one pass over the bytes into tables of
 //! masks, then seniors and holders worked out.
 
 const USERS: u8 = 64;
@@ -16,6 +16,8 @@ pub struct RoleFile {
     /// By side, 0 users and 1 resources: how many attributes there are, and which of them are sets.
     pub attributes: [usize; 2],
     pub kinds: [u64; 2],
+    /// By side and attribute: the domain.
+    pub domains: [[u8; 6]; 2],
     /// By side and attribute: who knows it, and the values.
     pub known: [[u64; 6]; 2],
     pub values: [[[u64; 64]; 6]; 2],
@@ -38,6 +40,7 @@ impl RoleFile {
             roles: 0,
             attributes: [0; 2],
             kinds: [0; 2],
+            domains: [[0; 6]; 2],
             known: [[0; 6]; 2],
             values: [[[0; 64]; 6]; 2],
             assigned: [0; 32],
@@ -46,6 +49,18 @@ impl RoleFile {
             seniors: [0; 32],
             holders: [0; 32],
         }
+    }
+
+    /// Command 02, which means domain 0, or 08: one attribute more.
+    fn declare(&mut self, side: u8, kind: u8, domain: u8) -> Result<(), u8> {
+        let side = side as usize;
+        if side > 1 || kind > 1 || self.attributes[side] == ATTRIBUTES {
+            return Err(5);
+        }
+        self.kinds[side] |= (kind as u64) << self.attributes[side];
+        self.domains[side][self.attributes[side]] = domain;
+        self.attributes[side] += 1;
+        Ok(())
     }
 
     /// Command 03 or 04: the value of an attribute.
@@ -130,12 +145,7 @@ pub fn read(bytes: &[u8]) -> Result<RoleFile, u8> {
                 if phase != Phase::Declaring {
                     return Err(4);
                 }
-                let side = side as usize;
-                if side > 1 || kind > 1 || file.attributes[side] == ATTRIBUTES {
-                    return Err(5);
-                }
-                file.kinds[side] |= (kind as u64) << file.attributes[side];
-                file.attributes[side] += 1;
+                file.declare(side, kind, 0)?;
                 rest = behind;
             }
             [0x03, side, attribute, who, low, high, ref behind @ ..] => {
@@ -188,6 +198,13 @@ pub fn read(bytes: &[u8]) -> Result<RoleFile, u8> {
                 phase = Phase::Telling;
                 rest = behind;
             }
+            [0x08, side, kind, domain, ref behind @ ..] => {
+                if phase != Phase::Declaring {
+                    return Err(4);
+                }
+                file.declare(side, kind, domain)?;
+                rest = behind;
+            }
             [0x0F, ref behind @ ..] => {
                 if phase == Phase::Nothing || !behind.is_empty() {
                     return Err(4);
@@ -195,7 +212,7 @@ pub fn read(bytes: &[u8]) -> Result<RoleFile, u8> {
                 file.settle()?;
                 return Ok(file);
             }
-            [] | [0x01..=0x07, ..] => return Err(2),
+            [] | [0x01..=0x08, ..] => return Err(2),
             _ => return Err(3),
         }
     }

@@ -2,9 +2,13 @@
 //!
 //! The second miner keeps sets where the proved reader has words, so that the few words that a turn adds up are worked out from these.
 
+#[path = "../revision.rs"]
+mod revision;
+
 #[path = "../turns.rs"]
 mod turns;
 
+use revision::REV;
 use second_miner::role_file::{read_role_file, RolePolicy, Value};
 use std::hint::black_box;
 
@@ -35,7 +39,7 @@ fn assigned(policy: &RolePolicy, roles: u64) -> u64 {
 
 /// Reads once, and adds up some words of the record, other words each turn.
 fn sample(bytes: &[u8], turn: usize) -> u64 {
-    match read_role_file(black_box(bytes), 0) {
+    match read_role_file(black_box(bytes), REV) {
         Ok(policy) => {
             let role = turn % 32;
             let seniors = mask(policy.seniors(role).into_iter());

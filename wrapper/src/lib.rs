@@ -42,7 +42,8 @@ pub enum Refusal {
     RulesUnknown = 11,
     /// Out of order, missing or repeated, or a byte after the end.
     RulesOrder = 12,
-    /// An operand beyond its size or of the wrong kind, no operation, or no part of the role file.
+    /// An operand beyond its size or of the wrong kind, an atom across domains, no operation, or no
+    /// part of the role file.
     RulesOperand = 13,
 }
 

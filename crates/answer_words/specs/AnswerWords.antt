@@ -36,7 +36,7 @@ causeWords shortOutput = "output is shorter than the rule file"
 causeWords rulesCutOff = "the rule file is cut off"
 causeWords rulesUnknown = "the rule file has an unknown command"
 causeWords rulesOrder = "the rule file has a byte after its end or a command out of order, missing or repeated"
-causeWords rulesOperand = "the rule file has an operand beyond its size or of the wrong kind, a zero operation set, or a part that the role file does not have"
+causeWords rulesOperand = "the rule file has an operand beyond its size or of the wrong kind, an atom across domains, a zero operation set, or a part that the role file does not have"
 
 unfoldable pub refusalTable : List String
 refusalTable =

@@ -49,7 +49,7 @@ pub fn refusal_words(n: usize, out: &mut [u8]) -> usize
             out,
         ),
         refusal::RULES_OPERAND => put(
-            b"the rule file has an operand beyond its size or of the wrong kind, a zero operation set, or a part that the role file does not have",
+            b"the rule file has an operand beyond its size or of the wrong kind, an atom across domains, a zero operation set, or a part that the role file does not have",
             out,
         ),
         _ => put(b"no refusal has this number", out),

@@ -1,5 +1,5 @@
 -- The examples of 01 that are marked P, its tempting mistakes, and the order of its tests, as rows of one table. 01, sections
--- "Files to try" and "Where each call stops". ExamplesLaws has the proof.
+-- "Files to try" and "Where each call stops"; what requests add stands behind. ExamplesLaws has the proof.
 -- Assumes nothing.
 use Prim.Native.Nat.{ℕ, zero, suc}
 use Prim.Native.String.{String}
@@ -12,7 +12,7 @@ use Rattle.files.specs.Calls.{Verdict, countValues, yesNo, verdictNumber, verdi
 use Rattle.files.specs.RoleFile.{readRoles}
 use Rattle.files.specs.RuleFile.{Lines, ruleIn}
 use Rattle.policy.specs.Policy.{Policy, settingOf}
-use Rattle.policy.specs.Rules.{ruleLevel, user, resource}
+use Rattle.policy.specs.Rules.{Rule, atom, conjunct, ofSection, ruleLevel, user, resource}
 use Rattle.sets.specs.Tests.{keep}
 
 -- a row: what it holds, what the definitions say, and what 01 says
@@ -67,6 +67,17 @@ judging file rules = told (λ (v : Verdict). verdictNumber v ∷ verdictValues v
 -- the levels of the rules of a rule file
 abbrev pub levels : List ℕ → List ℕ → List ℕ
 levels file rules = told (λ (p : Policy × List Lines). map (λ ls. ruleLevel (settingOf (p .0)) (ruleIn (settingOf (p .0)) ls)) (p .1)) (readBoth 2 file rules)
+
+-- a rule is one "of this section over the role file's attributes and both 255s"
+abbrev pub ofFile : List ℕ → Rule → List ℕ
+ofFile file ρ = told (λ (F : Policy). yesNo (ofSection (settingOf F) ρ)) (readRoles 2 file)
+
+-- the rule that asks for the value 7 of user attribute 0 alone, and the one that joins it with resource attribute 0 by an atom
+abbrev pub valueOnly : Rule
+valueOnly = record { ops = 1; conds = conjunct user 0 (7 ∷ []) ∷ [] }
+
+abbrev pub valueAndAtom : Rule
+valueAndAtom = record { ops = 1; conds = conjunct user 0 (7 ∷ []) ∷ atom 0 0 ∷ [] }
 
 -- ---- role files of 01
 
@@ -157,6 +168,28 @@ userSets = hex "01 03 01 01 01 02 00 01 04 00 00 00 06 00 00 00 00 00 00 00 04 0
 -- resources 0 and 1 have {1, 2} and {3}
 abbrev pub resourceSets : List ℕ
 resourceSets = hex "01 01 03 01 01 02 01 01 04 01 00 00 06 00 00 00 00 00 00 00 04 01 00 01 08 00 00 00 00 00 00 00 05 00 00 06 00 00 00 06 00 01 00 0F"
+
+-- ---- role files with domains (request 1): A with 08 in the place of 02
+
+-- domain 3 on both sides
+abbrev pub equalDomains : List ℕ
+equalDomains = hex "01 02 02 01 02 08 00 00 03 08 01 00 03 03 00 00 00 05 00 03 00 00 01 07 00 03 01 00 00 05 00 03 01 00 01 07 00 05 00 00 05 01 01 06 00 00 00 06 01 01 00 0F"
+
+-- domains 1 and 0, both by 08
+abbrev pub userDomain : List ℕ
+userDomain = hex "01 02 02 01 02 08 00 00 01 08 01 00 00 03 00 00 00 05 00 03 00 00 01 07 00 03 01 00 00 05 00 03 01 00 01 07 00 05 00 00 05 01 01 06 00 00 00 06 01 01 00 0F"
+
+-- domains 0 by 02 and 1 by 08
+abbrev pub resourceDomain : List ℕ
+resourceDomain = hex "01 02 02 01 02 02 00 00 08 01 00 01 03 00 00 00 05 00 03 00 00 01 07 00 03 01 00 00 05 00 03 01 00 01 07 00 05 00 00 05 01 01 06 00 00 00 06 01 01 00 0F"
+
+-- one user, with the value 5 of two attributes, of domains 1 and 2, and one resource with the value 5, of domain 2
+abbrev pub twoDomains : List ℕ
+twoDomains = hex "01 01 01 01 01 08 00 00 01 08 00 00 02 08 01 00 02 03 00 00 00 05 00 03 00 01 00 05 00 03 01 00 00 05 00 05 00 00 06 00 00 00 0F"
+
+-- A's rules without an atom: users and resources by their values
+abbrev pub rulesByValues : List ℕ
+rulesByValues = hex "21 22 00 05 00 24 00 05 00 26 01 00 28 00 01 00 21 22 00 07 00 24 00 07 00 26 01 00 28 01 01 00 2F"
 
 -- ---- role files for merging and striking
 
@@ -593,6 +626,34 @@ table =
     ∷ row "25: an undeclared attribute" (judging bothKinds (hex "21 25 02 05 00 00 00 00 00 00 00 26 01 00 28 00 01 00 2F")) (13 ∷ [])
     ∷ row "27: an undeclared user attribute" (judging bothKinds (hex "21 26 01 00 27 03 00 28 00 01 00 2F")) (13 ∷ [])
     ∷ row "27: an undeclared resource attribute" (judging bothKinds (hex "21 26 01 00 27 00 02 28 00 01 00 2F")) (13 ∷ [])
+    -- ---- request 1: "An atom joins two attributes only if their domains are equal"
+    ∷ row "equal domains: the length and counts of A" (mining equalDomains 4096 16) (0 ∷ 16 ∷ 2 ∷ 1 ∷ 1 ∷ 2 ∷ [])
+    ∷ row "equal domains: the rules of A" (output equalDomains 17) (hex "21 26 01 00 27 00 00 28 00 01 00 28 01 01 00 2F AA")
+    ∷ row "another domain of users: no atom, no merge" (mining userDomain 4096 33) (0 ∷ 33 ∷ 2 ∷ 2 ∷ 0 ∷ 6 ∷ [])
+    ∷ row "another domain of users: two rules by values" (output userDomain 33) (rulesByValues)
+    ∷ row "another domain of resources: no atom, no merge" (mining resourceDomain 4096 33) (0 ∷ 33 ∷ 2 ∷ 2 ∷ 0 ∷ 6 ∷ [])
+    ∷ row "another domain of resources: two rules by values" (output resourceDomain 33) (rulesByValues)
+    -- "another atom is 13"; conjuncts do not look at domains
+    ∷ row "27: equal domains" (judging equalDomains rulesA) (0 ∷ 0 ∷ [])
+    ∷ row "27: another domain of users" (judging userDomain rulesA) (13 ∷ [])
+    ∷ row "27: another domain of resources" (judging resourceDomain rulesA) (13 ∷ [])
+    ∷ row "values of two domains" (judging userDomain rulesByValues) (0 ∷ 0 ∷ [])
+    ∷ row "two domains of one side: the atom of the second" (judging twoDomains (hex "21 26 01 00 27 01 00 28 00 01 00 2F")) (0 ∷ 0 ∷ [])
+    ∷ row "two domains of one side: the atom of the first" (judging twoDomains (hex "21 26 01 00 27 00 00 28 00 01 00 2F")) (13 ∷ [])
+    -- "rules with atoms across domains no longer count", and no others
+    ∷ row "a rule of the section: an atom of equal domains" (ofFile equalDomains valueAndAtom) (0 ∷ 1 ∷ [])
+    ∷ row "no rule of the section: an atom across domains" (ofFile userDomain valueAndAtom) (0 ∷ 0 ∷ [])
+    ∷ row "a rule of the section: a value of another domain" (ofFile userDomain valueOnly) (0 ∷ 1 ∷ [])
+    -- "stands where 02 may stand, and 02 may follow it": behind 01, 02 and 08
+    ∷ row "08 and 02 behind 01, 02 and 08" (reading (hex "01 01 02 03 04 08 00 00 FF 08 01 01 00 02 00 00 02 01 01 08 00 01 07 0F")) (0 ∷ 1 ∷ 2 ∷ 3 ∷ 4 ∷ [])
+    ∷ row "08 first" (reading (hex "08 00 00 00 0F")) (4 ∷ [])
+    ∷ row "08 behind 07" (reading (hex "01 00 00 00 01 07 00 00 08 00 00 00 0F")) (4 ∷ [])
+    ∷ row "02 behind 08 and 05" (reading (hex "01 01 00 00 01 08 00 00 00 05 00 00 02 00 00 0F")) (4 ∷ [])
+    ∷ row "08: cut off" (reading (hex "01 00 00 00 00 08 00 00")) (2 ∷ [])
+    ∷ row "08: side 2" (reading (hex "01 00 00 00 00 08 02 00 00 0F")) (5 ∷ [])
+    ∷ row "08: kind 2" (reading (hex "01 00 00 00 00 08 00 02 00 0F")) (5 ∷ [])
+    ∷ row "six 08 of users" (reading (hex "01 00 00 00 00 08 00 00 01 08 00 00 02 08 00 00 03 08 00 00 04 08 00 00 05 08 00 00 06 0F")) (0 ∷ 0 ∷ 0 ∷ 0 ∷ 0 ∷ [])
+    ∷ row "a seventh attribute: 02 behind six 08" (reading (hex "01 00 00 00 00 08 00 00 01 08 00 00 02 08 00 00 03 08 00 00 04 08 00 00 05 08 00 00 06 02 00 00 0F")) (5 ∷ [])
     -- ---- the bytes of these rows: what is no digit, half a byte, and two bytes without a blank are no bytes
     ∷ row "hex: digits" (hex "00 09 0A 0F 10 F0 FF") (0 ∷ 9 ∷ 10 ∷ 15 ∷ 16 ∷ 240 ∷ 255 ∷ [])
     ∷ row "hex: no digit" (spelt "0G 0a") (noByte ∷ noByte ∷ [])

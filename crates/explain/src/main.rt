@@ -21,6 +21,7 @@ fn explain(file: &[u8], rules: &[u8]) {
         sizes,
         &f.attributes,
         &f.kinds,
+        &f.domains,
         &f.holders,
         &f.permissions,
     );

@@ -16,8 +16,8 @@ use Rattle.sets.specs.Tests.{iff, isSome}
 pub data RoleCommand : Type 0 where
   -- 01 users, resources, operations, roles
   sizes : ℕ → ℕ → ℕ → ℕ → RoleCommand
-  -- 02 side, kind
-  declare : ℕ → ℕ → RoleCommand
+  -- 02 side, kind, which means domain 0, and 08 side, kind, domain
+  declare : ℕ → ℕ → ℕ → RoleCommand
   -- 03 and 04: is it a set; side, attribute, who, value
   give : Bool → ℕ → ℕ → ℕ → ℕ → RoleCommand
   -- 05 role, user
@@ -39,18 +39,20 @@ roleWidths b =
     (cond (eqb b 0x05) (some (1 ∷ 1 ∷ []))
     (cond (eqb b 0x06) (some (1 ∷ 1 ∷ 1 ∷ []))
     (cond (eqb b 0x07) (some (1 ∷ 1 ∷ []))
-    (cond (eqb b 0x0F) (some []) none)))))))
+    (cond (eqb b 0x08) (some (1 ∷ 1 ∷ 1 ∷ []))
+    (cond (eqb b 0x0F) (some []) none))))))))
 
 -- the command of a known byte with its operands
 abbrev pub roleCommand : ℕ → List ℕ → RoleCommand
 roleCommand b xs =
     cond (eqb b 0x01) (sizes (getD xs 0 0) (getD xs 1 0) (getD xs 2 0) (getD xs 3 0))
-    (cond (eqb b 0x02) (declare (getD xs 0 0) (getD xs 1 0))
+    (cond (eqb b 0x02) (declare (getD xs 0 0) (getD xs 1 0) 0)
     (cond (eqb b 0x03) (give false (getD xs 0 0) (getD xs 1 0) (getD xs 2 0) (getD xs 3 0))
     (cond (eqb b 0x04) (give true (getD xs 0 0) (getD xs 1 0) (getD xs 2 0) (getD xs 3 0))
     (cond (eqb b 0x05) (assign (getD xs 0 0) (getD xs 1 0))
     (cond (eqb b 0x06) (permit (getD xs 0 0) (getD xs 1 0) (getD xs 2 0))
-    (cond (eqb b 0x07) (line (getD xs 0 0) (getD xs 1 0)) end))))))
+    (cond (eqb b 0x07) (line (getD xs 0 0) (getD xs 1 0))
+    (cond (eqb b 0x08) (declare (getD xs 0 0) (getD xs 1 0) (getD xs 2 0)) end)))))))
 
 -- what was read so far: nothing; 01 and then only 02; more
 pub data Phase : Type 0 where
@@ -64,7 +66,7 @@ pub record Loading : Type 0 where
 
 -- a policy of these sizes that says nothing more
 abbrev pub blankTable : ℕ → Table
-blankTable n = record { count = n; kinds = []; value = λ a x. none }
+blankTable n = record { count = n; kinds = []; domain = λ a. 0; value = λ a x. none }
 
 unfoldable pub blank : ℕ → ℕ → ℕ → ℕ → Policy
 blank u r o k = record {
@@ -99,13 +101,19 @@ module _ (F : Policy) where
   }
 
   -- one attribute more: "Numbered from 0 on each side"
-  unfoldable pub withKind : Which → Bool → Policy
-  withKind s k = withTable s (record { count = F .table s .count; kinds = F .table s .kinds ++ (k ∷ []); value = F .table s .value })
+  unfoldable pub withKind : Which → Bool → ℕ → Policy
+  withKind s k d = withTable s (record {
+    count = F .table s .count;
+    kinds = F .table s .kinds ++ (k ∷ []);
+    domain = λ a. cond (eqb a (length (F .table s .kinds))) d (F .table s .domain a);
+    value = F .table s .value;
+  })
 
   unfoldable pub withValue : Which → ℕ → ℕ → ℕ → Policy
   withValue s a x v = withTable s (record {
     count = F .table s .count;
     kinds = F .table s .kinds;
+    domain = F .table s .domain;
     value = λ b y. cond (eqb b a && eqb y x) (some v) (F .table s .value b y);
   })
 
@@ -151,7 +159,7 @@ isDeclaring telling = false
 
 abbrev pub isEnd : RoleCommand → Bool
 isEnd (sizes u r o k) = false
-isEnd (declare side kind) = false
+isEnd (declare side kind domain) = false
 isEnd (give set side a x v) = false
 isEnd (assign k u) = false
 isEnd (permit k r o) = false
@@ -164,8 +172,8 @@ enter place phase r = unless place outOfPlace (andThen r (λ F. accepted (record
 
 module _ (F : Policy) where
   -- 02: "a seventh attribute" is beyond the limit
-  unfoldable pub takeKind : ℕ → ℕ → Answer Policy
-  takeKind side kind = unless (ltb side 2 && ltb kind 2 && ltb (length (F .table (sideBy side) .kinds)) 6) beyond (accepted (withKind F (sideBy side) (eqb kind 1)))
+  unfoldable pub takeKind : ℕ → ℕ → ℕ → Answer Policy
+  takeKind side kind domain = unless (ltb side 2 && ltb kind 2 && ltb (length (F .table (sideBy side) .kinds)) 6) beyond (accepted (withKind F (sideBy side) (eqb kind 1) domain))
 
   -- 03 and 04: "5 an operand beyond its limit or declared size; 6 wrong kind, or a value given twice"
   unfoldable pub takeValue : Bool → ℕ → ℕ → ℕ → ℕ → Answer Policy
@@ -201,7 +209,7 @@ module _ (W : ℕ) where
   -- 01 "First, and only once", 02 "Only after 01 or another 02", the others behind 01
   unfoldable pub obeyRole : Loading → RoleCommand → Answer Loading
   obeyRole s (sizes u r o k) = enter (isNothing (s .phase)) declaring (takeSizes u r o k)
-  obeyRole s (declare side kind) = enter (isDeclaring (s .phase)) declaring (takeKind (s .policy) side kind)
+  obeyRole s (declare side kind domain) = enter (isDeclaring (s .phase)) declaring (takeKind (s .policy) side kind domain)
   obeyRole s (give set side a x v) = enter (not (isNothing (s .phase))) telling (takeValue (s .policy) set side a x v)
   obeyRole s (assign k u) = enter (not (isNothing (s .phase))) telling (takeAssignment (s .policy) k u)
   obeyRole s (permit k r o) = enter (not (isNothing (s .phase))) telling (takePermission (s .policy) k r o)

@@ -83,10 +83,10 @@ table-sound W F s t S T e = record {
     sizes-same : (w : Which) → cond (sameSide w s) t (F .table w) .count ≡ F .table w .count
     sizes-same w = test (sameSide w s) (λ h. rw h (e ∙ ap (λ (x : Which). F .table x .count) (sym (same-side w s h)))) (λ h. rw h refl)
 
-kind-sound : (W : ℕ) (F : Policy) (s : Which) (k : Bool) → Sound W F → length (F .table s .kinds) < 6 → Sound W (withKind F s k)
+kind-sound : (W : ℕ) (F : Policy) (s : Which) (k : Bool) (d : ℕ) → Sound W F → length (F .table s .kinds) < 6 → Sound W (withKind F s k d)
 unfolding withKind
-kind-sound W F s k S h =
-    table-sound W F s (record { count = F .table s .count; kinds = F .table s .kinds ++ (k ∷ []); value = F .table s .value }) S
+kind-sound W F s k d S h =
+    table-sound W F s (record { count = F .table s .count; kinds = F .table s .kinds ++ (k ∷ []); domain = λ a. cond (eqb a (length (F .table s .kinds))) d (F .table s .domain a); value = F .table s .value }) S
     (record {
       many = S .tables s .many;
       declared = let e = length-last (F .table s .kinds) k in omega arith;
@@ -104,6 +104,7 @@ value-sound W F s a x v S h k =
     (record {
       count = F .table s .count;
       kinds = F .table s .kinds;
+      domain = F .table s .domain;
       value = λ b y. cond (eqb b a && eqb y x) (some v) (F .table s .value b y);
     })
     S
@@ -173,7 +174,7 @@ line-sound W F j k S hj hk = record {
 -- a value that was read has room in its width
 abbrev Told : RoleCommand → Type 0
 Told (sizes u r o k) = Unit {0}
-Told (declare side kind) = Unit {0}
+Told (declare side kind domain) = Unit {0}
 Told (give set side a x v) = v < 256 ^ cond set 8 2
 Told (assign k u) = Unit {0}
 Told (permit k r o) = Unit {0}
@@ -193,19 +194,20 @@ fourth w (a ∷ b ∷ c ∷ []) h = absurd (h .1 .1 .1)
 fourth w (a ∷ b ∷ c ∷ d ∷ xs) h = h .1 .1 .1 .0
 
 told : (b : ℕ) (xs : List ℕ) → FitOr (roleWidths b) xs → Told (roleCommand b xs)
-told b xs = go (eqb b 1) (eqb b 2) (eqb b 3) (eqb b 4) (eqb b 5) (eqb b 6) (eqb b 7) (eqb b 15)
+told b xs = go (eqb b 1) (eqb b 2) (eqb b 3) (eqb b 4) (eqb b 5) (eqb b 6) (eqb b 7) (eqb b 8) (eqb b 15)
   where
-    go : (b1 b2 b3 b4 b5 b6 b7 b15 : Bool)
-        → FitOr (cond b1 (some (1 ∷ 1 ∷ 1 ∷ 1 ∷ [])) (cond b2 (some (1 ∷ 1 ∷ [])) (cond b3 (some (1 ∷ 1 ∷ 1 ∷ 2 ∷ [])) (cond b4 (some (1 ∷ 1 ∷ 1 ∷ 8 ∷ [])) (cond b5 (some (1 ∷ 1 ∷ [])) (cond b6 (some (1 ∷ 1 ∷ 1 ∷ [])) (cond b7 (some (1 ∷ 1 ∷ [])) (cond b15 (some []) none)))))))) xs
-        → Told (cond b1 (sizes (getD xs 0 0) (getD xs 1 0) (getD xs 2 0) (getD xs 3 0)) (cond b2 (declare (getD xs 0 0) (getD xs 1 0)) (cond b3 (give false (getD xs 0 0) (getD xs 1 0) (getD xs 2 0) (getD xs 3 0)) (cond b4 (give true (getD xs 0 0) (getD xs 1 0) (getD xs 2 0) (getD xs 3 0)) (cond b5 (assign (getD xs 0 0) (getD xs 1 0)) (cond b6 (permit (getD xs 0 0) (getD xs 1 0) (getD xs 2 0)) (cond b7 (line (getD xs 0 0) (getD xs 1 0)) end)))))))
-    go true b2 b3 b4 b5 b6 b7 b15 h = tt
-    go false true b3 b4 b5 b6 b7 b15 h = tt
-    go false false true b4 b5 b6 b7 b15 h = fourth 2 xs h
-    go false false false true b5 b6 b7 b15 h = fourth 8 xs h
-    go false false false false true b6 b7 b15 h = tt
-    go false false false false false true b7 b15 h = tt
-    go false false false false false false true b15 h = tt
-    go false false false false false false false b15 h = tt
+    go : (b1 b2 b3 b4 b5 b6 b7 b8 b15 : Bool)
+        → FitOr (cond b1 (some (1 ∷ 1 ∷ 1 ∷ 1 ∷ [])) (cond b2 (some (1 ∷ 1 ∷ [])) (cond b3 (some (1 ∷ 1 ∷ 1 ∷ 2 ∷ [])) (cond b4 (some (1 ∷ 1 ∷ 1 ∷ 8 ∷ [])) (cond b5 (some (1 ∷ 1 ∷ [])) (cond b6 (some (1 ∷ 1 ∷ 1 ∷ [])) (cond b7 (some (1 ∷ 1 ∷ [])) (cond b8 (some (1 ∷ 1 ∷ 1 ∷ [])) (cond b15 (some []) none))))))))) xs
+        → Told (cond b1 (sizes (getD xs 0 0) (getD xs 1 0) (getD xs 2 0) (getD xs 3 0)) (cond b2 (declare (getD xs 0 0) (getD xs 1 0) 0) (cond b3 (give false (getD xs 0 0) (getD xs 1 0) (getD xs 2 0) (getD xs 3 0)) (cond b4 (give true (getD xs 0 0) (getD xs 1 0) (getD xs 2 0) (getD xs 3 0)) (cond b5 (assign (getD xs 0 0) (getD xs 1 0)) (cond b6 (permit (getD xs 0 0) (getD xs 1 0) (getD xs 2 0)) (cond b7 (line (getD xs 0 0) (getD xs 1 0)) (cond b8 (declare (getD xs 0 0) (getD xs 1 0) (getD xs 2 0)) end))))))))
+    go true b2 b3 b4 b5 b6 b7 b8 b15 h = tt
+    go false true b3 b4 b5 b6 b7 b8 b15 h = tt
+    go false false true b4 b5 b6 b7 b8 b15 h = fourth 2 xs h
+    go false false false true b5 b6 b7 b8 b15 h = fourth 8 xs h
+    go false false false false true b6 b7 b8 b15 h = tt
+    go false false false false false true b7 b8 b15 h = tt
+    go false false false false false false true b8 b15 h = tt
+    go false false false false false false false true b15 h = tt
+    go false false false false false false false false b15 h = tt
 
 module _ (W : ℕ) where
   abbrev SoundSoFar : Loading → Type 0
@@ -224,12 +226,12 @@ module _ (W : ℕ) where
       blank-sound W u r o k (leb-true u 64 (a .0)) (leb-true r 64 (a .1)) (leb-true o (8 * W) (a .2)) (leb-true k 32 (and-r (leb u 64 && leb r 64 && leb o (8 * W)) (leb k 32) q))
 
   module _ (F : Policy) (S : Sound W F) where
-    kind-taken : (side kind : ℕ) → Carries (Sound W) (takeKind F side kind)
+    kind-taken : (side kind domain : ℕ) → Carries (Sound W) (takeKind F side kind domain)
     unfolding takeKind
-    kind-taken side kind =
-        unless-carries (Sound W) (ltb side 2 && ltb kind 2 && ltb (length (F .table (sideBy side) .kinds)) 6) beyond (accepted (withKind F (sideBy side) (eqb kind 1))) λ q.
+    kind-taken side kind domain =
+        unless-carries (Sound W) (ltb side 2 && ltb kind 2 && ltb (length (F .table (sideBy side) .kinds)) 6) beyond (accepted (withKind F (sideBy side) (eqb kind 1) domain)) λ q.
         let a = and-three (ltb side 2) (ltb kind 2) (ltb (length (F .table (sideBy side) .kinds)) 6) q in
-        kind-sound W F (sideBy side) (eqb kind 1) S (ltb-true (length (F .table (sideBy side) .kinds)) 6 (a .2))
+        kind-sound W F (sideBy side) (eqb kind 1) domain S (ltb-true (length (F .table (sideBy side) .kinds)) 6 (a .2))
 
     value-taken : (set : Bool) (side a x v : ℕ) → v < 256 ^ cond set 8 2 → Carries (Sound W) (takeValue F set side a x v)
     unfolding takeValue
@@ -263,7 +265,7 @@ module _ (W : ℕ) where
   obey-sound : (s : Loading) (c : RoleCommand) → Told c → SoundSoFar s → Carries SoundSoFar (obeyRole W s c)
   unfolding obeyRole
   obey-sound s (sizes u r o k) t S = enter-sound (isNothing (s .phase)) declaring (takeSizes W u r o k) (sizes-taken u r o k)
-  obey-sound s (declare side kind) t S = enter-sound (isDeclaring (s .phase)) declaring (takeKind (s .policy) side kind) (kind-taken (s .policy) S side kind)
+  obey-sound s (declare side kind domain) t S = enter-sound (isDeclaring (s .phase)) declaring (takeKind (s .policy) side kind domain) (kind-taken (s .policy) S side kind domain)
   obey-sound s (give set side a x v) t S = enter-sound (not (isNothing (s .phase))) telling (takeValue (s .policy) set side a x v) (value-taken (s .policy) S set side a x v t)
   obey-sound s (assign k u) t S = enter-sound (not (isNothing (s .phase))) telling (takeAssignment (s .policy) k u) (assignment-taken (s .policy) S k u)
   obey-sound s (permit k r o) t S = enter-sound (not (isNothing (s .phase))) telling (takePermission (s .policy) k r o) (permission-taken (s .policy) S k r o)

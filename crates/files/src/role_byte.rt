@@ -13,4 +13,6 @@ pub const PERMIT: usize = 0x06;
 
 pub const LINE: usize = 0x07;
 
+pub const DECLARE_IN_DOMAIN: usize = 0x08;
+
 pub const END: usize = 0x0F;

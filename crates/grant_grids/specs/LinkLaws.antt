@@ -2,15 +2,16 @@
 -- Assumes nothing.
 use Prim.Native.Nat.{ℕ, _+_, _*_, _/_, _%_, _<_}
 use borrow.Author.Tests.{lt-ltb, le-ltb, ne-eqb}
+use lib.Dec.{eqb}
 use lib.ListN.{length, getD}
 use mathlib.Core.Bool.{Bool, cond}
 use mathlib.Core.List.{List}
 use mathlib.Core.Option.{Option, none, some}
 use mathlib.Core.Path.{_≡_, refl, sym, ap, ap₂, _∙_}
 use native.Mathlib.Omega.{arith}
-use Rattle.role_record.specs.Record.{Sized, columnSide, numberOr, knownTable, valueTable, kindTable, recordWith, recordOf}
+use Rattle.role_record.specs.Record.{Sized, columnSide, numberOr, knownTable, valueTable, kindTable, domainTable, recordWith, recordOf}
 use Rattle.grant_grids.specs.Links.{valueIn, formIn, linkHolds, linkWord, linkTable}
-use Rattle.role_record.specs.RecordLaws.{table-get}
+use Rattle.role_record.specs.RecordLaws.{table-get, domains-same}
 use Rattle.policy.specs.Policy.{Policy, kindOf, isSetAt, valueAt, sideOf, settingOf}
 use Rattle.policy.specs.Rules.{Which, Form, formOf, linked, both, holds, user, resource, atom, own}
 use Rattle.sets.specs.Sets.{bit, maskOf}
@@ -19,14 +20,14 @@ use Rattle.sets.specs.Tests.{isSome}
 
 -- ---- the table
 -- what the table says of an atom, a user and a resource
-pub links-bit : (known values kinds : List ℕ) (n a b u r : ℕ) → a < 6 → b < 6 → u < 64 → r < n
-    → bit (getD (linkTable known values kinds n) (64 * (6 * a + b) + u) 0) r ≡ linkHolds known values kinds a b u r
+pub links-bit : (known values kinds domains : List ℕ) (n a b u r : ℕ) → a < 6 → b < 6 → u < 64 → r < n
+    → bit (getD (linkTable known values kinds domains n) (64 * (6 * a + b) + u) 0) r ≡ linkHolds known values kinds domains a b u r
 unfolding linkTable linkWord
-links-bit known values kinds n a b u r ha hb hu hr =
-    ap (λ (m : ℕ). bit m r) (table-get 2304 (λ i. linkWord known values kinds n (i / 384) (i / 64 % 6) (i % 64)) (64 * (6 * a + b) + u) (omega arith) ∙ place (64 * (6 * a + b) + u) refl)
-    ∙ bit-mask n (linkHolds known values kinds a b u) r hr
+links-bit known values kinds domains n a b u r ha hb hu hr =
+    ap (λ (m : ℕ). bit m r) (table-get 2304 (λ i. linkWord known values kinds domains n (i / 384) (i / 64 % 6) (i % 64)) (64 * (6 * a + b) + u) (omega arith) ∙ place (64 * (6 * a + b) + u) refl)
+    ∙ bit-mask n (linkHolds known values kinds domains a b u) r hr
   where
-    place : (i : ℕ) → i ≡ 64 * (6 * a + b) + u → linkWord known values kinds n (i / 384) (i / 64 % 6) (i % 64) ≡ linkWord known values kinds n a b u
+    place : (i : ℕ) → i ≡ 64 * (6 * a + b) + u → linkWord known values kinds domains n (i / 384) (i / 64 % 6) (i % 64) ≡ linkWord known values kinds domains n a b u
     place i e =
         let p : i / 384 ≡ a = omega arith in
         let q : i / 64 % 6 ≡ b = omega arith in
@@ -65,9 +66,11 @@ module _ (F : Policy) where
       let p : (6 + b) % 6 ≡ b = omega arith in
       column-value (6 + b) x (omega arith) hx ∙ rw (le-ltb (6 + b) 6 (omega arith), p) refl
 
-  form-means : (a b : ℕ) → a < 64 → b < 64 → formIn (kindTable F) a b ≡ formOf (kindOf (F .table user) a) (kindOf (F .table resource) b)
+  form-means : (a b : ℕ) → a < 6 → b < 6 → formIn (kindTable F) (domainTable F) a b ≡ cond (eqb (F .table user .domain a) (F .table resource .domain b)) (formOf (kindOf (F .table user) a) (kindOf (F .table resource) b)) none
   unfolding formIn kindTable
-  form-means a b ha hb = ap₂ formOf (bit-mask 64 (kindOf (F .table user)) a ha) (bit-mask 64 (kindOf (F .table resource)) b hb)
+  form-means a b ha hb =
+      ap₂ (λ (c : Bool) (f : Option Form). cond c f none) (domains-same F a b ha hb)
+      (ap₂ formOf (bit-mask 64 (kindOf (F .table user)) a (omega arith)) (bit-mask 64 (kindOf (F .table resource)) b (omega arith)))
 
   -- an attribute that is declared is not a 255
   declared-kind : (w : Which) (a : ℕ) → a < 6 → isSetAt F w a ≡ kindOf (F .table w) a
@@ -79,16 +82,16 @@ module _ (F : Policy) where
   declared-value w a x h = rw (ne-eqb a own (omega arith)) refl
 
   pub link-means : Sized F → (a b u r : ℕ) → a < length (F .table user .kinds) → b < length (F .table resource .kinds) → u < F .table user .count → r < F .table resource .count
-      → bit (getD (linkTable (recordOf F .known) (recordOf F .values) (recordOf F .kinds) (recordOf F .resources)) (64 * (6 * a + b) + u) 0) r ≡ holds (settingOf F) (atom a b) u r
+      → bit (getD (linkTable (recordOf F .known) (recordOf F .values) (recordOf F .kinds) (recordOf F .domains) (recordOf F .resources)) (64 * (6 * a + b) + u) 0) r ≡ holds (settingOf F) (atom a b) u r
   unfolding recordOf recordWith holds settingOf sideOf linkHolds
   link-means Z a b u r la lb lu lr =
       let da = Z .declared user in
       let db = Z .declared resource in
       let mu = Z .many user in
       let mr = Z .many resource in
-      links-bit (knownTable F) (valueTable F) (kindTable F) (F .table resource .count) a b u r (omega arith) (omega arith) (omega arith) lr
-      ∙ parts (formIn (kindTable F) a b) (valueIn (knownTable F) (valueTable F) a u) (valueIn (knownTable F) (valueTable F) (6 + b) r)
-      (form-means a b (omega arith) (omega arith) ∙ sym (ap₂ formOf (declared-kind user a (omega arith)) (declared-kind resource b (omega arith))))
+      links-bit (knownTable F) (valueTable F) (kindTable F) (domainTable F) (F .table resource .count) a b u r (omega arith) (omega arith) (omega arith) lr
+      ∙ parts (formIn (kindTable F) (domainTable F) a b) (valueIn (knownTable F) (valueTable F) a u) (valueIn (knownTable F) (valueTable F) (6 + b) r)
+      (form-means a b (omega arith) (omega arith) ∙ sym (ap (λ (f : Option Form). cond (eqb (F .table user .domain a) (F .table resource .domain b)) f none) (ap₂ formOf (declared-kind user a (omega arith)) (declared-kind resource b (omega arith)))))
       (user-value a u (omega arith) (omega arith) ∙ sym (declared-value user a u (omega arith)))
       (resource-value b r (omega arith) (omega arith) ∙ sym (declared-value resource b r (omega arith)))
     where

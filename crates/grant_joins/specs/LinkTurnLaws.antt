@@ -23,8 +23,9 @@ use Rattle.sets.specs.MaskLaws.{mask-lt, mask-unique}
 use Rattle.sets.specs.SetLaws.{bit-none}
 use Rattle.sets.specs.Tests.{Is}
 use Rattle.sets.specs.TestLaws.{test, not-in}
+use Rattle.role_record.specs.Record.{sameDomain}
 use Rattle.grant_joins.specs.Tables.{valueCount}
-use Rattle.grant_joins.specs.Tables.{meetOf, turns, spreadOf, joins, unionOf, linkedTo, linkValue, linkAtom}
+use Rattle.grant_joins.specs.Tables.{meetOf, turns, spreadOf, joins, unionOf, linkedTo, linkValue, lookedAt, linkAtom}
 
 -- ---- turns
 
@@ -139,6 +140,15 @@ pub number-most : (having : List ℕ) (place n : ℕ) → n ≡ valueCount havin
 unfolding valueCount
 number-most having place n e = let l = lowestFrom-most (λ k. eqb (getD having (64 * place + k) 0) 0) 0 64 in omega arith
 
+-- nor does an atom look at more
+pub looked-most : (having domains : List ℕ) (a b n : ℕ) → n ≡ lookedAt having domains a b → n ≤ 64
+unfolding lookedAt
+looked-most having domains a b n e = go (sameDomain domains a b) e
+  where
+    go : (same : Bool) → n ≡ cond same (valueCount having a) 0 → n ≤ 64
+    go true q = number-most having a n q
+    go false q = omega arith
+
 module _ (distinct having kinds : List ℕ) where
   -- the resources that an atom joins with a user value, `m = meet(there, found)`
   pub linked-law : (resources a b k count there found m : ℕ) (left right : Bool) → count ≡ valueCount having (7 + b) → left ≡ bit (getD kinds 0 0) a → right ≡ bit (getD kinds 1 0) b
@@ -154,9 +164,9 @@ module _ (distinct having kinds : List ℕ) where
   link-turn resources atom k word out after e ew q = rw (← e, ← ew) q
 
   -- the length stays
-  pub link-long : (resources atom : ℕ) (out after : List ℕ) → length out ≡ 2304 → after ≡ linkAtom distinct having kinds resources atom out → length after ≡ 2304
+  pub link-long : (domains : List ℕ) (resources atom : ℕ) (out after : List ℕ) → length out ≡ 2304 → after ≡ linkAtom distinct having kinds domains resources atom out → length after ≡ 2304
   unfolding linkAtom linkValue
-  link-long resources atom out after e q =
+  link-long domains resources atom out after e q =
       ap length q
-      ∙ turns-long (linkValue distinct having kinds resources atom) out 2304 (valueCount having (atom / 6))
+      ∙ turns-long (linkValue distinct having kinds resources atom) out 2304 (lookedAt having domains (atom / 6) (atom % 6))
       (λ k t h. spread-long 2304 atom (getD having (64 * (atom / 6) + k) 0) (linkedTo distinct having kinds resources (atom / 6) (atom % 6) k) t) e

@@ -7,7 +7,7 @@ use lib.ListN.{getD}
 use mathlib.Core.Bool.{Bool, false, cond, _&&_, _||_}
 use mathlib.Core.List.{List}
 use Rattle.grant_grids.specs.Updates.{updated}
-use Rattle.role_record.specs.Record.{tableOf}
+use Rattle.role_record.specs.Record.{tableOf, sameDomain}
 use Rattle.policy.specs.Rules.{formOf, linked}
 use Rattle.sets.specs.Sets.{joining, bit, maskOf}
 use Rattle.sets.specs.Lowest.{lowestFrom}
@@ -33,6 +33,10 @@ joins left right turned v w = cond turned (linked (formOf left right) w v) (link
 unfoldable pub valueCount : (having : List ℕ) → ℕ → ℕ
 valueCount having place = lowestFrom (λ k. eqb (getD having (64 * place + k) 0) 0) 0 64
 
+-- how many user values an atom looks at: none across domains
+unfoldable pub lookedAt : (having domains : List ℕ) → (a b : ℕ) → ℕ
+lookedAt having domains a b = cond (sameDomain domains a b) (valueCount having a) 0
+
 module _ (distinct having : List ℕ) where
   -- who has one of the first n values of a place that pass a test
   unfoldable pub unionOf : (ℕ → Bool) → (place n : ℕ) → ℕ
@@ -49,8 +53,9 @@ module _ (distinct having : List ℕ) where
     unfoldable pub linkValue : (resources atom k : ℕ) → List ℕ → List ℕ
     linkValue resources atom k table = spreadOf 2304 atom (getD having (64 * (atom / 6) + k) 0) (linkedTo resources (atom / 6) (atom % 6) k) table
 
-    unfoldable pub linkAtom : (resources atom : ℕ) → List ℕ → List ℕ
-    linkAtom resources atom table = turns (linkValue resources atom) (valueCount having (atom / 6)) table
+    module _ (domains : List ℕ) where
+      unfoldable pub linkAtom : (resources atom : ℕ) → List ℕ → List ℕ
+      linkAtom resources atom table = turns (linkValue resources atom) (lookedAt having domains (atom / 6) (atom % 6)) table
 
-    unfoldable pub linksBy : ℕ → List ℕ
-    linksBy resources = turns (linkAtom resources) 36 (tableOf 2304 (λ i. 0))
+      unfoldable pub linksBy : ℕ → List ℕ
+      linksBy resources = turns (linkAtom resources) 36 (tableOf 2304 (λ i. 0))

@@ -6,7 +6,7 @@ ghost use mathlib.Core.Path.{_≡_};
 ghost use Prim.Native.Nat.{ℕ, _+_, _*_, _≤_, _<_};
 ghost use Rattle.grant_distinct.specs.Distinct.{distinctTable, havingTable};
 ghost use Rattle.grant_grids.specs.Links.{linkTable};
-ghost use Rattle.grant_joins.specs.Tables.{linkAtom, linkedTo, linksBy};
+ghost use Rattle.grant_joins.specs.Tables.{linkAtom, linkedTo, linksBy, lookedAt};
 ghost use Rattle.grant_joins.specs.Tables.{valueCount};
 use role_record::ByAttribute;
 use role_record::ByPlaceMember;
@@ -46,10 +46,22 @@ fn linked_to<'a>(
     sets::meet(sets::below(resources), found)
 }
 
+// How many user values an atom looks at: across domains none.
+fn looked_at<'a>(domains: &'a ByAttribute, having: &'a ByPlaceMember, a: usize, b: usize) -> usize
+    requires { ⌜ (a < 6) × (b < 6) ⌝ }
+    ensures { λ r. ⌜ r ≡ lookedAt (now (having .entry)) (now (domains .entry)) a b ⌝ }
+{
+    if role_record::same_domain(domains, a, b) {
+        return grant_joins::number(having, a);
+    }
+    0
+}
+
 // The words of an atom, of which `links` below has 36: those of whoever has a user value, value by value. Nobody has an unknown value, so
 // that it satisfies no atom, on either side.
 fn link_atom<'a>(
     kinds: &'a BySide,
+    domains: &'a ByAttribute,
     resources: usize,
     distinct: &'a ByPlaceMember,
     having: &'a ByPlaceMember,
@@ -59,13 +71,14 @@ fn link_atom<'a>(
     requires { ⌜ (atom < 36) × (length (now out) ≡ 2304) ⌝ }
     ensures { λ _. ⌜
         now (out .exit)
-        ≡ linkAtom (now (distinct .entry)) (now (having .entry)) (now (kinds .entry)) resources atom
+        ≡ linkAtom (now (distinct .entry)) (now (having .entry)) (now (kinds .entry))
+        (now (domains .entry)) resources atom
         (now (out .entry)) ⌝ }
 {
     let a = atom / RoleFile::ATTRIBUTES;
     let b = atom % RoleFile::ATTRIBUTES;
     let others = grant_joins::number(having, RoleFile::CONJUNCTS + b);
-    let count = grant_joins::number(having, a);
+    let count = looked_at(domains, having, a, b);
     for k in 0..count {
         let word = linked_to(kinds, resources, distinct, having, a, b, k, others);
         grant_joins::spread(atom, having[RoleFile::MEMBERS * a + k], word, out);
@@ -75,6 +88,7 @@ fn link_atom<'a>(
 // Into a slice, since only a slice tells its length to a proof.
 fn fill_links<'a>(
     kinds: &'a BySide,
+    domains: &'a ByAttribute,
     resources: usize,
     distinct: &'a ByPlaceMember,
     having: &'a ByPlaceMember,
@@ -82,11 +96,12 @@ fn fill_links<'a>(
 )
     requires { ⌜ length (now out) ≡ 2304 ⌝ }
     ensures { λ _. ⌜
-        now (out .exit) ≡ linksBy (now (distinct .entry)) (now (having .entry)) (now (kinds .entry)) resources ⌝ }
+        now (out .exit) ≡ linksBy (now (distinct .entry)) (now (having .entry)) (now (kinds .entry))
+        (now (domains .entry)) resources ⌝ }
 {
     role_record::clear(out);
     for atom in 0..RoleFile::ATOMS {
-        link_atom(kinds, resources, distinct, having, atom, out);
+        link_atom(kinds, domains, resources, distinct, having, atom, out);
     }
 }
 
@@ -94,6 +109,7 @@ fn fill_links<'a>(
 // the resources of which the atom over user attribute a and resource attribute b holds with the user.
 pub fn links<'a>(
     kinds: &'a BySide,
+    domains: &'a ByAttribute,
     resources: usize,
     distinct: &'a ByPlaceMember,
     having: &'a ByPlaceMember,
@@ -105,9 +121,9 @@ pub fn links<'a>(
         → (users roles : ℕ)
         → now (distinct .entry) ≡ distinctTable known values holders users resources roles
         → now (having .entry) ≡ havingTable known values holders users resources roles
-        → now (out .exit) ≡ linkTable known values (now (kinds .entry)) resources) ⌝ }
+        → now (out .exit) ≡ linkTable known values (now (kinds .entry)) (now (domains .entry)) resources) ⌝ }
 {
-    fill_links(kinds, resources, distinct, having, out);
+    fill_links(kinds, domains, resources, distinct, having, out);
 }
 
 // The same of the values themselves, where nothing else needs the tables of distinct values.
@@ -115,6 +131,7 @@ pub fn links_of_values<'a>(
     known: &'a ByAttribute,
     values: &'a Values,
     kinds: &'a BySide,
+    domains: &'a ByAttribute,
     holders: &'a ByRole,
     users: usize,
     resources: usize,
@@ -123,7 +140,8 @@ pub fn links_of_values<'a>(
 )
     requires { ⌜ (resources ≤ 64) × (roles ≤ 32) ⌝ }
     ensures { λ _. ⌜
-        now (out .exit) ≡ linkTable (now (known .entry)) (now (values .entry)) (now (kinds .entry)) resources ⌝ }
+        now (out .exit) ≡ linkTable (now (known .entry)) (now (values .entry)) (now (kinds .entry))
+        (now (domains .entry)) resources ⌝ }
 {
     let mut distinct = [0u64; RoleFile::PLACES * RoleFile::MEMBERS];
     let mut having = [0u64; RoleFile::PLACES * RoleFile::MEMBERS];
@@ -137,5 +155,5 @@ pub fn links_of_values<'a>(
         &mut distinct,
         &mut having,
     );
-    links(kinds, resources, &distinct, &having, out);
+    links(kinds, domains, resources, &distinct, &having, out);
 }

@@ -172,7 +172,7 @@ fn say_link(printed: bool, some: bool, user: usize, asks: &[u8], resource: usize
     say_count(asked, b"the resource's attribute ", resource)
 }
 
-fn tell_link(printed: bool, some: bool, atom: Atom) -> bool {
+fn say_atom(printed: bool, some: bool, atom: Atom) -> bool {
     match atom {
         Atom::SetContainsSet(user, resource) => {
             say_link(printed, some, user, b" contains all of ", resource)
@@ -186,6 +186,12 @@ fn tell_link(printed: bool, some: bool, atom: Atom) -> bool {
     }
 }
 
+// An atom, and the domain of both its attributes.
+fn tell_link(printed: bool, some: bool, atom: Atom, domain: u64) -> bool {
+    let told = say_atom(printed, some, atom);
+    say_count(told, b", both of domain ", domain as usize)
+}
+
 // ---- lines
 
 // A part that the rule stands for.
@@ -194,11 +200,11 @@ fn tell_part(printed: bool, role: usize, operations: u64) -> bool {
     say_operations(say(named, b" for "), operations)
 }
 
-// A line inside a rule. The operations stand in the heading.
-fn tell_line(printed: bool, same: bool, some: bool, c: RuleCommand) -> bool {
+// A line inside a rule, with the domain of the attribute that it names, if it names one. The operations stand in the heading.
+fn tell_line(printed: bool, same: bool, some: bool, c: RuleCommand, domain: u64) -> bool {
     match c {
         RuleCommand::Value(v) => tell_value(printed, same, some, v),
-        RuleCommand::Link(atom) => tell_link(printed, some, atom),
+        RuleCommand::Link(atom) => tell_link(printed, some, atom, domain),
         RuleCommand::Part { role, operations } => tell_part(printed, role, operations),
         RuleCommand::Opens => printed,
         RuleCommand::Operations(_) => printed,
@@ -207,9 +213,9 @@ fn tell_line(printed: bool, same: bool, some: bool, c: RuleCommand) -> bool {
 }
 
 // The same of a line of numbers. In a legal rule file no line is illegal.
-pub fn tell_checked(printed: bool, same: bool, some: bool, checked: Checked) -> bool {
+pub fn tell_checked(printed: bool, same: bool, some: bool, checked: Checked, domain: u64) -> bool {
     match checked {
-        Checked::Legal(c) => tell_line(printed, same, some, c),
+        Checked::Legal(c) => tell_line(printed, same, some, c, domain),
         Checked::Illegal => printed,
     }
 }

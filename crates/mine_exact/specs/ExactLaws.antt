@@ -30,7 +30,7 @@ use Rattle.mine_corners.specs.Pairing.{tableSpans, covering, covered, grouped, 
 
 -- that many users, resources and operations
 abbrev sizes : ℕ → ℕ → ℕ → Setting
-sizes us rs os = record { side = λ w. record { count = by w us rs; attrs = 0; isSet = λ a. false; value = λ a x. none; below = λ a v x. false }; slots = os }
+sizes us rs os = record { side = λ w. record { count = by w us rs; attrs = 0; isSet = λ a. false; domain = λ a. 0; value = λ a x. none; below = λ a v x. false }; slots = os }
 
 module _ (links : List ℕ) (W X : Words) (who what us rs os : ℕ) where
   just-means : coversJust links W X who what us rs os ≡ sameBlock (sizes us rs os) (covered links W X who what) (grouped links W X)

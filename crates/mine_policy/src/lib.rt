@@ -25,6 +25,7 @@ use write_answer::Merging;
 fn merge_parts<'a>(
     known: &'a ByAttribute,
     kinds: &'a BySide,
+    domains: &'a ByAttribute,
     attributes: &'a CountBySide,
     holders: &'a ByRole,
     permissions: &'a ByRoleOperation,
@@ -42,15 +43,22 @@ fn merge_parts<'a>(
         (length (now (scratch .exit)) ≡ scratchWords)
         × ((F : Policy)
         → Sized F
-        → MergedBy F (now (known .entry)) (now (kinds .entry)) (now (attributes .entry)) (now (holders .entry))
-        (now (permissions .entry)) (now (distinct .entry)) (now (having .entry)) (sizes .users) (sizes .resources)
-        (sizes .operations) (sizes .roles)
+        → MergedBy F (now (known .entry)) (now (kinds .entry)) (now (domains .entry)) (now (attributes .entry))
+        (now (holders .entry)) (now (permissions .entry)) (now (distinct .entry)) (now (having .entry))
+        (sizes .users) (sizes .resources) (sizes .operations) (sizes .roles)
         → (r .made ≡ seatMerges F) × Merged F (now (scratch .exit)) × (r .kept ≡ keptFor F (now (scratch .exit)))) ⌝ }
 {
     let mut places = [0u64; RoleFile::PLACES];
     mine_matches::known_places(sizes.users, sizes.resources, known, &mut places);
     let mut links = [0u64; RoleFile::ATOMS * RoleFile::USERS];
-    grant_tables::links(kinds, sizes.resources, distinct, having, &mut links);
+    grant_tables::links(
+        kinds,
+        domains,
+        sizes.resources,
+        distinct,
+        having,
+        &mut links,
+    );
     let mut matches = [0u64; RoleFile::PLACES * RoleFile::MEMBERS];
     mine_tables::matches(&places, kinds, distinct, having, &mut matches);
     let merges = mine_merge::merge(
@@ -84,6 +92,7 @@ pub fn mine_record<'a>(
     known: &'a ByAttribute,
     values: &'a Values,
     kinds: &'a BySide,
+    domains: &'a ByAttribute,
     attributes: &'a CountBySide,
     holders: &'a ByRole,
     permissions: &'a ByRoleOperation,
@@ -99,9 +108,9 @@ pub fn mine_record<'a>(
     ensures { λ r. ⌜
         ((F : Policy)
         → Sized F
-        → OfRecord F (now (known .entry)) (now (values .entry)) (now (kinds .entry)) (now (attributes .entry))
-        (now (holders .entry)) (now (permissions .entry)) (sizes .users) (sizes .resources) (sizes .operations)
-        (sizes .roles)
+        → OfRecord F (now (known .entry)) (now (values .entry)) (now (kinds .entry)) (now (domains .entry))
+        (now (attributes .entry)) (now (holders .entry)) (now (permissions .entry)) (sizes .users)
+        (sizes .resources) (sizes .operations) (sizes .roles)
         → Result F (now (out .entry)) (r .mined) (now (out .exit)) × (r .bytes ≡ length (minedBytes 2 F))) ⌝ }
 {
     let mut distinct = [0u64; RoleFile::PLACES * RoleFile::MEMBERS];
@@ -121,6 +130,7 @@ pub fn mine_record<'a>(
     let merging = merge_parts(
         known,
         kinds,
+        domains,
         attributes,
         holders,
         permissions,

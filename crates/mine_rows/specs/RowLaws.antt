@@ -39,7 +39,7 @@ use Rattle.mine_rows.specs.FirstOtherLaws.{ruled}
 
 -- the laws of comparisons speak of a setting: one with nothing but sizes
 abbrev bare : ℕ → Side
-bare n = record { count = n; attrs = 0; isSet = λ a. false; value = λ a x. none; below = λ a v x. false }
+bare n = record { count = n; attrs = 0; isSet = λ a. false; domain = λ a. 0; value = λ a x. none; below = λ a v x. false }
 
 abbrev sized : ℕ → ℕ → ℕ → Setting
 sized us rs os = record { side = λ w. bare (by w us rs); slots = os }

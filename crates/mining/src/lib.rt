@@ -43,6 +43,7 @@ fn mine_in(file: &[u8], scratch: &mut [u64], out: &mut [u8]) -> Attempt
         &f.known,
         &f.values,
         &f.kinds,
+        &f.domains,
         &f.attributes,
         &f.holders,
         &f.permissions,

@@ -16,6 +16,8 @@ pub record Table : Type 0 where
   pub count : ℕ
   -- the kinds of the attributes declared, in order: true for a set
   pub kinds : List Bool
+  -- the domains of attributes: "02 means domain 0"
+  pub domain : ℕ → ℕ
   -- attribute, who
   pub value : ℕ → ℕ → Option ℕ
 
@@ -85,6 +87,7 @@ module _ (F : Policy) where
     count = F .table w .count;
     attrs = length (F .table w .kinds);
     isSet = isSetAt w;
+    domain = F .table w .domain;
     value = valueAt w;
     below = λ a. meetsValue w (isSetAt w a);
   }

@@ -3,7 +3,7 @@
 use Prim.Native.Nat.{ℕ, _<_}
 use lib.Dec.{eqb, ltb}
 use lib.ListN.{length}
-use mathlib.Core.Bool.{Bool, true, false, _&&_, _||_}
+use mathlib.Core.Bool.{Bool, true, false, cond, _&&_, _||_}
 use mathlib.Core.List.{List, _++_}
 use mathlib.Core.Option.{Option, none, some}
 use mathlib.Core.Path.{_≡_}
@@ -23,6 +23,8 @@ pub record Side : Type 0 where
   pub attrs : ℕ
   -- an attribute is a set, not single
   pub isSet : ℕ → Bool
+  -- "Attributes now carry a domain number."
+  pub domain : ℕ → ℕ
   -- the value of an attribute for somebody: "An attribute never given for somebody is unknown."
   pub value : ℕ → ℕ → Option ℕ
   -- attribute, listed value, somebody's value: the listed one is met (see Policy for the two sides)
@@ -106,9 +108,9 @@ ownAt user l = eqb l 1 || eqb l 3
 ownAt resource l = eqb l 2 || eqb l 3
 
 module _ (P : Setting) where
-  -- the form of the atom over two attributes
+  -- the form of the atom over two attributes, if they have one: "An atom joins two attributes only if their domains are equal"
   abbrev pub atomForm : ℕ → ℕ → Option Form
-  atomForm a b = formOf (P .side user .isSet a) (P .side resource .isSet b)
+  atomForm a b = cond (eqb (P .side user .domain a) (P .side resource .domain b)) (formOf (P .side user .isSet a) (P .side resource .isSet b)) none
 
   -- a condition holds of a user and a resource
   unfoldable pub holds : Cond → ℕ → ℕ → Bool

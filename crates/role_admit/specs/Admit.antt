@@ -47,7 +47,7 @@ permissionCode k r o n = belowOf k (n .roles) (belowOf r (n .resources) (belowOf
 -- 0 where the command is admitted in a phase (0 nothing was read, 1 only 01 and 02, 2 more), else the refusal
 unfoldable pub admitOf : Command → ℕ → Counts → List ℕ → List ℕ → List ℕ → ℕ
 admitOf (Sizes u r o k) p n attributes kinds known = firstOf p (sizesCode u r o k)
-admitOf (Declare side kind) p n attributes kinds known = declaringOf p (kindCode side kind attributes)
+admitOf (Declare side kind domain) p n attributes kinds known = declaringOf p (kindCode side kind attributes)
 admitOf (Give set side a x v) p n attributes kinds known = laterOf p (valueCode set side a x n attributes kinds known)
 admitOf (Assign k u) p n attributes kinds known = laterOf p (belowOf k (n .roles) (belowOf u (n .users) 0))
 admitOf (Permit k r o) p n attributes kinds known = laterOf p (permissionCode k r o n)

@@ -118,10 +118,10 @@ sizes-code u r o k =
     ∙ both-tests (leb u 64) (leb r 64) (cond (leb o 16) (cond (leb k 32) 0 5) 5) 5
     ∙ rw (at-most u 64, at-most r 64, at-most o 16, at-most k 32) refl
 
-kind-code : (F : Policy) (side kind : ℕ) → codeOf (takeKind F side kind) ≡ kindCode side kind (attributeTable F)
+kind-code : (F : Policy) (side kind domain : ℕ) → codeOf (takeKind F side kind domain) ≡ kindCode side kind (attributeTable F)
 unfolding takeKind kindCode
-kind-code F side kind =
-    unless-code (ltb side 2 && ltb kind 2 && ltb (length (F .table (sideBy side) .kinds)) 6) beyond (accepted (withKind F (sideBy side) (eqb kind 1)))
+kind-code F side kind domain =
+    unless-code (ltb side 2 && ltb kind 2 && ltb (length (F .table (sideBy side) .kinds)) 6) beyond (accepted (withKind F (sideBy side) (eqb kind 1) domain))
     ∙ both-tests (ltb side 2 && ltb kind 2) (ltb (length (F .table (sideBy side) .kinds)) 6) 0 5
     ∙ both-tests (ltb side 2) (ltb kind 2) (cond (ltb (length (F .table (sideBy side) .kinds)) 6) 0 5) 5
     ∙ test (ltb side 2) (λ h. rw (h, side-attributes F side (ltb-true side 2 h)) refl) (λ h. rw h refl)
@@ -165,7 +165,7 @@ pub admit-means : (L : Loading) (c : Command) → Sized (L .policy)
     → admitOf c (phaseCode (L .phase)) (sizesIn (L .policy)) (attributeTable (L .policy)) (kindTable (L .policy)) (knownTable (L .policy)) ≡ codeOf (obeyRole 2 L (meaning c))
 unfolding admitOf obeyRole takeAssignment takePermission takeLine permissionCode belowOf
 admit-means L (Sizes u r o k) Z = sym (first-place (L .phase) declaring (takeSizes 2 u r o k) ∙ ap (firstOf (phaseCode (L .phase))) (sizes-code u r o k))
-admit-means L (Declare side kind) Z = sym (declaring-place (L .phase) declaring (takeKind (L .policy) side kind) ∙ ap (declaringOf (phaseCode (L .phase))) (kind-code (L .policy) side kind))
+admit-means L (Declare side kind domain) Z = sym (declaring-place (L .phase) declaring (takeKind (L .policy) side kind domain) ∙ ap (declaringOf (phaseCode (L .phase))) (kind-code (L .policy) side kind domain))
 admit-means L (Give set side a x v) Z = sym (later-place (L .phase) telling (takeValue (L .policy) set side a x v) ∙ ap (laterOf (phaseCode (L .phase))) (value-code (L .policy) Z set side a x v))
 admit-means L (Assign k u) Z = sym (later-place (L .phase) telling (takeAssignment (L .policy) k u) ∙ ap (laterOf (phaseCode (L .phase))) (two-code (ltb k (L .policy .roles)) (ltb u (L .policy .table user .count)) (withAssigned (L .policy) k u)))
 admit-means L (Permit k r o) Z = sym (later-place (L .phase) telling (takePermission (L .policy) k r o) ∙ ap (laterOf (phaseCode (L .phase))) (three-code (ltb k (L .policy .roles)) (ltb r (L .policy .table resource .count)) (ltb o (L .policy .operations)) (withPermitted (L .policy) k r o)))

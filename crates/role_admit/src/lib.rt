@@ -161,7 +161,11 @@ pub fn admit<'a>(
             operations,
             roles,
         } => first(phase, admit_sizes(users, resources, operations, roles)),
-        Command::Declare { side, kind } => declaring(phase, admit_kind(side, kind, attributes)),
+        Command::Declare {
+            side,
+            kind,
+            domain: _,
+        } => declaring(phase, admit_kind(side, kind, attributes)),
         Command::Give {
             set,
             side,

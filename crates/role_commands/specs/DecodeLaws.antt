@@ -61,7 +61,7 @@ operands-short (w ∷ ws) i l h k =
 -- a command of the code, as the definitions have it
 abbrev pub meaning : Command → RoleCommand
 meaning (Sizes u r o k) = sizes u r o k
-meaning (Declare side kind) = declare side kind
+meaning (Declare side kind domain) = declare side kind domain
 meaning (Give set side a x v) = give set side a x v
 meaning (Assign k u) = assign k u
 meaning (Permit k r o) = permit k r o
@@ -75,42 +75,44 @@ spanOf (some ws) = suc (totalOf ws)
 
 span-width : (b : ℕ) → spanOf (roleWidths b) ≡ widthOf b
 unfolding widthOf
-span-width b = go (eqb b 1) (eqb b 2) (eqb b 3) (eqb b 4) (eqb b 5) (eqb b 6) (eqb b 7) (eqb b 15)
+span-width b = go (eqb b 1) (eqb b 2) (eqb b 3) (eqb b 4) (eqb b 5) (eqb b 6) (eqb b 7) (eqb b 8) (eqb b 15)
   where
-    go : (b1 b2 b3 b4 b5 b6 b7 b15 : Bool)
-        → spanOf (cond b1 (some (1 ∷ 1 ∷ 1 ∷ 1 ∷ [])) (cond b2 (some (1 ∷ 1 ∷ [])) (cond b3 (some (1 ∷ 1 ∷ 1 ∷ 2 ∷ [])) (cond b4 (some (1 ∷ 1 ∷ 1 ∷ 8 ∷ [])) (cond b5 (some (1 ∷ 1 ∷ [])) (cond b6 (some (1 ∷ 1 ∷ 1 ∷ [])) (cond b7 (some (1 ∷ 1 ∷ [])) (cond b15 (some []) none))))))))
-        ≡ cond b1 5 (cond b2 3 (cond b3 6 (cond b4 12 (cond b5 3 (cond b6 4 (cond b7 3 (cond b15 1 0)))))))
-    go true b2 b3 b4 b5 b6 b7 b15 = refl
-    go false true b3 b4 b5 b6 b7 b15 = refl
-    go false false true b4 b5 b6 b7 b15 = refl
-    go false false false true b5 b6 b7 b15 = refl
-    go false false false false true b6 b7 b15 = refl
-    go false false false false false true b7 b15 = refl
-    go false false false false false false true b15 = refl
-    go false false false false false false false true = refl
-    go false false false false false false false false = refl
+    go : (b1 b2 b3 b4 b5 b6 b7 b8 b15 : Bool)
+        → spanOf (cond b1 (some (1 ∷ 1 ∷ 1 ∷ 1 ∷ [])) (cond b2 (some (1 ∷ 1 ∷ [])) (cond b3 (some (1 ∷ 1 ∷ 1 ∷ 2 ∷ [])) (cond b4 (some (1 ∷ 1 ∷ 1 ∷ 8 ∷ [])) (cond b5 (some (1 ∷ 1 ∷ [])) (cond b6 (some (1 ∷ 1 ∷ 1 ∷ [])) (cond b7 (some (1 ∷ 1 ∷ [])) (cond b8 (some (1 ∷ 1 ∷ 1 ∷ [])) (cond b15 (some []) none)))))))))
+        ≡ cond b1 5 (cond b2 3 (cond b3 6 (cond b4 12 (cond b5 3 (cond b6 4 (cond b7 3 (cond b8 4 (cond b15 1 0))))))))
+    go true b2 b3 b4 b5 b6 b7 b8 b15 = refl
+    go false true b3 b4 b5 b6 b7 b8 b15 = refl
+    go false false true b4 b5 b6 b7 b8 b15 = refl
+    go false false false true b5 b6 b7 b8 b15 = refl
+    go false false false false true b6 b7 b8 b15 = refl
+    go false false false false false true b7 b8 b15 = refl
+    go false false false false false false true b8 b15 = refl
+    go false false false false false false false true b15 = refl
+    go false false false false false false false false true = refl
+    go false false false false false false false false false = refl
 
 meaning-by : (b : ℕ) (l : List ℕ) → roleCommand b (numbersAt (widthsOr (roleWidths b)) l 1) ≡ meaning (commandBy b l)
 unfolding commandBy
-meaning-by b l = go (eqb b 1) (eqb b 2) (eqb b 3) (eqb b 4) (eqb b 5) (eqb b 6) (eqb b 7) (eqb b 15)
+meaning-by b l = go (eqb b 1) (eqb b 2) (eqb b 3) (eqb b 4) (eqb b 5) (eqb b 6) (eqb b 7) (eqb b 8) (eqb b 15)
   where
-    known : (b1 b2 b3 b4 b5 b6 b7 b15 : Bool) → List ℕ
-    known b1 b2 b3 b4 b5 b6 b7 b15 = widthsOr (cond b1 (some (1 ∷ 1 ∷ 1 ∷ 1 ∷ [])) (cond b2 (some (1 ∷ 1 ∷ [])) (cond b3 (some (1 ∷ 1 ∷ 1 ∷ 2 ∷ [])) (cond b4 (some (1 ∷ 1 ∷ 1 ∷ 8 ∷ [])) (cond b5 (some (1 ∷ 1 ∷ [])) (cond b6 (some (1 ∷ 1 ∷ 1 ∷ [])) (cond b7 (some (1 ∷ 1 ∷ [])) (cond b15 (some []) none))))))))
+    known : (b1 b2 b3 b4 b5 b6 b7 b8 b15 : Bool) → List ℕ
+    known b1 b2 b3 b4 b5 b6 b7 b8 b15 = widthsOr (cond b1 (some (1 ∷ 1 ∷ 1 ∷ 1 ∷ [])) (cond b2 (some (1 ∷ 1 ∷ [])) (cond b3 (some (1 ∷ 1 ∷ 1 ∷ 2 ∷ [])) (cond b4 (some (1 ∷ 1 ∷ 1 ∷ 8 ∷ [])) (cond b5 (some (1 ∷ 1 ∷ [])) (cond b6 (some (1 ∷ 1 ∷ 1 ∷ [])) (cond b7 (some (1 ∷ 1 ∷ [])) (cond b8 (some (1 ∷ 1 ∷ 1 ∷ [])) (cond b15 (some []) none)))))))))
 
-    said : (b1 b2 b3 b4 b5 b6 b7 : Bool) → List ℕ → RoleCommand
-    said b1 b2 b3 b4 b5 b6 b7 xs =
-        cond b1 (sizes (getD xs 0 0) (getD xs 1 0) (getD xs 2 0) (getD xs 3 0)) (cond b2 (declare (getD xs 0 0) (getD xs 1 0)) (cond b3 (give false (getD xs 0 0) (getD xs 1 0) (getD xs 2 0) (getD xs 3 0)) (cond b4 (give true (getD xs 0 0) (getD xs 1 0) (getD xs 2 0) (getD xs 3 0)) (cond b5 (assign (getD xs 0 0) (getD xs 1 0)) (cond b6 (permit (getD xs 0 0) (getD xs 1 0) (getD xs 2 0)) (cond b7 (line (getD xs 0 0) (getD xs 1 0)) end))))))
+    said : (b1 b2 b3 b4 b5 b6 b7 b8 : Bool) → List ℕ → RoleCommand
+    said b1 b2 b3 b4 b5 b6 b7 b8 xs =
+        cond b1 (sizes (getD xs 0 0) (getD xs 1 0) (getD xs 2 0) (getD xs 3 0)) (cond b2 (declare (getD xs 0 0) (getD xs 1 0) 0) (cond b3 (give false (getD xs 0 0) (getD xs 1 0) (getD xs 2 0) (getD xs 3 0)) (cond b4 (give true (getD xs 0 0) (getD xs 1 0) (getD xs 2 0) (getD xs 3 0)) (cond b5 (assign (getD xs 0 0) (getD xs 1 0)) (cond b6 (permit (getD xs 0 0) (getD xs 1 0) (getD xs 2 0)) (cond b7 (line (getD xs 0 0) (getD xs 1 0)) (cond b8 (declare (getD xs 0 0) (getD xs 1 0) (getD xs 2 0)) end)))))))
 
-    go : (b1 b2 b3 b4 b5 b6 b7 b15 : Bool) → said b1 b2 b3 b4 b5 b6 b7 (numbersAt (known b1 b2 b3 b4 b5 b6 b7 b15) l 1)
-        ≡ meaning (cond b1 (Sizes (numberAt 1 l 1) (numberAt 1 l 2) (numberAt 1 l 3) (numberAt 1 l 4)) (cond b2 (Declare (numberAt 1 l 1) (numberAt 1 l 2)) (cond b3 (Give false (numberAt 1 l 1) (numberAt 1 l 2) (numberAt 1 l 3) (numberAt 2 l 4)) (cond b4 (Give true (numberAt 1 l 1) (numberAt 1 l 2) (numberAt 1 l 3) (numberAt 8 l 4)) (cond b5 (Assign (numberAt 1 l 1) (numberAt 1 l 2)) (cond b6 (Permit (numberAt 1 l 1) (numberAt 1 l 2) (numberAt 1 l 3)) (cond b7 (Line (numberAt 1 l 1) (numberAt 1 l 2)) End)))))))
-    go true b2 b3 b4 b5 b6 b7 b15 = refl
-    go false true b3 b4 b5 b6 b7 b15 = refl
-    go false false true b4 b5 b6 b7 b15 = refl
-    go false false false true b5 b6 b7 b15 = refl
-    go false false false false true b6 b7 b15 = refl
-    go false false false false false true b7 b15 = refl
-    go false false false false false false true b15 = refl
-    go false false false false false false false b15 = refl
+    go : (b1 b2 b3 b4 b5 b6 b7 b8 b15 : Bool) → said b1 b2 b3 b4 b5 b6 b7 b8 (numbersAt (known b1 b2 b3 b4 b5 b6 b7 b8 b15) l 1)
+        ≡ meaning (cond b1 (Sizes (numberAt 1 l 1) (numberAt 1 l 2) (numberAt 1 l 3) (numberAt 1 l 4)) (cond b2 (Declare (numberAt 1 l 1) (numberAt 1 l 2) 0) (cond b3 (Give false (numberAt 1 l 1) (numberAt 1 l 2) (numberAt 1 l 3) (numberAt 2 l 4)) (cond b4 (Give true (numberAt 1 l 1) (numberAt 1 l 2) (numberAt 1 l 3) (numberAt 8 l 4)) (cond b5 (Assign (numberAt 1 l 1) (numberAt 1 l 2)) (cond b6 (Permit (numberAt 1 l 1) (numberAt 1 l 2) (numberAt 1 l 3)) (cond b7 (Line (numberAt 1 l 1) (numberAt 1 l 2)) (cond b8 (Declare (numberAt 1 l 1) (numberAt 1 l 2) (numberAt 1 l 3)) End))))))))
+    go true b2 b3 b4 b5 b6 b7 b8 b15 = refl
+    go false true b3 b4 b5 b6 b7 b8 b15 = refl
+    go false false true b4 b5 b6 b7 b8 b15 = refl
+    go false false false true b5 b6 b7 b8 b15 = refl
+    go false false false false true b6 b7 b8 b15 = refl
+    go false false false false false true b7 b8 b15 = refl
+    go false false false false false false true b8 b15 = refl
+    go false false false false false false false true b15 = refl
+    go false false false false false false false false b15 = refl
 
 -- ---- what was decoded
 

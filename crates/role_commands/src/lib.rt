@@ -14,6 +14,7 @@ pub enum Command {
     Declare {
         side: usize,
         kind: usize,
+        domain: usize,
     },
     Give {
         set: bool,
@@ -57,6 +58,7 @@ pub fn width(b: usize) -> usize
         role_byte::ASSIGN => 3,
         role_byte::PERMIT => 4,
         role_byte::LINE => 3,
+        role_byte::DECLARE_IN_DOMAIN => 4,
         role_byte::END => 1,
         _ => 0,
     }
@@ -76,6 +78,7 @@ pub fn operands(s: &[u8], b: usize) -> Command
         role_byte::DECLARE => Command::Declare {
             side: file_bytes::byte_at(s, 1),
             kind: file_bytes::byte_at(s, 2),
+            domain: 0,
         },
         role_byte::GIVE_SINGLE => Command::Give {
             set: false,
@@ -103,6 +106,11 @@ pub fn operands(s: &[u8], b: usize) -> Command
         role_byte::LINE => Command::Line {
             junior: file_bytes::byte_at(s, 1),
             senior: file_bytes::byte_at(s, 2),
+        },
+        role_byte::DECLARE_IN_DOMAIN => Command::Declare {
+            side: file_bytes::byte_at(s, 1),
+            kind: file_bytes::byte_at(s, 2),
+            domain: file_bytes::byte_at(s, 3),
         },
         _ => Command::End,
     }

@@ -1,9 +1,9 @@
 -- Reading on from any place gives what the whole file gives: the state of the reader's loop.
 -- Assumes nothing.
-use Prim.Native.Nat.{ℕ, zero, suc, _≤_, _<_}
+use Prim.Native.Nat.{ℕ, zero, suc, _≤_, _<_, _+_, _*_}
 use borrow.Author.Tests.{eqb-true, ltb-true, leb-true}
 use lib.Dec.{eqb, ltb, leb}
-use lib.ListN.{length}
+use lib.ListN.{length, getD, set}
 use mathlib.Core.Bool.{Bool, true, false, cond, _&&_, _||_, false≢true, not}
 use mathlib.Core.List.{List, [], _∷_, _++_}
 use mathlib.Core.Logic.{_⊎_, inl, inr}
@@ -12,14 +12,14 @@ use mathlib.Core.Path.{_≡_, refl, sym, ap, ap₂, _∙_, subst}
 use native.Mathlib.Omega.{arith}
 use Rattle.role_admit.specs.AdmitLaws.{phaseCode, side-attributes}
 use Rattle.role_record.specs.Cells.{rowCells}
-use Rattle.role_record.specs.Record.{Sized, knownTable, valueTable, assignedTable, lineTable, permissionTable, attributeTable, kindTable, recordWith, recordSoFar, setKinds, setValues, setAssigned, setLines, setPermissions}
+use Rattle.role_record.specs.Record.{Sized, knownTable, valueTable, assignedTable, lineTable, permissionTable, attributeTable, kindTable, domainTable, recordWith, recordSoFar, setKinds, setValues, setAssigned, setLines, setPermissions}
 use Rattle.role_commands.specs.DecodeLaws.{meaning}
 use Rattle.files.specs.Answer.{Answer, unless, andThen, outOfPlace, beyond, wrongKind, accepted}
 use Rattle.files.specs.BytesLaws.{Carries, unless-carries, then-carries}
 use Rattle.files.specs.LineLaws.{same-side}
 use Rattle.files.specs.RoleFile.{Phase, Loading, blank, sideBy, sameSide, withTable, withKind, withValue, withAssigned, withPermitted, withLine, isNothing, isDeclaring, enter, takeKind, takeValue, takeAssignment, takePermission, takeLine, takeSizes, obeyRole, nothing, declaring, telling, isEnd}
 use Rattle.files.specs.RuleFile.{value}
-use Rattle.role_record.specs.RecordLaws.{assigned-marked, line-marked, permission-marked, known-marked, value-stored, kind-marked, attribute-counted, kind-values}
+use Rattle.role_record.specs.RecordLaws.{assigned-marked, line-marked, permission-marked, known-marked, value-stored, kind-marked, attribute-counted, kind-values, domain-stored, value-domains}
 use Rattle.policy.specs.Policy.{Table, Policy, kindOf}
 use Rattle.policy.specs.Rules.{Which, by, user, resource}
 use Rattle.role_store.specs.Storing.{applied, phaseAfter, Bounded, storedBy}
@@ -51,7 +51,7 @@ nothing-yet declaring h = absurd (false≢true h)
 nothing-yet telling h = absurd (false≢true h)
 
 blank-shows : (u r o k : ℕ) → applied (recordSoFar (blank 0 0 0 0)) (Sizes u r o k) ≡ recordSoFar (blank u r o k)
-unfolding applied storedBy recordSoFar recordWith attributeTable kindTable knownTable valueTable assignedTable lineTable permissionTable blank
+unfolding applied storedBy recordSoFar recordWith attributeTable kindTable domainTable knownTable valueTable assignedTable lineTable permissionTable blank
 blank-shows u r o k = refl
 
 pub blank-sized : (u r o k : ℕ) → u ≤ 64 → r ≤ 64 → o ≤ 16 → k ≤ 32 → Sized (blank u r o k)
@@ -88,37 +88,45 @@ table-sized F s t Z e h = record {
     kinds w false = Z .declared w
 
 -- the fields that a command leaves alone
-declared-else : (F : Policy) (side : ℕ) (k : Bool) → side < 2 → setValues (setKinds (recordSoFar F) (attributeTable (withKind F (sideBy side) k)) (kindTable (withKind F (sideBy side) k))) (knownTable (withKind F (sideBy side) k)) (valueTable (withKind F (sideBy side) k)) ≡ recordSoFar (withKind F (sideBy side) k)
+declared-else : (F : Policy) (side : ℕ) (k : Bool) (d : ℕ) → side < 2
+    → setValues (setKinds (recordSoFar F) (attributeTable (withKind F (sideBy side) k d)) (kindTable (withKind F (sideBy side) k d)) (domainTable (withKind F (sideBy side) k d))) (knownTable (withKind F (sideBy side) k d)) (valueTable (withKind F (sideBy side) k d))
+    ≡ recordSoFar (withKind F (sideBy side) k d)
 unfolding recordSoFar recordWith withKind withTable assignedTable lineTable permissionTable
-declared-else F zero k h = refl
-declared-else F (suc zero) k h = refl
-declared-else F (suc (suc n)) k h = absurd (omega arith)
+declared-else F zero k d h = refl
+declared-else F (suc zero) k d h = refl
+declared-else F (suc (suc n)) k d h = absurd (omega arith)
 
 given-else : (F : Policy) (side a x v : ℕ) → side < 2 → setValues (recordSoFar F) (knownTable (withValue F (sideBy side) a x v)) (valueTable (withValue F (sideBy side) a x v)) ≡ recordSoFar (withValue F (sideBy side) a x v)
 unfolding recordSoFar recordWith withValue withTable attributeTable kindTable assignedTable lineTable permissionTable
-given-else F zero a x v h = refl
-given-else F (suc zero) a x v h = refl
-given-else F (suc (suc n)) a x v h = absurd (omega arith)
+given-else F side a x v h = ap (λ (d : List ℕ). setValues (setKinds (recordSoFar F) (attributeTable F) (kindTable F) d) (knownTable (withValue F (sideBy side) a x v)) (valueTable (withValue F (sideBy side) a x v))) (sym (value-domains F side a x v)) ∙ go side h
+  where
+    go : (s : ℕ) → s < 2
+        → setValues (setKinds (recordSoFar F) (attributeTable F) (kindTable F) (domainTable (withValue F (sideBy s) a x v))) (knownTable (withValue F (sideBy s) a x v)) (valueTable (withValue F (sideBy s) a x v)) ≡ recordSoFar (withValue F (sideBy s) a x v)
+    go zero h = refl
+    go (suc zero) h = refl
+    go (suc (suc n)) h = absurd (omega arith)
 
 assigned-else : (F : Policy) (k u : ℕ) → setAssigned (recordSoFar F) (assignedTable (withAssigned F k u)) ≡ recordSoFar (withAssigned F k u)
-unfolding recordSoFar recordWith withAssigned attributeTable kindTable knownTable valueTable lineTable permissionTable
+unfolding recordSoFar recordWith withAssigned attributeTable kindTable domainTable knownTable valueTable lineTable permissionTable
 assigned-else F k u = refl
 
 permitted-else : (F : Policy) (k r o : ℕ) → setPermissions (recordSoFar F) (permissionTable (withPermitted F k r o)) ≡ recordSoFar (withPermitted F k r o)
-unfolding recordSoFar recordWith withPermitted attributeTable kindTable knownTable valueTable assignedTable lineTable
+unfolding recordSoFar recordWith withPermitted attributeTable kindTable domainTable knownTable valueTable assignedTable lineTable
 permitted-else F k r o = refl
 
 line-else : (F : Policy) (j s : ℕ) → setLines (recordSoFar F) (lineTable (withLine F j s)) ≡ recordSoFar (withLine F j s)
-unfolding recordSoFar recordWith withLine attributeTable kindTable knownTable valueTable assignedTable permissionTable
+unfolding recordSoFar recordWith withLine attributeTable kindTable domainTable knownTable valueTable assignedTable permissionTable
 line-else F j s = refl
 
 module _ (F : Policy) where
-  declare-shows : (side kind : ℕ) → side < 2 → applied (recordSoFar F) (Declare side kind) ≡ recordSoFar (withKind F (sideBy side) (eqb kind 1))
+  declare-shows : (side kind domain : ℕ) → side < 2 → getD (attributeTable F) side 0 < 6 → applied (recordSoFar F) (Declare side kind domain) ≡ recordSoFar (withKind F (sideBy side) (eqb kind 1) domain)
   unfolding applied storedBy recordSoFar recordWith
-  declare-shows side kind h =
-      ap₂ (λ (a k : List ℕ). setKinds (recordSoFar F) a k) (attribute-counted F side (eqb kind 1) h) (kind-marked F side (eqb kind 1) h)
-      ∙ ap₂ (λ (k v : List ℕ). setValues (setKinds (recordSoFar F) (attributeTable (withKind F (sideBy side) (eqb kind 1))) (kindTable (withKind F (sideBy side) (eqb kind 1)))) k v) (sym (kind-values F side (eqb kind 1) .0)) (sym (kind-values F side (eqb kind 1) .1))
-      ∙ declared-else F side (eqb kind 1) h
+  declare-shows side kind domain h n =
+      ap₂ (λ (a k : List ℕ). setKinds (recordSoFar F) a k (set (domainTable F) (6 * side + getD (attributeTable F) side 0) domain)) (attribute-counted F side (eqb kind 1) domain h) (kind-marked F side (eqb kind 1) domain h)
+      ∙ ap (λ (d : List ℕ). setKinds (recordSoFar F) (attributeTable (withKind F (sideBy side) (eqb kind 1) domain)) (kindTable (withKind F (sideBy side) (eqb kind 1) domain)) d) (domain-stored F side (eqb kind 1) domain h n)
+      ∙ ap₂ (λ (k v : List ℕ). setValues (setKinds (recordSoFar F) (attributeTable (withKind F (sideBy side) (eqb kind 1) domain)) (kindTable (withKind F (sideBy side) (eqb kind 1) domain)) (domainTable (withKind F (sideBy side) (eqb kind 1) domain))) k v)
+      (sym (kind-values F side (eqb kind 1) domain .0)) (sym (kind-values F side (eqb kind 1) domain .1))
+      ∙ declared-else F side (eqb kind 1) domain h
 
   give-shows : (kind : Bool) (side a x v : ℕ) → side < 2 → a < 6 → x < 64 → applied (recordSoFar F) (Give kind side a x v) ≡ recordSoFar (withValue F (sideBy side) a x v)
   unfolding applied storedBy recordSoFar recordWith
@@ -149,14 +157,14 @@ sizes-leave F e u r o k =
     (tt, ap (λ (G : Policy). applied (recordSoFar G) (Sizes u r o k)) e ∙ blank-shows u r o k, blank-sized u r o k (leb-true u 64 (a .0)) (leb-true r 64 (a .1)) (leb-true o 16 (a .2)) (leb-true k 32 (and-r (leb u 64 && leb r 64 && leb o 16) (leb k 32) q)))
 
 module _ (F : Policy) (Z : Sized F) where
-  kind-leaves : (side kind : ℕ) → Carries (Leaves F (Declare side kind)) (takeKind F side kind)
+  kind-leaves : (side kind domain : ℕ) → Carries (Leaves F (Declare side kind domain)) (takeKind F side kind domain)
   unfolding takeKind Bounded recordSoFar recordWith withKind
-  kind-leaves side kind =
-      unless-carries (Leaves F (Declare side kind)) (ltb side 2 && ltb kind 2 && ltb (length (F .table (sideBy side) .kinds)) 6) beyond (accepted (withKind F (sideBy side) (eqb kind 1))) λ q.
+  kind-leaves side kind domain =
+      unless-carries (Leaves F (Declare side kind domain)) (ltb side 2 && ltb kind 2 && ltb (length (F .table (sideBy side) .kinds)) 6) beyond (accepted (withKind F (sideBy side) (eqb kind 1) domain)) λ q.
       let a = and-three (ltb side 2) (ltb kind 2) (ltb (length (F .table (sideBy side) .kinds)) 6) q in
       let h = ltb-true side 2 (a .0) in
       let n = ltb-true (length (F .table (sideBy side) .kinds)) 6 (a .2) in
-      ((h, subst (λ (x : ℕ). x < 6) (sym (side-attributes F side h)) n), declare-shows F side kind h, table-sized F (sideBy side) (record { count = F .table (sideBy side) .count; kinds = F .table (sideBy side) .kinds ++ (eqb kind 1 ∷ []); value = F .table (sideBy side) .value }) Z refl (let e = length-last (F .table (sideBy side) .kinds) (eqb kind 1) in omega arith))
+      ((h, subst (λ (x : ℕ). x < 6) (sym (side-attributes F side h)) n), declare-shows F side kind domain h (subst (λ (x : ℕ). x < 6) (sym (side-attributes F side h)) n), table-sized F (sideBy side) (record { count = F .table (sideBy side) .count; kinds = F .table (sideBy side) .kinds ++ (eqb kind 1 ∷ []); domain = λ a. cond (eqb a (length (F .table (sideBy side) .kinds))) domain (F .table (sideBy side) .domain a); value = F .table (sideBy side) .value }) Z refl (let e = length-last (F .table (sideBy side) .kinds) (eqb kind 1) in omega arith))
 
   value-leaves : (kind : Bool) (side a x v : ℕ) → Carries (Leaves F (Give kind side a x v)) (takeValue F kind side a x v)
   unfolding takeValue Bounded withValue
@@ -171,7 +179,7 @@ module _ (F : Policy) (Z : Sized F) where
       let m = Z .many (sideBy side) in
       let ha : a < 6 = omega arith in
       let hx : x < 64 = omega arith in
-      ((hs, ha, hx), give-shows F kind side a x v hs ha hx, table-sized F (sideBy side) (record { count = F .table (sideBy side) .count; kinds = F .table (sideBy side) .kinds; value = λ b y. cond (eqb b a && eqb y x) (some v) (F .table (sideBy side) .value b y) }) Z refl n)
+      ((hs, ha, hx), give-shows F kind side a x v hs ha hx, table-sized F (sideBy side) (record { count = F .table (sideBy side) .count; kinds = F .table (sideBy side) .kinds; domain = F .table (sideBy side) .domain; value = λ b y. cond (eqb b a && eqb y x) (some v) (F .table (sideBy side) .value b y) }) Z refl n)
 
   assignment-leaves : (k u : ℕ) → Carries (Leaves F (Assign k u)) (takeAssignment F k u)
   unfolding takeAssignment Bounded withAssigned
@@ -236,7 +244,7 @@ module _ (F : Policy) (Z : Sized F) where
 pub obeyed : (L : Loading) (c : Command) → Sized (L .policy) → (L .phase ≡ nothing → L .policy ≡ blank 0 0 0 0) → Carries (After L c) (obeyRole 2 L (meaning c))
 unfolding obeyRole Bounded applied recordSoFar storedBy
 obeyed L (Sizes u r o k) Z f = entered L (Sizes u r o k) (isNothing (L .phase)) declaring (takeSizes 2 u r o k) (λ q. refl) (λ z. omega arith) (λ p. sizes-leave (L .policy) (f (nothing-yet (L .phase) p)) u r o k)
-obeyed L (Declare side kind) Z f = entered L (Declare side kind) (isDeclaring (L .phase)) declaring (takeKind (L .policy) side kind) (λ q. refl) (λ z. omega arith) (λ p. kind-leaves (L .policy) Z side kind)
+obeyed L (Declare side kind domain) Z f = entered L (Declare side kind domain) (isDeclaring (L .phase)) declaring (takeKind (L .policy) side kind domain) (λ q. refl) (λ z. omega arith) (λ p. kind-leaves (L .policy) Z side kind domain)
 obeyed L (Give kind side a x v) Z f = entered L (Give kind side a x v) (not (isNothing (L .phase))) telling (takeValue (L .policy) kind side a x v) (λ q. refl) (λ z. omega arith) (λ p. value-leaves (L .policy) Z kind side a x v)
 obeyed L (Assign k u) Z f = entered L (Assign k u) (not (isNothing (L .phase))) telling (takeAssignment (L .policy) k u) (λ q. refl) (λ z. omega arith) (λ p. assignment-leaves (L .policy) Z k u)
 obeyed L (Permit k r o) Z f = entered L (Permit k r o) (not (isNothing (L .phase))) telling (takePermission (L .policy) k r o) (λ q. refl) (λ z. omega arith) (λ p. permission-leaves (L .policy) Z k r o)

@@ -11,7 +11,7 @@ use native.Mathlib.Omega.{arith}
 use Rattle.role_admit.specs.Admit.{admitOf}
 use Rattle.role_admit.specs.AdmitLaws.{codeOf, phaseCode, admit-means}
 use Rattle.role_record.specs.Cells.{roleCells}
-use Rattle.role_record.specs.Record.{Sized, emptyRecord, tableOf, knownTable, valueTable, assignedTable, lineTable, permissionTable, attributeTable, kindTable, recordWith, recordSoFar, setValues, setAssigned, setLines, setPermissions}
+use Rattle.role_record.specs.Record.{Sized, emptyRecord, tableOf, knownTable, valueTable, assignedTable, lineTable, permissionTable, attributeTable, kindTable, recordWith, recordSoFar, setValues, setAssigned, setLines, setPermissions, setKinds, domainTable}
 use Rattle.role_commands.specs.Decode.{decodedOf}
 use Rattle.role_commands.specs.DecodeLaws.{meaning, turn-short, turn-unknown, Front, turn-whole}
 use Rattle.files.specs.Answer.{Answer, unless, andThen, ownSenior, refused, accepted}
@@ -80,8 +80,11 @@ too-long s h = rw (lt-leb (length s) 65535 h) refl
 -- ---- the beginning
 
 empty-shows : emptyRecord ≡ recordSoFar (blank 0 0 0 0)
-unfolding emptyRecord recordSoFar recordWith attributeTable kindTable knownTable valueTable assignedTable lineTable permissionTable blank maskOf
-empty-shows = ap₂ (λ (k v : List ℕ). setValues emptyRecord k v) (table-none 12) (table-none 768) ∙ ap₂ (λ (a l : List ℕ). setLines (setAssigned (setValues emptyRecord (tableOf 12 (λ i. 0)) (tableOf 768 (λ i. 0))) a) l) (table-none 32) (table-none 32) ∙ ap (λ (l : List ℕ). setPermissions (setLines (setAssigned (setValues emptyRecord (tableOf 12 (λ i. 0)) (tableOf 768 (λ i. 0))) (tableOf 32 (λ i. 0))) (tableOf 32 (λ i. 0))) l) (table-none roleCells)
+unfolding emptyRecord recordSoFar recordWith attributeTable kindTable domainTable knownTable valueTable assignedTable lineTable permissionTable blank maskOf
+empty-shows = ap (λ (d : List ℕ). setKinds emptyRecord (emptyRecord .attributes) (emptyRecord .kinds) d) (table-none 12) ∙ ap₂ (λ (k v : List ℕ). setValues domainless k v) (table-none 12) (table-none 768) ∙ ap₂ (λ (a l : List ℕ). setLines (setAssigned (setValues domainless (tableOf 12 (λ i. 0)) (tableOf 768 (λ i. 0))) a) l) (table-none 32) (table-none 32) ∙ ap (λ (l : List ℕ). setPermissions (setLines (setAssigned (setValues domainless (tableOf 12 (λ i. 0)) (tableOf 768 (λ i. 0))) (tableOf 32 (λ i. 0))) (tableOf 32 (λ i. 0))) l) (table-none roleCells)
+  where
+    domainless : RoleFile
+    domainless = setKinds emptyRecord (emptyRecord .attributes) (emptyRecord .kinds) (tableOf 12 (λ i. 0))
 
 pub begin : (s : List ℕ) → length s ≤ 65535 → State s s emptyRecord 0
 unfolding blank
@@ -224,7 +227,7 @@ module _ (s rest : List ℕ) (f : RoleFile) (p : ℕ) (t : State s rest f p) whe
         where
           ends : (d : Command) → isEnd (meaning d) ≡ eqb (phaseAfter d) 3
           ends (Sizes u r o k) = refl
-          ends (Declare side kind) = refl
+          ends (Declare side kind domain) = refl
           ends (Give kind side a x v) = refl
           ends (Assign k u) = refl
           ends (Permit k r o) = refl
@@ -282,7 +285,7 @@ module _ (s rest : List ℕ) (g : RoleFile) (n : Counts) (p : ℕ) (first : n �
       where
         begun : (k : Command) → sizesAt (phaseAfter k) n ≡ n
         begun (Sizes u r o k) = refl
-        begun (Declare side kind) = refl
+        begun (Declare side kind domain) = refl
         begun (Give b side a x v) = refl
         begun (Assign k u) = refl
         begun (Permit k r o) = refl

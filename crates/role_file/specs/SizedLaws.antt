@@ -23,7 +23,7 @@ use Rattle.role_commands.specs.declared.Command.the-variants.{Sizes, Declare, G
 -- every command of the definitions is one of the code
 codeFor : RoleCommand → Command
 codeFor (sizes u r o k) = Sizes u r o k
-codeFor (declare side kind) = Declare side kind
+codeFor (declare side kind domain) = Declare side kind domain
 codeFor (give set side a x v) = Give set side a x v
 codeFor (assign k u) = Assign k u
 codeFor (permit k r o) = Permit k r o
@@ -33,7 +33,7 @@ codeFor end = End
 same-command : (c : RoleCommand) → meaning (codeFor c) ≡ c
 unfolding codeFor
 same-command (sizes u r o k) = refl
-same-command (declare side kind) = refl
+same-command (declare side kind domain) = refl
 same-command (give set side a x v) = refl
 same-command (assign k u) = refl
 same-command (permit k r o) = refl

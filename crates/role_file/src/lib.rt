@@ -36,6 +36,7 @@ fn settle<'a>(
     sizes: Sizes,
     attributes: &'a CountBySide,
     kinds: &'a BySide,
+    domains: &'a ByAttribute,
     known: &'a ByAttribute,
     values: &'a Values,
     assigned: &'a ByRole,
@@ -47,7 +48,8 @@ fn settle<'a>(
         r
         ≡ settledOf
         (withSizes
-        (tabled (now (attributes .entry)) (now (kinds .entry)) (now (known .entry)) (now (values .entry))
+        (tabled (now (attributes .entry)) (now (kinds .entry)) (now (domains .entry)) (now (known .entry))
+        (now (values .entry))
         (now (assigned .entry)) (now (lines .entry)) (now (permissions .entry))) sizes) ⌝ }
 {
     let mut seniors = *lines;
@@ -64,6 +66,7 @@ fn settle<'a>(
         roles: sizes.roles,
         attributes: *attributes,
         kinds: *kinds,
+        domains: *domains,
         known: *known,
         values: *values,
         assigned: *assigned,
@@ -83,6 +86,7 @@ fn read_commands(s: &[u8], sizes: Sizes) -> Loaded
 {
     let mut attributes = [0usize; RoleFile::SIDES];
     let mut kinds = [0u64; RoleFile::SIDES];
+    let mut domains = [0u64; RoleFile::SIDES * RoleFile::ATTRIBUTES];
     let mut known = [0u64; RoleFile::SIDES * RoleFile::ATTRIBUTES];
     let mut values = [0u64; RoleFile::SIDES * RoleFile::ATTRIBUTES * RoleFile::MEMBERS];
     let mut assigned = [0u64; RoleFile::ROLES];
@@ -98,6 +102,7 @@ fn read_commands(s: &[u8], sizes: Sizes) -> Loaded
                     c,
                     &mut attributes,
                     &mut kinds,
+                    &mut domains,
                     &mut known,
                     &mut values,
                     &mut assigned,
@@ -115,6 +120,7 @@ fn read_commands(s: &[u8], sizes: Sizes) -> Loaded
         sizes,
         &attributes,
         &kinds,
+        &domains,
         &known,
         &values,
         &assigned,

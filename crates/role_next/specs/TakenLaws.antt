@@ -91,7 +91,7 @@ by-test P false x y p q = q
 -- the sizes that a command says, and n where it says none
 told : Command → Counts → Counts
 told (Sizes u r o k) n = record { users = u; resources = r; operations = o; roles = k }
-told (Declare side kind) n = n
+told (Declare side kind domain) n = n
 told (Give s side a x v) n = n
 told (Assign k u) n = n
 told (Permit k r o) n = n
@@ -102,12 +102,13 @@ told-first : (b : ℕ) (l : List ℕ) → told (commandBy b l) (firstSizes l) �
 unfolding told commandBy firstSizes
 told-first b l =
     by-test P (eqb b 1) (Sizes (numberAt 1 l 1) (numberAt 1 l 2) (numberAt 1 l 3) (numberAt 1 l 4)) _ refl
-    (by-test P (eqb b 2) (Declare (numberAt 1 l 1) (numberAt 1 l 2)) _ refl
+    (by-test P (eqb b 2) (Declare (numberAt 1 l 1) (numberAt 1 l 2) 0) _ refl
     (by-test P (eqb b 3) (Give false (numberAt 1 l 1) (numberAt 1 l 2) (numberAt 1 l 3) (numberAt 2 l 4)) _ refl
     (by-test P (eqb b 4) (Give true (numberAt 1 l 1) (numberAt 1 l 2) (numberAt 1 l 3) (numberAt 8 l 4)) _ refl
     (by-test P (eqb b 5) (Assign (numberAt 1 l 1) (numberAt 1 l 2)) _ refl
     (by-test P (eqb b 6) (Permit (numberAt 1 l 1) (numberAt 1 l 2) (numberAt 1 l 3)) _ refl
-    (by-test P (eqb b 7) (Line (numberAt 1 l 1) (numberAt 1 l 2)) End refl refl))))))
+    (by-test P (eqb b 7) (Line (numberAt 1 l 1) (numberAt 1 l 2)) _ refl
+    (by-test P (eqb b 8) (Declare (numberAt 1 l 1) (numberAt 1 l 2) (numberAt 1 l 3)) End refl refl)))))))
   where
     P : Command → Type 0
     P c = told c (firstSizes l) ≡ firstSizes l
@@ -148,7 +149,7 @@ pub same-verdict : (p : ℕ) (c : Command) (n : Counts) (a k m : List ℕ) → a
 unfolding admitOf declaringOf laterOf
 same-verdict (suc p) c n a k m = refl
 same-verdict zero (Sizes u r o x) n a k m = refl
-same-verdict zero (Declare side kind) n a k m = refl
+same-verdict zero (Declare side kind domain) n a k m = refl
 same-verdict zero (Give s side x y v) n a k m = refl
 same-verdict zero (Assign x u) n a k m = refl
 same-verdict zero (Permit x r o) n a k m = refl
@@ -160,7 +161,7 @@ module _ (s rest : List ℕ) (g : RoleFile) (n : Counts) (first : n ≡ firstSiz
   pub applied-so : (p : ℕ) → (p ≡ 0 → rest ≡ s) → (c : Command) (w : ℕ) (m : Counts) (a k x : List ℕ) → decodedOf rest ≡ Whole c w → admitOf c p m a k x ≡ 0 → applied (withSizes g (sizesAt p n)) c ≡ withSizes (storedBy g c) n
   unfolding applied storedBy admitOf firstOf declaringOf laterOf
   applied-so zero front (Sizes u r o k) w m a b x e h = sym (ap (withSizes g) (first ∙ first-told s u r o k w (sym (ap decodedOf (front refl)) ∙ e)))
-  applied-so zero front (Declare side kind) w m a b x e h = absurd (omega arith)
+  applied-so zero front (Declare side kind domain) w m a b x e h = absurd (omega arith)
   applied-so zero front (Give t side c y v) w m a b x e h = absurd (omega arith)
   applied-so zero front (Assign k u) w m a b x e h = absurd (omega arith)
   applied-so zero front (Permit k r o) w m a b x e h = absurd (omega arith)
@@ -171,7 +172,7 @@ module _ (s rest : List ℕ) (g : RoleFile) (n : Counts) (first : n ≡ firstSiz
       later : (v : ℕ) (t : Bool) → t ≡ false → cond t v 4 ≡ 0 → ⊥
       later v true q z = false≢true (sym q)
       later v false q z = omega arith
-  applied-so (suc p) front (Declare side kind) w m a b x e h = refl
+  applied-so (suc p) front (Declare side kind domain) w m a b x e h = refl
   applied-so (suc p) front (Give t side c y v) w m a b x e h = refl
   applied-so (suc p) front (Assign k u) w m a b x e h = refl
   applied-so (suc p) front (Permit k r o) w m a b x e h = refl

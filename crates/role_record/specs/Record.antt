@@ -1,8 +1,8 @@
 -- What the record holds of a policy: each table as a list of masks.
 -- Assumes nothing.
-use Prim.Native.Nat.{ℕ, _/_, _%_, _≤_, _<_}
+use Prim.Native.Nat.{ℕ, _+_, _/_, _%_, _≤_, _<_}
 use lib.Dec.{eqb, ltb}
-use lib.ListN.{length, replicate}
+use lib.ListN.{length, getD, replicate}
 use mathlib.Core.Bool.{Bool, true, false, cond, _||_}
 use mathlib.Core.List.{List, [], _∷_, map}
 use mathlib.Core.Option.{Option, none, some}
@@ -25,6 +25,7 @@ emptyRecord = record {
   roles = 0;
   attributes = replicate 2 0;
   kinds = replicate 2 0;
+  domains = replicate 12 0;
   known = replicate 12 0;
   values = replicate 768 0;
   assigned = replicate 32 0;
@@ -37,6 +38,10 @@ emptyRecord = record {
 -- "01 users, resources, operations, roles: at most 64, 64, 16, 32"
 abbrev pub WithinLimits : Sizes → Type 0
 WithinLimits n = (n .users ≤ 64) × (n .resources ≤ 64) × (n .operations ≤ 16) × (n .roles ≤ 32)
+
+-- "at most 6 on a side": the attributes of both sides
+abbrev pub FewAttributes : List ℕ → Type 0
+FewAttributes attributes = (getD attributes 0 0 ≤ 6) × (getD attributes 1 0 ≤ 6)
 
 -- a table of n numbers
 unfoldable pub tableOf : ℕ → (ℕ → ℕ) → List ℕ
@@ -81,6 +86,9 @@ module _ (F : Policy) where
   unfoldable pub kindTable : List ℕ
   kindTable = maskOf 64 (kindOf (F .table user)) ∷ maskOf 64 (kindOf (F .table resource)) ∷ []
 
+  unfoldable pub domainTable : List ℕ
+  domainTable = tableOf 12 (λ s. F .table (columnSide s) .domain (s % 6))
+
   -- the record with these tables, and with tables of seniors and holders
   unfoldable pub recordWith : List ℕ → List ℕ → RoleFile
   recordWith above held = record {
@@ -90,6 +98,7 @@ module _ (F : Policy) where
     roles = F .roles;
     attributes = attributeTable;
     kinds = kindTable;
+    domains = domainTable;
     known = knownTable;
     values = valueTable;
     assigned = assignedTable;
@@ -110,31 +119,35 @@ module _ (F : Policy) where
 
 -- the sizes
 abbrev pub setSizes : RoleFile → ℕ → ℕ → ℕ → ℕ → RoleFile
-setSizes f u r o k = record { users = u; resources = r; operations = o; roles = k; attributes = f .attributes; kinds = f .kinds; known = f .known; values = f .values; assigned = f .assigned; lines = f .lines; permissions = f .permissions; seniors = f .seniors; holders = f .holders }
+setSizes f u r o k = record { users = u; resources = r; operations = o; roles = k; attributes = f .attributes; kinds = f .kinds; domains = f .domains; known = f .known; values = f .values; assigned = f .assigned; lines = f .lines; permissions = f .permissions; seniors = f .seniors; holders = f .holders }
 
 -- the attributes declared
-abbrev pub setKinds : RoleFile → List ℕ → List ℕ → RoleFile
-setKinds f a k = record { users = f .users; resources = f .resources; operations = f .operations; roles = f .roles; attributes = a; kinds = k; known = f .known; values = f .values; assigned = f .assigned; lines = f .lines; permissions = f .permissions; seniors = f .seniors; holders = f .holders }
+abbrev pub setKinds : RoleFile → List ℕ → List ℕ → List ℕ → RoleFile
+setKinds f a k d = record { users = f .users; resources = f .resources; operations = f .operations; roles = f .roles; attributes = a; kinds = k; domains = d; known = f .known; values = f .values; assigned = f .assigned; lines = f .lines; permissions = f .permissions; seniors = f .seniors; holders = f .holders }
 
 -- the values
 abbrev pub setValues : RoleFile → List ℕ → List ℕ → RoleFile
-setValues f k v = record { users = f .users; resources = f .resources; operations = f .operations; roles = f .roles; attributes = f .attributes; kinds = f .kinds; known = k; values = v; assigned = f .assigned; lines = f .lines; permissions = f .permissions; seniors = f .seniors; holders = f .holders }
+setValues f k v = record { users = f .users; resources = f .resources; operations = f .operations; roles = f .roles; attributes = f .attributes; kinds = f .kinds; domains = f .domains; known = k; values = v; assigned = f .assigned; lines = f .lines; permissions = f .permissions; seniors = f .seniors; holders = f .holders }
 
 -- the assignments
 abbrev pub setAssigned : RoleFile → List ℕ → RoleFile
-setAssigned f l = record { users = f .users; resources = f .resources; operations = f .operations; roles = f .roles; attributes = f .attributes; kinds = f .kinds; known = f .known; values = f .values; assigned = l; lines = f .lines; permissions = f .permissions; seniors = f .seniors; holders = f .holders }
+setAssigned f l = record { users = f .users; resources = f .resources; operations = f .operations; roles = f .roles; attributes = f .attributes; kinds = f .kinds; domains = f .domains; known = f .known; values = f .values; assigned = l; lines = f .lines; permissions = f .permissions; seniors = f .seniors; holders = f .holders }
 
 -- the lines 07
 abbrev pub setLines : RoleFile → List ℕ → RoleFile
-setLines f l = record { users = f .users; resources = f .resources; operations = f .operations; roles = f .roles; attributes = f .attributes; kinds = f .kinds; known = f .known; values = f .values; assigned = f .assigned; lines = l; permissions = f .permissions; seniors = f .seniors; holders = f .holders }
+setLines f l = record { users = f .users; resources = f .resources; operations = f .operations; roles = f .roles; attributes = f .attributes; kinds = f .kinds; domains = f .domains; known = f .known; values = f .values; assigned = f .assigned; lines = l; permissions = f .permissions; seniors = f .seniors; holders = f .holders }
 
 -- the permissions
 abbrev pub setPermissions : RoleFile → List ℕ → RoleFile
-setPermissions f l = record { users = f .users; resources = f .resources; operations = f .operations; roles = f .roles; attributes = f .attributes; kinds = f .kinds; known = f .known; values = f .values; assigned = f .assigned; lines = f .lines; permissions = l; seniors = f .seniors; holders = f .holders }
+setPermissions f l = record { users = f .users; resources = f .resources; operations = f .operations; roles = f .roles; attributes = f .attributes; kinds = f .kinds; domains = f .domains; known = f .known; values = f .values; assigned = f .assigned; lines = f .lines; permissions = l; seniors = f .seniors; holders = f .holders }
 
 -- what is worked out
 abbrev pub setDerived : RoleFile → List ℕ → List ℕ → RoleFile
-setDerived f s h = record { users = f .users; resources = f .resources; operations = f .operations; roles = f .roles; attributes = f .attributes; kinds = f .kinds; known = f .known; values = f .values; assigned = f .assigned; lines = f .lines; permissions = f .permissions; seniors = s; holders = h }
+setDerived f s h = record { users = f .users; resources = f .resources; operations = f .operations; roles = f .roles; attributes = f .attributes; kinds = f .kinds; domains = f .domains; known = f .known; values = f .values; assigned = f .assigned; lines = f .lines; permissions = f .permissions; seniors = s; holders = h }
+
+-- user attribute a and resource attribute b have one domain. The resource attributes' columns stand behind the six of the user attributes
+abbrev pub sameDomain : List ℕ → ℕ → ℕ → Bool
+sameDomain domains a b = eqb (getD domains a 0) (getD domains (6 + b) 0)
 
 -- the sizes that a record has room for; assignments, permissions and lines are within the declared ones
 pub record Sized (F : Policy) : Type 0 where

@@ -12,7 +12,7 @@ use native.Mathlib.Omega.{arith}
 use Rattle.files.specs.RoleFile.{sideBy, sameSide, withTable, withKind, withValue, withAssigned, withPermitted, withLine}
 use Rattle.role_record.specs.Cells.{rowCells, cellAt, cellRow, cellOperation, roleCells}
 use Rattle.role_record.specs.CellsLaws.{cell-same}
-use Rattle.role_record.specs.Record.{tableOf, columnSide, numberOr, marked, markedIf, knownTable, valueTable, assignedTable, lineTable, permissionTable, attributeTable, kindTable, Sized}
+use Rattle.role_record.specs.Record.{tableOf, columnSide, numberOr, marked, markedIf, knownTable, valueTable, assignedTable, lineTable, permissionTable, attributeTable, kindTable, Sized, domainTable, sameDomain}
 use Rattle.policy.specs.Policy.{Table, Policy, kindOf, one, settingOf, sideOf}
 use Rattle.policy.specs.Rules.{Which, user, resource}
 use Rattle.sets.specs.LoopLaws.{table-long, table-at, table-same}
@@ -209,33 +209,95 @@ module _ (F : Policy) where
   kind-mask t true = marked-mask (kindOf t) (length (t .kinds)) ∙ mask-same 64 (λ a. eqb a (length (t .kinds)) || kindOf t a) (λ a. getD (t .kinds ++ (true ∷ [])) a false) (λ a l. sym (kind-more (t .kinds) true a ∙ ap (λ (b : Bool). b || kindOf t a) (and-true (eqb a (length (t .kinds))))))
   kind-mask t false = mask-same 64 (kindOf t) (λ a. getD (t .kinds ++ (false ∷ [])) a false) (λ a l. sym (kind-more (t .kinds) false a ∙ ap (λ (b : Bool). b || kindOf t a) (and-false (eqb a (length (t .kinds))))))
 
-  pub kind-marked : (side : ℕ) (k : Bool) → side < 2 → set (kindTable F) side (markedIf k (getD (kindTable F) side 0) (getD (attributeTable F) side 0)) ≡ kindTable (withKind F (sideBy side) k)
+  pub kind-marked : (side : ℕ) (k : Bool) (d : ℕ) → side < 2 → set (kindTable F) side (markedIf k (getD (kindTable F) side 0) (getD (attributeTable F) side 0)) ≡ kindTable (withKind F (sideBy side) k d)
   unfolding kindTable attributeTable withKind withTable
-  kind-marked zero k h = ap (λ (m : ℕ). m ∷ maskOf 64 (kindOf (F .table resource)) ∷ []) (kind-mask (F .table user) k)
-  kind-marked (suc zero) k h = ap (λ (m : ℕ). maskOf 64 (kindOf (F .table user)) ∷ m ∷ []) (kind-mask (F .table resource) k)
-  kind-marked (suc (suc n)) k h = absurd (omega arith)
+  kind-marked zero k d h = ap (λ (m : ℕ). m ∷ maskOf 64 (kindOf (F .table resource)) ∷ []) (kind-mask (F .table user) k)
+  kind-marked (suc zero) k d h = ap (λ (m : ℕ). maskOf 64 (kindOf (F .table user)) ∷ m ∷ []) (kind-mask (F .table resource) k)
+  kind-marked (suc (suc n)) k d h = absurd (omega arith)
 
-  pub attribute-counted : (side : ℕ) (k : Bool) → side < 2 → set (attributeTable F) side (getD (attributeTable F) side 0 + 1) ≡ attributeTable (withKind F (sideBy side) k)
+  pub attribute-counted : (side : ℕ) (k : Bool) (d : ℕ) → side < 2 → set (attributeTable F) side (getD (attributeTable F) side 0 + 1) ≡ attributeTable (withKind F (sideBy side) k d)
   unfolding attributeTable withKind withTable
-  attribute-counted zero k h = ap (λ (n : ℕ). n ∷ length (F .table resource .kinds) ∷ []) (sym (length-append (F .table user .kinds) (k ∷ [])))
-  attribute-counted (suc zero) k h = ap (λ (n : ℕ). length (F .table user .kinds) ∷ n ∷ []) (sym (length-append (F .table resource .kinds) (k ∷ [])))
-  attribute-counted (suc (suc n)) k h = absurd (omega arith)
+  attribute-counted zero k d h = ap (λ (n : ℕ). n ∷ length (F .table resource .kinds) ∷ []) (sym (length-append (F .table user .kinds) (k ∷ [])))
+  attribute-counted (suc zero) k d h = ap (λ (n : ℕ). length (F .table user .kinds) ∷ n ∷ []) (sym (length-append (F .table resource .kinds) (k ∷ [])))
+  attribute-counted (suc (suc n)) k d h = absurd (omega arith)
 
   -- declaring an attribute changes no value
-  pub kind-values : (side : ℕ) (k : Bool) → (knownTable (withKind F (sideBy side) k) ≡ knownTable F) × (valueTable (withKind F (sideBy side) k) ≡ valueTable F)
+  pub kind-values : (side : ℕ) (k : Bool) (d : ℕ) → (knownTable (withKind F (sideBy side) k d) ≡ knownTable F) × (valueTable (withKind F (sideBy side) k d) ≡ valueTable F)
   unfolding knownTable valueTable withKind withTable
-  kind-values side k = (
-    table-ext 12 (λ s. maskOf 64 (λ x. isSome (withKind F (sideBy side) k .table (columnSide s) .value (s % 6) x))) (λ s. maskOf 64 (λ x. isSome (F .table (columnSide s) .value (s % 6) x)))
+  kind-values side k d = (
+    table-ext 12 (λ s. maskOf 64 (λ x. isSome (withKind F (sideBy side) k d .table (columnSide s) .value (s % 6) x))) (λ s. maskOf 64 (λ x. isSome (F .table (columnSide s) .value (s % 6) x)))
         (λ s l. ap (λ (f : ℕ → ℕ → Option ℕ). maskOf 64 (λ x. isSome (f (s % 6) x))) (value-kept (columnSide s) (sideBy side))),
-    table-ext 768 (λ i. numberOr (withKind F (sideBy side) k .table (columnSide (i / 64)) .value (i / 64 % 6) (i % 64))) (λ i. numberOr (F .table (columnSide (i / 64)) .value (i / 64 % 6) (i % 64)))
+    table-ext 768 (λ i. numberOr (withKind F (sideBy side) k d .table (columnSide (i / 64)) .value (i / 64 % 6) (i % 64))) (λ i. numberOr (F .table (columnSide (i / 64)) .value (i / 64 % 6) (i % 64)))
         (λ i l. ap (λ (f : ℕ → ℕ → Option ℕ). numberOr (f (i / 64 % 6) (i % 64))) (value-kept (columnSide (i / 64)) (sideBy side))),
   )
     where
-      value-kept : (w s : Which) → withKind F s k .table w .value ≡ F .table w .value
+      value-kept : (w s : Which) → withKind F s k d .table w .value ≡ F .table w .value
       value-kept user user = refl
       value-kept user resource = refl
       value-kept resource user = refl
       value-kept resource resource = refl
+
+  -- ---- domains
+
+  attributes-told : (side : ℕ) → side < 2 → getD (attributeTable F) side 0 ≡ length (F .table (sideBy side) .kinds)
+  unfolding attributeTable
+  attributes-told zero h = refl
+  attributes-told (suc zero) h = refl
+  attributes-told (suc (suc n)) h = absurd (omega arith)
+
+  -- the domain of an attribute after one was declared
+  domain-declared : (w s : Which) (k : Bool) (d a : ℕ) → withKind F s k d .table w .domain a ≡ cond (sameSide w s && eqb a (length (F .table s .kinds))) d (F .table w .domain a)
+  unfolding withKind withTable
+  domain-declared user user k d a = refl
+  domain-declared user resource k d a = refl
+  domain-declared resource user k d a = refl
+  domain-declared resource resource k d a = refl
+
+  pub domain-stored : (side : ℕ) (k : Bool) (d : ℕ) → side < 2 → getD (attributeTable F) side 0 < 6
+      → set (domainTable F) (6 * side + getD (attributeTable F) side 0) d ≡ domainTable (withKind F (sideBy side) k d)
+  unfolding domainTable
+  domain-stored side k d hs hn =
+      table-set 12 former (λ s. withKind F (sideBy side) k d .table (columnSide s) .domain (s % 6)) (6 * side + n) d (omega arith)
+      (sym (at-column (6 * side + n) (omega arith) ∙ ap (λ (b : Bool). cond b d (former (6 * side + n))) (eq-eqb (6 * side + n) (6 * side + n) refl)))
+      (λ j l e. sym (at-column j l ∙ ap (λ (b : Bool). cond b d (former j)) (ne-eqb j (6 * side + n) e)))
+    where
+      n : ℕ
+      n = getD (attributeTable F) side 0
+
+      former : ℕ → ℕ
+      former s = F .table (columnSide s) .domain (s % 6)
+
+      at-column : (s : ℕ) → s < 12 → withKind F (sideBy side) k d .table (columnSide s) .domain (s % 6) ≡ cond (eqb s (6 * side + n)) d (former s)
+      at-column s l =
+          domain-declared (columnSide s) (sideBy side) k d (s % 6)
+          ∙ ap (λ (x : ℕ). cond (sameSide (columnSide s) (sideBy side) && eqb (s % 6) x) d (former s)) (sym (attributes-told side hs))
+          ∙ ap (λ (b : Bool). cond b d (former s)) (sym (column-of s side n l hs hn))
+
+  -- giving a value changes no domain
+  pub value-domains : (side a x v : ℕ) → domainTable (withValue F (sideBy side) a x v) ≡ domainTable F
+  unfolding domainTable withValue withTable
+  value-domains side a x v =
+      table-ext 12 (λ s. withValue F (sideBy side) a x v .table (columnSide s) .domain (s % 6)) (λ s. F .table (columnSide s) .domain (s % 6)) (λ s l. ap (λ (f : ℕ → ℕ). f (s % 6)) (domain-kept (columnSide s) (sideBy side)))
+    where
+      domain-kept : (w s : Which) → withValue F s a x v .table w .domain ≡ F .table w .domain
+      domain-kept user user = refl
+      domain-kept user resource = refl
+      domain-kept resource user = refl
+      domain-kept resource resource = refl
+
+  pub domains-same : (a b : ℕ) → a < 6 → b < 6 → sameDomain (domainTable F) a b ≡ eqb (F .table user .domain a) (F .table resource .domain b)
+  unfolding domainTable
+  domains-same a b ha hb = ap₂ eqb (of-user a ha) (of-resource b hb)
+    where
+      of-user : (c : ℕ) → c < 6 → getD (domainTable F) c 0 ≡ F .table user .domain c
+      of-user c h =
+          let p : c % 6 ≡ c = omega arith in
+          table-get 12 (λ s. F .table (columnSide s) .domain (s % 6)) c (omega arith) ∙ rw (lt-ltb c 6 h, p) refl
+
+      of-resource : (c : ℕ) → c < 6 → getD (domainTable F) (6 + c) 0 ≡ F .table resource .domain c
+      of-resource c h =
+          let p : (6 + c) % 6 ≡ c = omega arith in
+          table-get 12 (λ s. F .table (columnSide s) .domain (s % 6)) (6 + c) (omega arith) ∙ rw (le-ltb (6 + c) 6 (omega arith), p) refl
 
 -- ---- what the tables show
 

@@ -1,7 +1,8 @@
-// The loaded role file: one record by value that holds its tables. And how a table is cleared.
+// The loaded role file: one record by value that holds its tables; how a table is cleared, and whether two attributes have one domain.
 ghost use lib.ListN.{length};
 ghost use mathlib.Core.Path.{_≡_};
-ghost use Rattle.role_record.specs.Record.{tableOf, emptyRecord};
+ghost use Prim.Native.Nat.{_<_};
+ghost use Rattle.role_record.specs.Record.{tableOf, emptyRecord, sameDomain};
 
 pub struct RoleFile {
     pub users: usize,
@@ -11,6 +12,8 @@ pub struct RoleFile {
     // How many attributes there are, and which of them are sets.
     pub attributes: CountBySide,
     pub kinds: BySide,
+    // The domain of the attribute.
+    pub domains: ByAttribute,
     // Who knows the attribute, and the values of those who do.
     pub known: ByAttribute,
     pub values: Values,
@@ -108,6 +111,7 @@ impl RoleFile {
             roles: 0,
             attributes: [0usize; RoleFile::SIDES],
             kinds: [0u64; RoleFile::SIDES],
+            domains: [0u64; RoleFile::SIDES * RoleFile::ATTRIBUTES],
             known: [0u64; RoleFile::SIDES * RoleFile::ATTRIBUTES],
             values: [0u64; RoleFile::SIDES * RoleFile::ATTRIBUTES * RoleFile::MEMBERS],
             assigned: [0u64; RoleFile::ROLES],
@@ -126,4 +130,12 @@ pub fn clear(out: &mut [u64])
     for i in 0..out.len() {
         out[i] = 0;
     }
+}
+
+// Whether a user attribute and a resource attribute have one domain.
+pub fn same_domain(domains: &ByAttribute, a: usize, b: usize) -> bool
+    requires { ⌜ (a < 6) × (b < 6) ⌝ }
+    ensures { λ r. ⌜ r ≡ sameDomain (now (domains .entry)) a b ⌝ }
+{
+    domains[a] == domains[RoleFile::ATTRIBUTES + b]
 }

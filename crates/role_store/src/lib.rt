@@ -23,17 +23,27 @@ fn mark(m: u64, x: usize, kind: usize) -> u64
     if kind == 1 { sets::with(m, x) } else { m }
 }
 
-// One attribute more of a side, of this kind.
-fn declare(side: usize, kind: usize, attributes: &mut CountBySide, kinds: &mut BySide)
+// One attribute more of a side, of this kind and in this domain.
+fn declare(
+    side: usize,
+    kind: usize,
+    domain: usize,
+    attributes: &mut CountBySide,
+    kinds: &mut BySide,
+    domains: &mut ByAttribute,
+)
     requires { ⌜ (side < 2) × (getD (now attributes) side 0 < 6) ⌝ }
     ensures { λ _. ⌜
         (now (attributes .exit) ≡ set (now (attributes .entry)) side (getD (now (attributes .entry)) side 0 + 1))
         × (now (kinds .exit)
         ≡ set (now (kinds .entry)) side
-        (markedIf (eqb kind 1) (getD (now (kinds .entry)) side 0) (getD (now (attributes .entry)) side 0))) ⌝ }
+        (markedIf (eqb kind 1) (getD (now (kinds .entry)) side 0) (getD (now (attributes .entry)) side 0)))
+        × (now (domains .exit)
+        ≡ set (now (domains .entry)) (6 * side + getD (now (attributes .entry)) side 0) domain) ⌝ }
 {
     let n = attributes[side];
     kinds[side] = mark(kinds[side], n, kind);
+    domains[RoleFile::ATTRIBUTES * side + n] = domain as u64;
     attributes[side] = n + 1;
 }
 
@@ -69,6 +79,7 @@ pub fn store(
     c: Command,
     attributes: &mut CountBySide,
     kinds: &mut BySide,
+    domains: &mut ByAttribute,
     known: &mut ByAttribute,
     values: &mut Values,
     assigned: &mut ByRole,
@@ -78,16 +89,18 @@ pub fn store(
     requires { ⌜ Bounded (now attributes) c ⌝ }
     ensures { λ r. ⌜
         (r ≡ phaseAfter c)
-        × (tabled (now (attributes .exit)) (now (kinds .exit)) (now (known .exit)) (now (values .exit))
+        × (tabled (now (attributes .exit)) (now (kinds .exit)) (now (domains .exit)) (now (known .exit))
+        (now (values .exit))
         (now (assigned .exit)) (now (lines .exit)) (now (permissions .exit))
         ≡ storedBy
-        (tabled (now (attributes .entry)) (now (kinds .entry)) (now (known .entry)) (now (values .entry))
+        (tabled (now (attributes .entry)) (now (kinds .entry)) (now (domains .entry)) (now (known .entry))
+        (now (values .entry))
         (now (assigned .entry)) (now (lines .entry)) (now (permissions .entry))) c) ⌝ }
 {
     match c {
         Command::Sizes { .. } => phase::DECLARING,
-        Command::Declare { side, kind } => {
-            declare(side, kind, attributes, kinds);
+        Command::Declare { side, kind, domain } => {
+            declare(side, kind, domain, attributes, kinds, domains);
             phase::DECLARING
         }
         Command::Give {

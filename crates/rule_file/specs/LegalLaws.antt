@@ -7,7 +7,7 @@ use mathlib.Core.List.{List, [], _∷_, _++_, List·Memᴰ·not-nil, List·Mem�
 use mathlib.Core.Logic.{⊎-elim}
 use mathlib.Core.Option.{Option, none, some}
 use mathlib.Core.Path.{_≡_, sym, ap, _∙_, subst}
-use Rattle.role_record.specs.Record.{Sized, recordWith, recordOf}
+use Rattle.role_record.specs.Record.{Sized, recordWith, recordOf, attributeTable, FewAttributes}
 use Rattle.files.specs.Answer.{Answer, andThen, unless, rulesOrder, rulesOperand, accepted, refused}
 use Rattle.files.specs.Bytes.{read}
 use Rattle.files.specs.BytesLaws.{Carries, unless-carries, then-carries, number-positive, read-carries}
@@ -92,13 +92,19 @@ both-sound file rules =
     pair F ls = accepted (F, ls)
 
 -- the record of an accepted file has its sizes within the limits
-pub both-sizes : (file rules : List ℕ) (b : BothFiles) → b ≡ bothOf (readBoth 2 file rules) → b .code ≡ 0 → (b .file .users ≤ 64) × (b .file .resources ≤ 64) × (b .file .operations ≤ 16) × (b .file .roles ≤ 32)
-unfolding bothOf nothingRead recordOf recordWith
-both-sizes file rules b e h = go (readBoth 2 file rules) (both-sound file rules) e
+both-limits : (file rules : List ℕ) (b : BothFiles) → b ≡ bothOf (readBoth 2 file rules) → b .code ≡ 0 → ((b .file .users ≤ 64) × (b .file .resources ≤ 64) × (b .file .operations ≤ 16) × (b .file .roles ≤ 32)) × FewAttributes (b .file .attributes)
+unfolding bothOf nothingRead recordOf recordWith attributeTable
+both-limits file rules b e h = go (readBoth 2 file rules) (both-sound file rules) e
   where
-    from-answer : (a : Answer (Policy × List Lines)) → Carries Sound a → bothOf a .code ≡ 0 → (bothOf a .file .users ≤ 64) × (bothOf a .file .resources ≤ 64) × (bothOf a .file .operations ≤ 16) × (bothOf a .file .roles ≤ 32)
+    from-answer : (a : Answer (Policy × List Lines)) → Carries Sound a → bothOf a .code ≡ 0 → ((bothOf a .file .users ≤ 64) × (bothOf a .file .resources ≤ 64) × (bothOf a .file .operations ≤ 16) × (bothOf a .file .roles ≤ 32)) × FewAttributes (bothOf a .file .attributes)
     from-answer (refused d) z k = absurd (number-positive d k)
-    from-answer (accepted p) z k = (z .sized .many user, z .sized .many resource, z .sized .operable, z .sized .few)
+    from-answer (accepted p) z k = ((z .sized .many user, z .sized .many resource, z .sized .operable, z .sized .few), (z .sized .declared user, z .sized .declared resource))
 
-    go : (a : Answer (Policy × List Lines)) → Carries Sound a → b ≡ bothOf a → (b .file .users ≤ 64) × (b .file .resources ≤ 64) × (b .file .operations ≤ 16) × (b .file .roles ≤ 32)
-    go a z q = subst (λ (x : BothFiles). (x .file .users ≤ 64) × (x .file .resources ≤ 64) × (x .file .operations ≤ 16) × (x .file .roles ≤ 32)) (sym q) (from-answer a z (ap (λ (x : BothFiles). x .code) (sym q) ∙ h))
+    go : (a : Answer (Policy × List Lines)) → Carries Sound a → b ≡ bothOf a → ((b .file .users ≤ 64) × (b .file .resources ≤ 64) × (b .file .operations ≤ 16) × (b .file .roles ≤ 32)) × FewAttributes (b .file .attributes)
+    go a z q = subst (λ (x : BothFiles). ((x .file .users ≤ 64) × (x .file .resources ≤ 64) × (x .file .operations ≤ 16) × (x .file .roles ≤ 32)) × FewAttributes (x .file .attributes)) (sym q) (from-answer a z (ap (λ (x : BothFiles). x .code) (sym q) ∙ h))
+
+pub both-sizes : (file rules : List ℕ) (b : BothFiles) → b ≡ bothOf (readBoth 2 file rules) → b .code ≡ 0 → (b .file .users ≤ 64) × (b .file .resources ≤ 64) × (b .file .operations ≤ 16) × (b .file .roles ≤ 32)
+both-sizes file rules b e h = both-limits file rules b e h .0
+
+pub both-attributes : (file rules : List ℕ) (b : BothFiles) → b ≡ bothOf (readBoth 2 file rules) → b .code ≡ 0 → FewAttributes (b .file .attributes)
+both-attributes file rules b e h = both-limits file rules b e h .1

@@ -66,6 +66,7 @@ fn read_rules(f: RoleFile, sizes: Sizes, links: &Links, rules: &[u8]) -> BothFil
             sizes,
             &f.attributes,
             &f.kinds,
+            &f.domains,
             &f.holders,
             &f.permissions,
         ) {
@@ -107,6 +108,7 @@ pub fn read(file: &[u8], rules: &[u8]) -> BothFiles
         &f.known,
         &f.values,
         &f.kinds,
+        &f.domains,
         &f.holders,
         f.users,
         f.resources,

@@ -8,6 +8,7 @@ use mathlib.Core.List.{List}
 use Rattle.grant_parts.specs.Parts.{classRow}
 use Rattle.policy.specs.Rules.{own}
 use Rattle.role_record.specs.Cells.{cellAt}
+use Rattle.role_record.specs.Record.{sameDomain}
 use Rattle.sets.specs.Lowest.{lowestFrom}
 use Rattle.sets.specs.Sets.{bit}
 use Rattle.sets.specs.Tests.{iff}
@@ -19,9 +20,9 @@ unfoldable pub valueLegal : ℕ → Bool → ℕ → ℕ → ℕ → ℕ → Lis
 valueLegal side set a v roles resources attributes kinds =
     cond (eqb a own) (ownLegal side set v roles resources) (cond (ltb a (getD attributes side 0)) (iff (bit (getD kinds side 0) a) set) false)
 
-unfoldable pub linkLegal : ℕ → ℕ → List ℕ → List ℕ → Bool
-linkLegal a b attributes kinds =
-    cond (ltb a (getD attributes 0 0)) (cond (ltb b (getD attributes 1 0)) (cond (bit (getD kinds 0 0) a) true (not (bit (getD kinds 1 0) b))) false) false
+unfoldable pub linkLegal : ℕ → ℕ → List ℕ → List ℕ → List ℕ → Bool
+linkLegal a b attributes kinds domains =
+    cond (ltb a (getD attributes 0 0)) (cond (ltb b (getD attributes 1 0)) (cond (sameDomain domains a b) (cond (bit (getD kinds 0 0) a) true (not (bit (getD kinds 1 0) b))) false) false) false
 
 unfoldable pub partLegal : ℕ → ℕ → ℕ → ℕ → List ℕ → List ℕ → Bool
 partLegal role m roles ops holders permissions =

@@ -4,9 +4,10 @@ ghost use mathlib.Core.Bool.{_&&_};
 ghost use Prim.Native.Nat.{_+_, _*_, _^_, _≤_, _<_};
 ghost use lib.Dec.{ltb};
 ghost use Rattle.sets.specs.Tests.{iff};
-ghost use Rattle.role_record.specs.Record.{WithinLimits};
+ghost use Rattle.role_record.specs.Record.{WithinLimits, FewAttributes};
 ghost use Rattle.rule_legal.specs.Operands.{ownLegal, valueLegal, linkLegal, partLegal};
 use files::rule_byte;
+use role_record::ByAttribute;
 use role_record::ByRole;
 use role_record::ByRoleOperation;
 use role_record::BySide;
@@ -81,13 +82,23 @@ pub fn operations_legal(m: u64, operations: usize) -> bool
 }
 
 // Command 27: declared attributes that one of the three forms joins.
-pub fn link_legal<'a>(a: u64, b: u64, attributes: &'a CountBySide, kinds: &'a BySide) -> bool
-    ensures { λ r. ⌜ r ≡ linkLegal a b (now (attributes .entry)) (now (kinds .entry)) ⌝ }
+pub fn link_legal<'a>(
+    a: u64,
+    b: u64,
+    attributes: &'a CountBySide,
+    kinds: &'a BySide,
+    domains: &'a ByAttribute,
+) -> bool
+    requires { ⌜ FewAttributes (now attributes) ⌝ }
+    ensures { λ r. ⌜ r ≡ linkLegal a b (now (attributes .entry)) (now (kinds .entry)) (now (domains .entry)) ⌝ }
 {
     if attributes[0] as u64 <= a {
         return false;
     }
     if attributes[1] as u64 <= b {
+        return false;
+    }
+    if !role_record::same_domain(domains, a as usize, b as usize) {
         return false;
     }
     if sets::has(kinds[0], a as usize) {

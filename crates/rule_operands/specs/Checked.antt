@@ -5,7 +5,7 @@ use lib.Dec.{eqb, ltb}
 use lib.ListN.{getD}
 use mathlib.Core.Bool.{Bool, true, false, cond, _&&_}
 use mathlib.Core.List.{List}
-use Rattle.role_record.specs.Record.{attributeTable, kindTable, permissionTable, recordOf}
+use Rattle.role_record.specs.Record.{attributeTable, kindTable, domainTable, permissionTable, recordOf}
 use Rattle.rule_legal.specs.Operands.{valueLegal, linkLegal, partLegal}
 use Rattle.policy.specs.Policy.{Policy}
 use Rattle.policy.specs.Rules.{Form, resource, setContainsSet, setContainsSingle, singleEqualsSingle}
@@ -46,24 +46,24 @@ checkedValue side set a v roles resources attributes kinds = legalIf (valueLegal
 unfoldable pub checkedOperations : ℕ → ℕ → Checked
 checkedOperations m ops = legalIf (ltb 0 m && ltb m (2 ^ ops)) (Operations m)
 
-unfoldable pub checkedLink : ℕ → ℕ → List ℕ → List ℕ → Checked
-checkedLink a b attributes kinds = legalIf (linkLegal a b attributes kinds) (Link (atomOf a b kinds))
+unfoldable pub checkedLink : ℕ → ℕ → List ℕ → List ℕ → List ℕ → Checked
+checkedLink a b attributes kinds domains = legalIf (linkLegal a b attributes kinds domains) (Link (atomOf a b kinds))
 
 unfoldable pub checkedPart : ℕ → ℕ → ℕ → ℕ → List ℕ → List ℕ → Checked
 checkedPart k m roles ops holders permissions = legalIf (partLegal k m roles ops holders permissions) (Part k m)
 
 -- the command of byte b with operands x and y, beside the tables of a role file
-unfoldable pub checkedOf : ℕ → ℕ → ℕ → ℕ → ℕ → ℕ → List ℕ → List ℕ → List ℕ → List ℕ → Checked
-checkedOf b x y resources ops roles attributes kinds holders permissions =
+unfoldable pub checkedOf : ℕ → ℕ → ℕ → ℕ → ℕ → ℕ → List ℕ → List ℕ → List ℕ → List ℕ → List ℕ → Checked
+checkedOf b x y resources ops roles attributes kinds domains holders permissions =
     cond (eqb b 0x21) (Legal Opens)
     (cond (eqb b 0x22) (checkedValue 0 false x y roles resources attributes kinds)
     (cond (eqb b 0x23) (checkedValue 0 true x y roles resources attributes kinds)
     (cond (eqb b 0x24) (checkedValue 1 false x y roles resources attributes kinds)
     (cond (eqb b 0x25) (checkedValue 1 true x y roles resources attributes kinds)
     (cond (eqb b 0x26) (checkedOperations x ops)
-    (cond (eqb b 0x27) (checkedLink x y attributes kinds)
+    (cond (eqb b 0x27) (checkedLink x y attributes kinds domains)
     (cond (eqb b 0x28) (checkedPart x y roles ops holders permissions) (Legal Ends))))))))
 
 -- the same beside the tables that the record has of a policy
 abbrev pub checkedBeside : Policy → ℕ → ℕ → ℕ → Checked
-checkedBeside F b x y = checkedOf b x y (F .table resource .count) (F .operations) (F .roles) (attributeTable F) (kindTable F) (recordOf F .holders) (permissionTable F)
+checkedBeside F b x y = checkedOf b x y (F .table resource .count) (F .operations) (F .roles) (attributeTable F) (kindTable F) (domainTable F) (recordOf F .holders) (permissionTable F)

@@ -33,41 +33,41 @@ pub not-made : (t p : Bool) (d : RuleCommand) → p ≡ t → p ≡ false → Il
 not-made t p d e h = rw (← e, h) refl
 
 -- what each byte comes to
-module _ (b x y resources ops roles : ℕ) (attributes kinds holders permissions : List ℕ) where
-  pub at-opens : b ≡ 0x21 → Legal Opens ≡ checkedOf b x y resources ops roles attributes kinds holders permissions
+module _ (b x y resources ops roles : ℕ) (attributes kinds domains holders permissions : List ℕ) where
+  pub at-opens : b ≡ 0x21 → Legal Opens ≡ checkedOf b x y resources ops roles attributes kinds domains holders permissions
   unfolding checkedOf
   at-opens e = rw e refl
 
-  pub at-user-single : b ≡ 0x22 → checkedValue 0 false x y roles resources attributes kinds ≡ checkedOf b x y resources ops roles attributes kinds holders permissions
+  pub at-user-single : b ≡ 0x22 → checkedValue 0 false x y roles resources attributes kinds ≡ checkedOf b x y resources ops roles attributes kinds domains holders permissions
   unfolding checkedOf
   at-user-single e = rw e refl
 
-  pub at-user-set : b ≡ 0x23 → checkedValue 0 true x y roles resources attributes kinds ≡ checkedOf b x y resources ops roles attributes kinds holders permissions
+  pub at-user-set : b ≡ 0x23 → checkedValue 0 true x y roles resources attributes kinds ≡ checkedOf b x y resources ops roles attributes kinds domains holders permissions
   unfolding checkedOf
   at-user-set e = rw e refl
 
-  pub at-resource-single : b ≡ 0x24 → checkedValue 1 false x y roles resources attributes kinds ≡ checkedOf b x y resources ops roles attributes kinds holders permissions
+  pub at-resource-single : b ≡ 0x24 → checkedValue 1 false x y roles resources attributes kinds ≡ checkedOf b x y resources ops roles attributes kinds domains holders permissions
   unfolding checkedOf
   at-resource-single e = rw e refl
 
-  pub at-resource-set : b ≡ 0x25 → checkedValue 1 true x y roles resources attributes kinds ≡ checkedOf b x y resources ops roles attributes kinds holders permissions
+  pub at-resource-set : b ≡ 0x25 → checkedValue 1 true x y roles resources attributes kinds ≡ checkedOf b x y resources ops roles attributes kinds domains holders permissions
   unfolding checkedOf
   at-resource-set e = rw e refl
 
-  pub at-operations : b ≡ 0x26 → checkedOperations x ops ≡ checkedOf b x y resources ops roles attributes kinds holders permissions
+  pub at-operations : b ≡ 0x26 → checkedOperations x ops ≡ checkedOf b x y resources ops roles attributes kinds domains holders permissions
   unfolding checkedOf
   at-operations e = rw e refl
 
-  pub at-link : b ≡ 0x27 → checkedLink x y attributes kinds ≡ checkedOf b x y resources ops roles attributes kinds holders permissions
+  pub at-link : b ≡ 0x27 → checkedLink x y attributes kinds domains ≡ checkedOf b x y resources ops roles attributes kinds domains holders permissions
   unfolding checkedOf
   at-link e = rw e refl
 
-  pub at-part : b ≡ 0x28 → checkedPart x y roles ops holders permissions ≡ checkedOf b x y resources ops roles attributes kinds holders permissions
+  pub at-part : b ≡ 0x28 → checkedPart x y roles ops holders permissions ≡ checkedOf b x y resources ops roles attributes kinds domains holders permissions
   unfolding checkedOf
   at-part e = rw e refl
 
   pub at-rest : (b ≡ 0x21 → ⊥) → (b ≡ 0x22 → ⊥) → (b ≡ 0x23 → ⊥) → (b ≡ 0x24 → ⊥) → (b ≡ 0x25 → ⊥) → (b ≡ 0x26 → ⊥) → (b ≡ 0x27 → ⊥) → (b ≡ 0x28 → ⊥)
-      → Legal Ends ≡ checkedOf b x y resources ops roles attributes kinds holders permissions
+      → Legal Ends ≡ checkedOf b x y resources ops roles attributes kinds domains holders permissions
   unfolding checkedOf
   at-rest n1 n2 n3 n4 n5 n6 n7 n8 =
       rw (ne-eqb b 0x21 n1, ne-eqb b 0x22 n2, ne-eqb b 0x23 n3, ne-eqb b 0x24 n4, ne-eqb b 0x25 n5, ne-eqb b 0x26 n6, ne-eqb b 0x27 n7, ne-eqb b 0x28 n8) refl

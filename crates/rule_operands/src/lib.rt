@@ -1,9 +1,10 @@
 // Whether the operands of a rule file's command are legal beside a loaded role file, and the command that they make.
 ghost use mathlib.Core.Path.{_≡_};
 ghost use Prim.Native.Nat.{_≤_, _<_};
-ghost use Rattle.role_record.specs.Record.{WithinLimits};
+ghost use Rattle.role_record.specs.Record.{WithinLimits, FewAttributes};
 ghost use Rattle.rule_operands.specs.Checked.{atomOf, checkedValue, checkedOperations, checkedLink, checkedPart, checkedOf};
 use files::rule_byte;
+use role_record::ByAttribute;
 use role_record::ByRole;
 use role_record::ByRoleOperation;
 use role_record::BySide;
@@ -71,10 +72,17 @@ fn atom_of(a: usize, b: usize, kinds: &BySide) -> Atom
 }
 
 // Command 27.
-fn check_link<'a>(x: u64, y: u64, attributes: &'a CountBySide, kinds: &'a BySide) -> Checked
-    ensures { λ r. ⌜ r ≡ checkedLink x y (now (attributes .entry)) (now (kinds .entry)) ⌝ }
+fn check_link<'a>(
+    x: u64,
+    y: u64,
+    attributes: &'a CountBySide,
+    kinds: &'a BySide,
+    domains: &'a ByAttribute,
+) -> Checked
+    requires { ⌜ FewAttributes (now attributes) ⌝ }
+    ensures { λ r. ⌜ r ≡ checkedLink x y (now (attributes .entry)) (now (kinds .entry)) (now (domains .entry)) ⌝ }
 {
-    if rule_legal::link_legal(x, y, attributes, kinds) {
+    if rule_legal::link_legal(x, y, attributes, kinds, domains) {
         return Checked::Legal(RuleCommand::Link(atom_of(x as usize, y as usize, kinds)));
     }
     Checked::Illegal
@@ -110,14 +118,15 @@ pub fn check<'a>(
     sizes: Sizes,
     attributes: &'a CountBySide,
     kinds: &'a BySide,
+    domains: &'a ByAttribute,
     holders: &'a ByRole,
     permissions: &'a ByRoleOperation,
 ) -> Checked
-    requires { ⌜ WithinLimits sizes ⌝ }
+    requires { ⌜ WithinLimits sizes × FewAttributes (now attributes) ⌝ }
     ensures { λ r. ⌜
         r
         ≡ checkedOf b x y (sizes .resources) (sizes .operations) (sizes .roles) (now (attributes .entry))
-        (now (kinds .entry)) (now (holders .entry)) (now (permissions .entry)) ⌝ }
+        (now (kinds .entry)) (now (domains .entry)) (now (holders .entry)) (now (permissions .entry)) ⌝ }
 {
     match b {
         rule_byte::OPENS => Checked::Legal(RuleCommand::Opens),
@@ -126,7 +135,7 @@ pub fn check<'a>(
         rule_byte::RESOURCE_SINGLE => check_value(1, false, x, y, sizes, attributes, kinds),
         rule_byte::RESOURCE_SET => check_value(1, true, x, y, sizes, attributes, kinds),
         rule_byte::OPERATIONS => check_operations(x, sizes.operations),
-        rule_byte::LINK => check_link(x, y, attributes, kinds),
+        rule_byte::LINK => check_link(x, y, attributes, kinds, domains),
         rule_byte::PART => check_part(x, y, sizes, holders, permissions),
         _ => Checked::Legal(RuleCommand::Ends),
     }

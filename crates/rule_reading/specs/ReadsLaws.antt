@@ -8,7 +8,7 @@ use mathlib.Core.Bool.{true, false}
 use mathlib.Core.List.{List}
 use mathlib.Core.Path.{_≡_, refl, sym, ap, ap₂, _∙_, subst}
 use Rattle.role_record.specs.Cells.{userCells}
-use Rattle.role_record.specs.Record.{emptyRecord, recordWith, recordOf, WithinLimits}
+use Rattle.role_record.specs.Record.{emptyRecord, attributeTable, recordWith, recordOf, WithinLimits, FewAttributes}
 use Rattle.files.specs.Answer.{Answer, andThen, refused, accepted}
 use Rattle.files.specs.Calls.{readBoth}
 use Rattle.files.specs.RoleFile.{readRoles}
@@ -67,13 +67,13 @@ module _ (file rules : List ℕ) (l : Loaded) (e : l ≡ loadedOf (readRoles 2 f
     unfolding recordOf recordWith
     roles-bounds = let r = loaded-policy file l e h in subst (λ (f : RoleFile). (f .resources ≤ 64) × (f .roles ≤ 32)) (sym (r .3)) (r .1 .many resource, r .1 .few)
 
-    module _ (links : List ℕ) (q : links ≡ linkTable (l .file .known) (l .file .values) (l .file .kinds) (l .file .resources)) where
+    module _ (links : List ℕ) (q : links ≡ linkTable (l .file .known) (l .file .values) (l .file .kinds) (l .file .domains) (l .file .resources)) where
       -- reading the rule file beside it is reading both
       pub roles-beside : (F : Policy) × Beside F (l .file) (sizesOf (l .file)) links × (bothOf (readBeside F rules) ≡ bothOf (readBoth 2 file rules))
       unfolding readBoth readBeside
       roles-beside =
           let r = loaded-policy file l e h in
-          (r .0, record { sized = r .1; shown = r .3; counted = refl; linked = q ∙ ap (λ (f : RoleFile). linkTable (f .known) (f .values) (f .kinds) (f .resources)) (r .3) }, rw (r .2) refl)
+          (r .0, record { sized = r .1; shown = r .3; counted = refl; linked = q ∙ ap (λ (f : RoleFile). linkTable (f .known) (f .values) (f .kinds) (f .domains) (f .resources)) (r .3) }, rw (r .2) refl)
 
 -- ---- the rule file
 
@@ -92,6 +92,10 @@ module _ (F : Policy) (f : RoleFile) (sizes : Sizes) (links : List ℕ) (v : Bes
   unfolding recordOf recordWith
   within-limits = at-record (λ g n l. WithinLimits n) (v .sized .many user, v .sized .many resource, v .sized .operable, v .sized .few)
 
+  pub few-attributes : FewAttributes (f .attributes)
+  unfolding recordOf recordWith attributeTable
+  few-attributes = at-record (λ g n l. FewAttributes (g .attributes)) (v .sized .declared user, v .sized .declared resource)
+
   module _ (rules : List ℕ) (k : Tally) (met listed grid seen again : List ℕ) (at : ℕ) (t : State F rules k met listed grid seen again at) where
     pub inside : (at ≤ length rules) × (k .rules ≤ at)
     inside = (t .within, t .few)
@@ -107,14 +111,14 @@ module _ (F : Policy) (f : RoleFile) (sizes : Sizes) (links : List ℕ) (v : Bes
     no-end : (w : ℕ) → (w ≡ length (drop at rules) → ⊥) → at + w ≡ length rules → ⊥
     no-end w n e = let i = t .within in let d = length-drop at rules in n (omega arith)
 
-    checked : (b x y : ℕ) → checkedBeside F b x y ≡ checkedOf b x y (sizes .resources) (sizes .operations) (sizes .roles) (f .attributes) (f .kinds) (f .holders) (f .permissions)
+    checked : (b x y : ℕ) → checkedBeside F b x y ≡ checkedOf b x y (sizes .resources) (sizes .operations) (sizes .roles) (f .attributes) (f .kinds) (f .domains) (f .holders) (f .permissions)
     unfolding recordOf recordWith
-    checked b x y = at-record (λ g n l. checkedBeside F b x y ≡ checkedOf b x y (n .resources) (n .operations) (n .roles) (g .attributes) (g .kinds) (g .holders) (g .permissions)) refl
+    checked b x y = at-record (λ g n l. checkedBeside F b x y ≡ checkedOf b x y (n .resources) (n .operations) (n .roles) (g .attributes) (g .kinds) (g .domains) (g .holders) (g .permissions)) refl
 
-    pub reads-refused : (n : ℕ) → Refuses k (drop at rules) sizes (f .attributes) (f .kinds) (f .holders) (f .permissions) n → nothingRead n ≡ bothOf (readBeside F rules)
+    pub reads-refused : (n : ℕ) → Refuses k (drop at rules) sizes (f .attributes) (f .kinds) (f .domains) (f .holders) (f .permissions) n → nothingRead n ≡ bothOf (readBeside F rules)
     reads-refused n r = go n r ∙ outcome-beside F rules
       where
-        go : (n : ℕ) → Refuses k (drop at rules) sizes (f .attributes) (f .kinds) (f .holders) (f .permissions) n → nothingRead n ≡ outcome F (read (ruleFormat 2 (settingOf F) (rolesIn F)) start rules)
+        go : (n : ℕ) → Refuses k (drop at rules) sizes (f .attributes) (f .kinds) (f .domains) (f .holders) (f .permissions) n → nothingRead n ≡ outcome F (read (ruleFormat 2 (settingOf F) (rolesIn F)) start rules)
         go _ (cut e) = turn-cut F (v .sized) rules k met listed grid seen again at t e
         go _ (strange e) = turn-strange F (v .sized) rules k met listed grid seen again at t e
         go _ (unfinished b x y w e h m) = close-refused F (v .sized) rules k met listed grid seen again at t b x y w e h m
@@ -125,7 +129,7 @@ module _ (F : Policy) (f : RoleFile) (sizes : Sizes) (links : List ℕ) (v : Bes
     -- ---- a 21 or 2F
 
     module _ (n : Tally) (g : List ℕ) (p : n ≡ finishedWith k met listed links (sizes .users) (sizes .resources) (sizes .operations)) (q : g ≡ finishedGrid k met links (sizes .users) (sizes .resources) grid) where
-      rule-opened : (w : ℕ) → Closing k (drop at rules) sizes (f .attributes) (f .kinds) (f .holders) (f .permissions) 0x21 w
+      rule-opened : (w : ℕ) → Closing k (drop at rules) sizes (f .attributes) (f .kinds) (f .domains) (f .holders) (f .permissions) 0x21 w
           → State F rules (openedWith (finishedWith k met listed links (sizes .users) (sizes .resources) (sizes .operations))) (replicate 14 0) (gridOf (λ u r o. false)) (finishedGrid k met links (sizes .users) (sizes .resources) grid) seen again (at + w)
       unfolding recordOf recordWith
       rule-opened w c =
@@ -133,14 +137,14 @@ module _ (F : Policy) (f : RoleFile) (sizes : Sizes) (links : List ℕ) (v : Bes
           (λ r z l. State F rules (openedWith (finishedWith k met listed l (z .users) (z .resources) (z .operations))) (replicate 14 0) (gridOf (λ u r o. false)) (finishedGrid k met l (z .users) (z .resources) grid) seen again (at + w))
           (opened F (v .sized) rules k met listed grid seen again at t 0x21 (c .x) (c .y) w (c .front) (c .closable) refl)
 
-      pub reads-opened : (w : ℕ) → Closing k (drop at rules) sizes (f .attributes) (f .kinds) (f .holders) (f .permissions) 0x21 w → (m : Tally) (blank : List ℕ) → m ≡ openedWith n → blank ≡ gridOf (λ u r o. false)
+      pub reads-opened : (w : ℕ) → Closing k (drop at rules) sizes (f .attributes) (f .kinds) (f .domains) (f .holders) (f .permissions) 0x21 w → (m : Tally) (blank : List ℕ) → m ≡ openedWith n → blank ≡ gridOf (λ u r o. false)
           → State F rules m (replicate 14 0) blank g seen again (at + w)
       reads-opened w c m blank i j =
           subst (λ (l : List ℕ). State F rules m (replicate 14 0) blank l seen again (at + w)) (sym q)
           (subst (λ (l : List ℕ). State F rules m (replicate 14 0) l (finishedGrid k met links (sizes .users) (sizes .resources) grid) seen again (at + w)) (sym j)
           (subst (λ (z : Tally). State F rules z (replicate 14 0) (gridOf (λ u r o. false)) (finishedGrid k met links (sizes .users) (sizes .resources) grid) seen again (at + w)) (sym (i ∙ ap openedWith p)) (rule-opened w c)))
 
-      pub reads-ended : Closing k (drop at rules) sizes (f .attributes) (f .kinds) (f .holders) (f .permissions) 0x2F (length (drop at rules)) → bothWith f n g seen again ≡ bothOf (readBeside F rules)
+      pub reads-ended : Closing k (drop at rules) sizes (f .attributes) (f .kinds) (f .domains) (f .holders) (f .permissions) 0x2F (length (drop at rules)) → bothWith f n g seen again ≡ bothOf (readBeside F rules)
       unfolding recordOf recordWith
       reads-ended c =
           ap₂ (λ (m : Tally) (l : List ℕ). bothWith f m l seen again) p q
@@ -150,7 +154,7 @@ module _ (F : Policy) (f : RoleFile) (sizes : Sizes) (links : List ℕ) (v : Bes
 
     -- ---- a line
 
-    module _ (c : RuleCommand) (b x y w : ℕ) (d : Lining k (drop at rules) sizes (f .attributes) (f .kinds) (f .holders) (f .permissions) c b x y w) where
+    module _ (c : RuleCommand) (b x y w : ℕ) (d : Lining k (drop at rules) sizes (f .attributes) (f .kinds) (f .domains) (f .holders) (f .permissions) c b x y w) where
       pub line-within : Sided c × PartWithin c
       line-within = (
         line-sided F (v .sized) rules k met listed grid seen again at t b x y w (d .front) (d .lines) (d .placed) c (checked b x y ∙ d .made),

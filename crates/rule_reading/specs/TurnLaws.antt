@@ -42,33 +42,33 @@ module _ (k : Tally) (b w left : ℕ) where
   unfolding closingTurn
   close-ends e h n = rw (e, ne-eqb b 0x21 h, eq-eqb w left n) refl
 
-module _ (k : Tally) (s : List ℕ) (sizes : Sizes) (attributes kinds holders permissions : List ℕ) where
-  pub turn-strange : rawOf s ≡ Unknown → Refused 11 ≡ turnOf k s sizes attributes kinds holders permissions
+module _ (k : Tally) (s : List ℕ) (sizes : Sizes) (attributes kinds domains holders permissions : List ℕ) where
+  pub turn-strange : rawOf s ≡ Unknown → Refused 11 ≡ turnOf k s sizes attributes kinds domains holders permissions
   unfolding turnOf turnBy
   turn-strange e = rw e refl
 
-  pub turn-cut : rawOf s ≡ Short → Refused 10 ≡ turnOf k s sizes attributes kinds holders permissions
+  pub turn-cut : rawOf s ≡ Short → Refused 10 ≡ turnOf k s sizes attributes kinds domains holders permissions
   unfolding turnOf turnBy
   turn-cut e = rw e refl
 
   module _ (b x y w : ℕ) (e : rawOf s ≡ Whole b x y w) where
-    pub turn-closing : closesRule b ≡ true → closingTurn k b w (length s) ≡ turnOf k s sizes attributes kinds holders permissions
+    pub turn-closing : closesRule b ≡ true → closingTurn k b w (length s) ≡ turnOf k s sizes attributes kinds domains holders permissions
     unfolding turnOf turnBy
     turn-closing h = rw (e, h) refl
 
-    pub turn-misplaced : closesRule b ≡ false → followsWith k b x y ≡ false → Refused 12 ≡ turnOf k s sizes attributes kinds holders permissions
+    pub turn-misplaced : closesRule b ≡ false → followsWith k b x y ≡ false → Refused 12 ≡ turnOf k s sizes attributes kinds domains holders permissions
     unfolding turnOf turnBy
     turn-misplaced h f = rw (e, h, f) refl
 
-    pub turn-line : closesRule b ≡ false → followsWith k b x y ≡ true → lineTurn (checkedOf b x y (sizes .resources) (sizes .operations) (sizes .roles) attributes kinds holders permissions) b x y w ≡ turnOf k s sizes attributes kinds holders permissions
+    pub turn-line : closesRule b ≡ false → followsWith k b x y ≡ true → lineTurn (checkedOf b x y (sizes .resources) (sizes .operations) (sizes .roles) attributes kinds domains holders permissions) b x y w ≡ turnOf k s sizes attributes kinds domains holders permissions
     unfolding turnOf turnBy
     turn-line h f = rw (e, h, f) refl
 
 -- ---- what a turn says
 
-module _ (k : Tally) (s : List ℕ) (sizes : Sizes) (attributes kinds holders permissions : List ℕ) where
+module _ (k : Tally) (s : List ℕ) (sizes : Sizes) (attributes kinds domains holders permissions : List ℕ) where
   abbrev pub checkedHere : ℕ → ℕ → ℕ → Checked
-  checkedHere b x y = checkedOf b x y (sizes .resources) (sizes .operations) (sizes .roles) attributes kinds holders permissions
+  checkedHere b x y = checkedOf b x y (sizes .resources) (sizes .operations) (sizes .roles) attributes kinds domains holders permissions
 
   -- why a command is refused
   pub data Refuses : ℕ → Type 0 where
@@ -114,7 +114,7 @@ module _ (k : Tally) (s : List ℕ) (sizes : Sizes) (attributes kinds holders pe
         go true false false p q r = late b x y w e p (is-ending b h q) (eqb-false w (length s) r)
         go false o l p q r = unfinished b x y w e h p
 
-    whole-turned : Turned (turnBy k s sizes attributes kinds holders permissions (Whole b x y w))
+    whole-turned : Turned (turnBy k s sizes attributes kinds domains holders permissions (Whole b x y w))
     unfolding turnBy lineTurn Turned
     whole-turned = go (closesRule b) (followsWith k b x y) (checkedHere b x y) refl refl refl
       where
@@ -124,17 +124,17 @@ module _ (k : Tally) (s : List ℕ) (sizes : Sizes) (attributes kinds holders pe
         go false true Illegal p q r = illegal b x y w e p q r
         go false false a p q r = misplaced b x y w e p q
 
-  turned : Turned (turnOf k s sizes attributes kinds holders permissions)
+  turned : Turned (turnOf k s sizes attributes kinds domains holders permissions)
   unfolding turnOf turnBy Turned
   turned = go (rawOf s) refl
     where
-      go : (r : Raw) → rawOf s ≡ r → Turned (turnBy k s sizes attributes kinds holders permissions r)
+      go : (r : Raw) → rawOf s ≡ r → Turned (turnBy k s sizes attributes kinds domains holders permissions r)
       go Short e = cut e
       go Unknown e = strange e
       go (Whole b x y w) e = whole-turned b x y w e
 
   -- THE LAWS, of a turn that the code has taken
-  module _ (t : Turn) (e : t ≡ turnOf k s sizes attributes kinds holders permissions) where
+  module _ (t : Turn) (e : t ≡ turnOf k s sizes attributes kinds domains holders permissions) where
     pub turned-refused : (n : ℕ) → t ≡ Refused n → Refuses n
     unfolding Turned
     turned-refused n g = subst Turned (sym e ∙ g) turned

@@ -40,13 +40,13 @@ unfoldable pub lineTurn : Checked → ℕ → ℕ → ℕ → ℕ → Turn
 lineTurn (Legal c) b x y w = Line c b x y w
 lineTurn Illegal b x y w = Refused 13
 
-module _ (k : Tally) (s : List ℕ) (sizes : Sizes) (attributes kinds holders permissions : List ℕ) where
+module _ (k : Tally) (s : List ℕ) (sizes : Sizes) (attributes kinds domains holders permissions : List ℕ) where
   unfoldable pub turnBy : Raw → Turn
   turnBy Short = Refused 10
   turnBy Unknown = Refused 11
   turnBy (Whole b x y w) =
       cond (closesRule b) (closingTurn k b w (length s))
-      (cond (followsWith k b x y) (lineTurn (checkedOf b x y (sizes .resources) (sizes .operations) (sizes .roles) attributes kinds holders permissions) b x y w) (Refused 12))
+      (cond (followsWith k b x y) (lineTurn (checkedOf b x y (sizes .resources) (sizes .operations) (sizes .roles) attributes kinds domains holders permissions) b x y w) (Refused 12))
 
   unfoldable pub turnOf : Turn
   turnOf = turnBy (rawOf s)

@@ -1,9 +1,10 @@
 // What reading a rule file comes to, and one turn of it: the next line met, or the rule closed.
 ghost use mathlib.Core.Path.{_≡_};
-ghost use Rattle.role_record.specs.Record.{WithinLimits};
+ghost use Rattle.role_record.specs.Record.{WithinLimits, FewAttributes};
 ghost use Rattle.rule_reading.specs.Turns.{closesRule, closingTurn, lineTurn, turnOf};
 use files::refusal;
 use files::rule_byte;
+use role_record::ByAttribute;
 use role_record::ByRole;
 use role_record::ByRoleOperation;
 use role_record::BySide;
@@ -81,13 +82,15 @@ pub fn next_turn<'a>(
     sizes: Sizes,
     attributes: &'a CountBySide,
     kinds: &'a BySide,
+    domains: &'a ByAttribute,
     holders: &'a ByRole,
     permissions: &'a ByRoleOperation,
 ) -> Turn
-    requires { ⌜ WithinLimits sizes ⌝ }
+    requires { ⌜ WithinLimits sizes × FewAttributes (now attributes) ⌝ }
     ensures { λ r. ⌜
         r
-        ≡ turnOf k (now (rest .entry)) sizes (now (attributes .entry)) (now (kinds .entry)) (now (holders .entry))
+        ≡ turnOf k (now (rest .entry)) sizes (now (attributes .entry)) (now (kinds .entry))
+        (now (domains .entry)) (now (holders .entry))
         (now (permissions .entry)) ⌝ }
 {
     match rule_commands::next(rest) {
@@ -100,7 +103,17 @@ pub fn next_turn<'a>(
             if !rule_steps::follows(k, b, x, y) {
                 return Turn::Refused(refusal::RULES_ORDER);
             }
-            let c = rule_operands::check(b, x, y, sizes, attributes, kinds, holders, permissions);
+            let c = rule_operands::check(
+                b,
+                x,
+                y,
+                sizes,
+                attributes,
+                kinds,
+                domains,
+                holders,
+                permissions,
+            );
             line_turn(c, b, x, y, w)
         }
     }

@@ -1,8 +1,9 @@
 -- What is told in words: the rules of a rule file that was accepted; and which lines are told as what.
 -- Assumes nothing.
 use Prim.Native.Nat.{ℕ}
-use lib.Dec.{eqb}
-use mathlib.Core.Bool.{Bool, _&&_, _||_}
+use lib.Dec.{eqb, ltb}
+use lib.ListN.{getD}
+use mathlib.Core.Bool.{Bool, cond, _&&_, _||_}
 use mathlib.Core.List.{List}
 use mathlib.Core.Path.{_≡_}
 use Rattle.files.specs.Answer.{accepted}
@@ -26,3 +27,7 @@ isCondition b = isWithin b 0x22 0x25 || eqb b 0x27
 -- a line gives a further value of the conjunct that the line before it gives one of: the same command of 22 to 25, with the same attribute
 abbrev pub goesOn : ℕ → ℕ → ℕ → ℕ → Bool
 goesOn b a former attribute = isWithin b 0x22 0x25 && (eqb b former && eqb a attribute)
+
+-- the domain of a user attribute; 0 where there is no such attribute
+abbrev pub domainOf : List ℕ → ℕ → ℕ
+domainOf domains a = cond (ltb a 6) (getD domains a 0) 0

@@ -1,10 +1,10 @@
 // Rules in words. Each function says whether all was printed so far, as those of `programs` do.
-ghost use Rattle.role_record.specs.Record.{WithinLimits};
+ghost use Rattle.role_record.specs.Record.{WithinLimits, FewAttributes};
 ghost use mathlib.Core.Bool.{_||_};
 ghost use mathlib.Core.List.{List};
 ghost use mathlib.Core.Path.{_≡_};
 ghost use Rattle.rule_headings.specs.Headings.{RuleAt};
-ghost use Rattle.rule_words.specs.Telling.{isCondition, goesOn, AcceptedRules};
+ghost use Rattle.rule_words.specs.Telling.{isCondition, goesOn, domainOf, AcceptedRules};
 ghost use Rattle.files.specs.RuleFile.{Lines};
 ghost use Rattle.policy.specs.Policy.{Policy};
 use files::rule_byte;
@@ -12,10 +12,12 @@ use line_words::say_operations;
 use line_words::tell_checked;
 use programs::say;
 use programs::say_count;
+use role_record::ByAttribute;
 use role_record::ByRole;
 use role_record::ByRoleOperation;
 use role_record::BySide;
 use role_record::CountBySide;
+use role_record::RoleFile;
 use role_record::Sizes;
 use rule_headings::front;
 use rule_headings::heading_of;
@@ -73,16 +75,29 @@ fn goes_on(byte: usize, first: u64, former: usize, earlier: u64) -> bool
     first == earlier
 }
 
+// The domain of a user attribute; 0 where there is no such attribute, as in lines that name none.
+fn domain_of(domains: &ByAttribute, attribute: u64) -> u64
+    ensures { λ r. ⌜ r ≡ domainOf (now (domains .entry)) attribute ⌝ }
+{
+    let a = attribute as usize;
+    if a < RoleFile::ATTRIBUTES {
+        return domains[a];
+    }
+    0
+}
+
 // A paragraph for each rule of a legal rule file; the last line is left open.
 pub fn tell_rules<'a>(
     rules: &[u8],
     sizes: Sizes,
     attributes: &'a CountBySide,
     kinds: &'a BySide,
+    domains: &'a ByAttribute,
     holders: &'a ByRole,
     permissions: &'a ByRoleOperation,
 ) -> bool
-    requires { ⌜ WithinLimits sizes × AcceptedRules (now rules) ⌝ }
+    requires { ⌜
+        WithinLimits sizes × FewAttributes (now attributes) × AcceptedRules (now rules) ⌝ }
 {
     let mut printed = true;
     let mut number: usize = 0;
@@ -109,10 +124,12 @@ pub fn tell_rules<'a>(
                 sizes,
                 attributes,
                 kinds,
+                domains,
                 holders,
                 permissions,
             );
-            printed = tell_checked(printed, same, some, checked);
+            let domain = domain_of(domains, l.first);
+            printed = tell_checked(printed, same, some, checked, domain);
             some = has_condition(some, l.byte);
         }
         former = l.byte;

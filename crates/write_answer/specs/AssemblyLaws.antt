@@ -44,11 +44,12 @@ bytes-all s h g m = byte-low m h
 
 -- ---- the record
 
-pub stored : (F : Policy) (f : RoleFile) → f ≡ recordOf F → OfRecord F (f .known) (f .values) (f .kinds) (f .attributes) (f .holders) (f .permissions) (f .users) (f .resources) (f .operations) (f .roles)
+pub stored : (F : Policy) (f : RoleFile) → f ≡ recordOf F → OfRecord F (f .known) (f .values) (f .kinds) (f .domains) (f .attributes) (f .holders) (f .permissions) (f .users) (f .resources) (f .operations) (f .roles)
 stored F f e = record {
   of-known = ap (λ (g : RoleFile). g .known) e;
   of-values = ap (λ (g : RoleFile). g .values) e;
   of-kinds = ap (λ (g : RoleFile). g .kinds) e;
+  of-domains = ap (λ (g : RoleFile). g .domains) e;
   of-attributes = ap (λ (g : RoleFile). g .attributes) e;
   of-holders = ap (λ (g : RoleFile). g .holders) e;
   of-permissions = ap (λ (g : RoleFile). g .permissions) e;
@@ -61,12 +62,13 @@ stored F f e = record {
 -- ---- the tables
 
 -- the tables of distinct values are those of the policy
-module _ (F : Policy) (known values kinds attributes holders permissions : List ℕ) (users resources operations roles : ℕ) (s : OfRecord F known values kinds attributes holders permissions users resources operations roles) (distinct having inside : List ℕ)
+module _ (F : Policy) (known values kinds domains attributes holders permissions : List ℕ) (users resources operations roles : ℕ) (s : OfRecord F known values kinds domains attributes holders permissions users resources operations roles) (distinct having inside : List ℕ)
     (d : distinct ≡ distinctTable known values holders users resources roles) (h : having ≡ havingTable known values holders users resources roles) (i : inside ≡ insideTable known values holders kinds users resources roles) where
-  pub merged-by : MergedBy F known kinds attributes holders permissions distinct having users resources operations roles
+  pub merged-by : MergedBy F known kinds domains attributes holders permissions distinct having users resources operations roles
   merged-by = record {
     of-known = s .of-known;
     of-kinds = s .of-kinds;
+    of-domains = s .of-domains;
     of-attributes = s .of-attributes;
     of-holders = s .of-holders;
     of-permissions = s .of-permissions;
@@ -92,7 +94,7 @@ module _ (F : Policy) (known values kinds attributes holders permissions : List 
 
 -- ---- merging
 
-module _ (F : Policy) (known kinds attributes holders permissions distinct having : List ℕ) (users resources operations roles : ℕ) (m : MergedBy F known kinds attributes holders permissions distinct having users resources operations roles) where
+module _ (F : Policy) (known kinds domains attributes holders permissions distinct having : List ℕ) (users resources operations roles : ℕ) (m : MergedBy F known kinds domains attributes holders permissions distinct having users resources operations roles) where
   -- the tables of distinct values, as those of a policy's record
   pub distinct-so : distinct ≡ distinctTable known (recordOf F .values) holders users resources roles
   distinct-so = m .of-distinct ∙ rw (m .of-known, m .of-holders, m .of-users, m .of-resources, m .of-roles) refl
@@ -100,11 +102,11 @@ module _ (F : Policy) (known kinds attributes holders permissions distinct havin
   pub having-so : having ≡ havingTable known (recordOf F .values) holders users resources roles
   having-so = m .of-having ∙ rw (m .of-known, m .of-holders, m .of-users, m .of-resources, m .of-roles) refl
 
-  module _ (links matched places : List ℕ) (p : links ≡ linkTable known (recordOf F .values) kinds resources) (q : matched ≡ matchTable kinds known (recordOf F .values) holders users resources roles) (r : places ≡ knownPlaces users resources known) where
+  module _ (links matched places : List ℕ) (p : links ≡ linkTable known (recordOf F .values) kinds domains resources) (q : matched ≡ matchTable kinds known (recordOf F .values) holders users resources roles) (r : places ≡ knownPlaces users resources known) where
     -- the tables by which parts are merged are those of the policy
     pub tables-so : Tables F links matched places attributes holders permissions users resources operations roles
     tables-so = record {
-      of-links = p ∙ rw (m .of-known, m .of-kinds, m .of-resources) refl;
+      of-links = p ∙ rw (m .of-known, m .of-kinds, m .of-domains, m .of-resources) refl;
       of-matches = q ∙ rw (m .of-kinds, m .of-known, m .of-holders, m .of-users, m .of-resources, m .of-roles) refl;
       of-known = r ∙ rw (m .of-users, m .of-resources, m .of-known) refl;
       of-attributes = m .of-attributes;

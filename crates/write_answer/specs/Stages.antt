@@ -29,10 +29,11 @@ unfoldable pub neededBytes : List ℕ → ℕ → ℕ
 neededBytes file scratch = cond (leb 4096 scratch) (bytesFor (readRoles 2 file)) 0
 
 -- the tables and numbers are those of the policy's record
-pub record OfRecord (F : Policy) (known values kinds attributes holders permissions : List ℕ) (users resources operations roles : ℕ) : Type 0 where
+pub record OfRecord (F : Policy) (known values kinds domains attributes holders permissions : List ℕ) (users resources operations roles : ℕ) : Type 0 where
   pub of-known : known ≡ recordOf F .known
   pub of-values : values ≡ recordOf F .values
   pub of-kinds : kinds ≡ recordOf F .kinds
+  pub of-domains : domains ≡ recordOf F .domains
   pub of-attributes : attributes ≡ recordOf F .attributes
   pub of-holders : holders ≡ recordOf F .holders
   pub of-permissions : permissions ≡ recordOf F .permissions
@@ -42,9 +43,10 @@ pub record OfRecord (F : Policy) (known values kinds attributes holders permissi
   pub of-roles : roles ≡ recordOf F .roles
 
 -- parts are merged by tables of the policy's record and by those of its distinct values
-pub record MergedBy (F : Policy) (known kinds attributes holders permissions distinct having : List ℕ) (users resources operations roles : ℕ) : Type 0 where
+pub record MergedBy (F : Policy) (known kinds domains attributes holders permissions distinct having : List ℕ) (users resources operations roles : ℕ) : Type 0 where
   pub of-known : known ≡ recordOf F .known
   pub of-kinds : kinds ≡ recordOf F .kinds
+  pub of-domains : domains ≡ recordOf F .domains
   pub of-attributes : attributes ≡ recordOf F .attributes
   pub of-holders : holders ≡ recordOf F .holders
   pub of-permissions : permissions ≡ recordOf F .permissions

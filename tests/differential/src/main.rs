@@ -19,8 +19,8 @@ use std::process::ExitCode;
 use std::thread::{available_parallelism, scope};
 use tally::Tally;
 
-/// The change requests that have landed: none.
-pub const REV: second_miner::revision::Rev = 0;
+/// How many of the change requests have landed: the second miner is asked as of then.
+pub const REV: second_miner::revision::Rev = 1;
 
 /// Both sides must say the same.
 pub fn same<T: PartialEq + std::fmt::Debug>(what: &str, ours: T, theirs: T) -> Result<(), String> {

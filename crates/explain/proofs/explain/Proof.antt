@@ -3,15 +3,15 @@ use borrow.Author.Needs.{needs}
 use denote.Ref.{now}
 use Rattle.explain.proofs.explain.Statement.{statement}
 use Rattle.explain.proofs.explain.Tie as tie
-use Rattle.rule_file.specs.LegalLaws.{both-sizes}
+use Rattle.rule_file.specs.LegalLaws.{both-sizes, both-attributes}
 use Rattle.rule_words.specs.TellingLaws.{both-legal}
 
 tell-rules-requires : tie.Need-tell-rules-requires
 tell-rules-requires c κs =
-    let e = c .before .before .before .before .before .before in
+    let e = c .before .before .before .before .before .before .before in
     let r = e .before .before in
     let a = r .before .before .before .args in
-    (both-sizes (now (a .file)) (now (a .rules)) (r .read .result) (r .read .ensures) (e .if1 .left), both-legal (now (a .file)) (now (a .rules)) (r .read .result) (r .read .ensures) (e .if1 .left))
+    (both-sizes (now (a .file)) (now (a .rules)) (r .read .result) (r .read .ensures) (e .if1 .left), both-attributes (now (a .file)) (now (a .rules)) (r .read .result) (r .read .ensures) (e .if1 .left), both-legal (now (a .file)) (now (a .rules)) (r .read .result) (r .read .ensures) (e .if1 .left))
 
 pub explain-spec : {M : Type 1} → statement M
 explain-spec =

@@ -13,11 +13,11 @@ use Rattle.grant_tables.proofs.fill_links.Statement.{statement}
 use Rattle.grant_tables.proofs.fill_links.Tie as tie
 
 abbrev Inv-loop : tie.InvT-loop
-Inv-loop kinds resources distinct having out₀ atom₀ out atom =
-    (atom ≤ 36) × (length out ≡ 2304) × (out ≡ turns (linkAtom distinct having kinds resources) atom (tableOf 2304 (λ i. 0)))
+Inv-loop kinds domains resources distinct having out₀ atom₀ out atom =
+    (atom ≤ 36) × (length out ≡ 2304) × (out ≡ turns (linkAtom distinct having kinds domains resources) atom (tableOf 2304 (λ i. 0)))
 
 abbrev μ-loop : tie.MeasureT-loop
-μ-loop kinds resources distinct having out₀ atom₀ out atom = 36 - atom
+μ-loop kinds domains resources distinct having out₀ atom₀ out atom = 36 - atom
 
 loop-holds : tie.Need-loop-holds Inv-loop μ-loop
 loop-holds c =
@@ -32,8 +32,8 @@ loop-again c =
     let a = after .before .before .before .before .before .before .before .before .before .args in
     let e = after .link-atom .ensures in (
       turn-within (turn .atom) 36 (after .before .before .loop-test .taken),
-      link-long (a .distinct .now) (a .having .now) (a .kinds .now) (a .resources) (turn .atom) (turn .out) _ (turn .inv .1) e,
-      turns-next (linkAtom (a .distinct .now) (a .having .now) (a .kinds .now) (a .resources)) (tableOf 2304 (λ i. 0)) (turn .atom) (turn .out) _ (turn .inv .2) e,
+      link-long (a .distinct .now) (a .having .now) (a .kinds .now) (a .domains .now) (a .resources) (turn .atom) (turn .out) _ (turn .inv .1) e,
+      turns-next (linkAtom (a .distinct .now) (a .having .now) (a .kinds .now) (a .domains .now) (a .resources)) (tableOf 2304 (λ i. 0)) (turn .atom) (turn .out) _ (turn .inv .2) e,
     )
 
 returns : tie.Need-returns Inv-loop μ-loop
@@ -41,7 +41,7 @@ unfolding linksBy
 returns c =
     let end = c .before .loop in
     let a = c .before .before .before .before .before .before .before .args in
-    turns-end (linkAtom (a .distinct .now) (a .having .now) (a .kinds .now) (a .resources)) (tableOf 2304 (λ i. 0)) (end .atom) 36 (end .out) (end .inv .2) (omega arith)
+    turns-end (linkAtom (a .distinct .now) (a .having .now) (a .kinds .now) (a .domains .now) (a .resources)) (tableOf 2304 (λ i. 0)) (end .atom) 36 (end .out) (end .inv .2) (omega arith)
 
 pub fill-links-spec : {M : Type 1} → statement M
 fill-links-spec =

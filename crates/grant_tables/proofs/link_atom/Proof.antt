@@ -1,27 +1,26 @@
 -- The invariant: the words of whoever has one of the user values before number k are right. Assumes nothing.
-use Prim.Native.Nat.{_/_, _-_, _≤_}
+use Prim.Native.Nat.{_/_, _%_, _-_, _≤_}
 use borrow.Author.Needs.{needs}
 use lib.ListN.{length}
 use mathlib.Core.Path.{_≡_, refl}
 use native.Mathlib.Omega.{arith}
 use Rattle.sets.specs.LoopLaws.{turn-within}
-use Rattle.grant_joins.specs.Tables.{valueCount}
-use Rattle.grant_joins.specs.Tables.{turns, linkValue, linkAtom}
-use Rattle.grant_joins.specs.LinkTurnLaws.{turns-next, turns-end, spread-keeps, number-most, link-turn}
+use Rattle.grant_joins.specs.Tables.{turns, linkValue, lookedAt, linkAtom}
+use Rattle.grant_joins.specs.LinkTurnLaws.{turns-next, turns-end, spread-keeps, looked-most, link-turn}
 use Rattle.grant_tables.proofs.link_atom.Statement.{statement}
 use Rattle.grant_tables.proofs.link_atom.Tie as tie
 
 abbrev Inv-loop : tie.InvT-loop
-Inv-loop kinds resources distinct having atom out₀ a b others count k₀ out k =
+Inv-loop kinds domains resources distinct having atom out₀ a b others count k₀ out k =
     (k ≤ count) × (count ≤ 64) × (length out ≡ 2304) × (out ≡ turns (linkValue distinct having kinds resources atom) k out₀)
 
 abbrev μ-loop : tie.MeasureT-loop
-μ-loop kinds resources distinct having atom out₀ a b others count k₀ out k = count - k
+μ-loop kinds domains resources distinct having atom out₀ a b others count k₀ out k = count - k
 
 loop-holds : tie.Need-loop-holds Inv-loop μ-loop
 loop-holds c =
     let a = c .before .before .before .args in
-    (search needs, number-most (a .having .now) (a .atom / 6) _ (c .number2 .ensures), search needs, refl)
+    (search needs, looked-most (a .having .now) (a .domains .now) (a .atom / 6) (a .atom % 6) _ (c .looked-at .ensures), search needs, refl)
 
 loop-again : tie.Need-loop-again Inv-loop μ-loop
 loop-again c =
@@ -43,8 +42,8 @@ returns c =
     let end = c .before .loop in
     let counted = c .before .before in
     let a = counted .before .before .before .args in
-    turns-end (linkValue (a .distinct .now) (a .having .now) (a .kinds .now) (a .resources) (a .atom)) (a .out .now) (end .k) (valueCount (a .having .now) (a .atom / 6)) (end .out) (end .inv .3)
-    (let q = counted .number2 .ensures in omega arith)
+    turns-end (linkValue (a .distinct .now) (a .having .now) (a .kinds .now) (a .resources) (a .atom)) (a .out .now) (end .k) (lookedAt (a .having .now) (a .domains .now) (a .atom / 6) (a .atom % 6)) (end .out) (end .inv .3)
+    (let q = counted .looked-at .ensures in omega arith)
 
 pub link-atom-spec : {M : Type 1} → statement M
 link-atom-spec =

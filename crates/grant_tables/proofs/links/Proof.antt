@@ -8,7 +8,7 @@ returns : tie.Need-returns
 returns c =
     let start = c .before .before in
     let a = start .args in
-    λ known values holders users roles ed eh. links-means (a .distinct .now) (a .having .now) (a .kinds .now) known values holders users (a .resources) roles _ (start .pre) (c .fill-links .ensures) ed eh
+    λ known values holders users roles ed eh. links-means (a .distinct .now) (a .having .now) (a .kinds .now) (a .domains .now) known values holders users (a .resources) roles _ (start .pre) (c .fill-links .ensures) ed eh
 
 pub links-spec : {M : Type 1} → statement M
 links-spec =

@@ -31,12 +31,12 @@ returns c =
     let p = start .pre in (
       merged .merge .ensures .0,
       λ F Z M.
-          let d = distinct-so F (a .known .now) (a .kinds .now) (a .attributes .now) (a .holders .now) (a .permissions .now) (a .distinct .now) (a .having .now) (a .sizes .users) (a .sizes .resources) (a .sizes .operations) (a .sizes .roles) M in
-          let h = having-so F (a .known .now) (a .kinds .now) (a .attributes .now) (a .holders .now) (a .permissions .now) (a .distinct .now) (a .having .now) (a .sizes .users) (a .sizes .resources) (a .sizes .operations) (a .sizes .roles) M in
+          let d = distinct-so F (a .known .now) (a .kinds .now) (a .domains .now) (a .attributes .now) (a .holders .now) (a .permissions .now) (a .distinct .now) (a .having .now) (a .sizes .users) (a .sizes .resources) (a .sizes .operations) (a .sizes .roles) M in
+          let h = having-so F (a .known .now) (a .kinds .now) (a .domains .now) (a .attributes .now) (a .holders .now) (a .permissions .now) (a .distinct .now) (a .having .now) (a .sizes .users) (a .sizes .resources) (a .sizes .operations) (a .sizes .roles) M in
           let of-links = linked .links2 .ensures (a .known .now) (recordOf F .values) (a .holders .now) (a .sizes .users) (a .sizes .roles) d h in
           let of-matched = matched .matches2 .ensures (a .known .now) (recordOf F .values) (a .holders .now) (a .sizes .users) (a .sizes .resources) (a .sizes .roles) (p .0 .0) (p .0 .1) (places .known-places .ensures) d h in
-          let w = merged .merge .ensures .1 F Z (tables-so F (a .known .now) (a .kinds .now) (a .attributes .now) (a .holders .now) (a .permissions .now) (a .distinct .now) (a .having .now) (a .sizes .users) (a .sizes .resources) (a .sizes .operations) (a .sizes .roles) M _ _ _ of-links of-matched (places .known-places .ensures)) in
-          (w .0, w .1, kept-so F (a .known .now) (a .kinds .now) (a .attributes .now) (a .holders .now) (a .permissions .now) (a .distinct .now) (a .having .now) (a .sizes .users) (a .sizes .resources) (a .sizes .operations) (a .sizes .roles) M _ _ _ of-links of-matched (places .known-places .ensures) _ _ (c .kept-places .ensures)),
+          let w = merged .merge .ensures .1 F Z (tables-so F (a .known .now) (a .kinds .now) (a .domains .now) (a .attributes .now) (a .holders .now) (a .permissions .now) (a .distinct .now) (a .having .now) (a .sizes .users) (a .sizes .resources) (a .sizes .operations) (a .sizes .roles) M _ _ _ of-links of-matched (places .known-places .ensures)) in
+          (w .0, w .1, kept-so F (a .known .now) (a .kinds .now) (a .domains .now) (a .attributes .now) (a .holders .now) (a .permissions .now) (a .distinct .now) (a .having .now) (a .sizes .users) (a .sizes .resources) (a .sizes .operations) (a .sizes .roles) M _ _ _ of-links of-matched (places .known-places .ensures) _ _ (c .kept-places .ensures)),
     )
 
 pub merge-parts-spec : {M : Type 1} → statement M

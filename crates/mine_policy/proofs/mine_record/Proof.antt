@@ -25,8 +25,8 @@ returns c F Z S =
     let a = d .before .before .before .before .before .args in
     let v = d .distinct-values .ensures in
     let i = inner .inside-values .ensures (a .known .now) (a .values .now) (a .holders .now) (a .sizes .users) (a .sizes .resources) (a .sizes .roles) (v .0) (v .1) in
-    let m = merged .merge-parts .ensures .1 F Z (merged-by F (a .known .now) (a .values .now) (a .kinds .now) (a .attributes .now) (a .holders .now) (a .permissions .now) (a .sizes .users) (a .sizes .resources) (a .sizes .operations) (a .sizes .roles) S _ _ _ (v .0) (v .1) i) in
-    written .write-groups .ensures F Z (written-by F (a .known .now) (a .values .now) (a .kinds .now) (a .attributes .now) (a .holders .now) (a .permissions .now) (a .sizes .users) (a .sizes .resources) (a .sizes .operations) (a .sizes .roles) S _ _ _ (v .0) (v .1) i _ _ (m .1) (m .2)) (m .0)
+    let m = merged .merge-parts .ensures .1 F Z (merged-by F (a .known .now) (a .values .now) (a .kinds .now) (a .domains .now) (a .attributes .now) (a .holders .now) (a .permissions .now) (a .sizes .users) (a .sizes .resources) (a .sizes .operations) (a .sizes .roles) S _ _ _ (v .0) (v .1) i) in
+    written .write-groups .ensures F Z (written-by F (a .known .now) (a .values .now) (a .kinds .now) (a .domains .now) (a .attributes .now) (a .holders .now) (a .permissions .now) (a .sizes .users) (a .sizes .resources) (a .sizes .operations) (a .sizes .roles) S _ _ _ (v .0) (v .1) i _ _ (m .1) (m .2)) (m .0)
 
 pub mine-record-spec : {M : Type 1} → statement M
 mine-record-spec =

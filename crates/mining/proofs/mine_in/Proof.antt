@@ -25,7 +25,7 @@ policy c = loaded-policy (now (c .before .before .before .before .before .before
 
 mine-record-requires : tie.Need-mine-record-requires
 mine-record-requires c κs =
-    let e = c .before .before .before .before .before .before .before .before .before .before in
+    let e = c .before .before .before .before .before .before .before .before .before .before .before in
     let p = policy e in
     let z = record-sizes (p .0) (p .1) (e .before .before .read .result .file) (p .3) in
     (z .0, z .1, z .2, e .before .before .before .before .before .before .pre)
@@ -33,7 +33,7 @@ mine-record-requires c κs =
 returns-2 : tie.Need-returns-2
 returns-2 c =
     let m = c .before .before .before .before in
-    let e = m .before .before .before .before .before .before .before .before .before .before .before in
+    let e = m .before .before .before .before .before .before .before .before .before .before .before .before in
     let p = policy e in
     let s = m .mine-record .ensures (p .0) (p .1) (stored (p .0) (e .before .before .read .result .file) (p .3)) in
     (λ n h. s .0 (now (e .before .before .before .before .before .before .args .file)) n h (p .2), s .1 ∙ sym (ap bytesFor (p .2)))

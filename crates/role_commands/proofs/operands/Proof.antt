@@ -40,14 +40,21 @@ returns-7 c = rw (c .before .before .match .keys7, c .byte-at19 .ensures .0, c .
 
 returns-8 : tie.Need-returns-8
 unfolding commandBy
-returns-8 c =
+returns-8 c = rw (c .before .before .before .match .keys8, c .byte-at22 .ensures .0, c .before .byte-at21 .ensures .0, c .before .before .byte-at20 .ensures .0) refl
+
+returns-9 : tie.Need-returns-9
+unfolding commandBy
+returns-9 c =
     let n = c .match .rest in
-    simp (ne-eqb _ _ (n .1), ne-eqb _ _ (n .0 .1), ne-eqb _ _ (n .0 .0 .1), ne-eqb _ _ (n .0 .0 .0 .1), ne-eqb _ _ (n .0 .0 .0 .0 .1), ne-eqb _ _ (n .0 .0 .0 .0 .0 .1), ne-eqb _ _ (n .0 .0 .0 .0 .0 .0 .1))
+    simp (ne-eqb _ _ (n .1), ne-eqb _ _ (n .0 .1), ne-eqb _ _ (n .0 .0 .1), ne-eqb _ _ (n .0 .0 .0 .1), ne-eqb _ _ (n .0 .0 .0 .0 .1), ne-eqb _ _ (n .0 .0 .0 .0 .0 .1), ne-eqb _ _ (n .0 .0 .0 .0 .0 .0 .1), ne-eqb _ _ (n .0 .0 .0 .0 .0 .0 .0 .1))
 
 pub operands-spec : {M : Type 1} → statement M
 operands-spec =
     tie.close
     (tie.spec
+    (λ c κs. search needs)
+    (λ c κs. search needs)
+    (λ c κs. search needs)
     (λ c κs. search needs)
     (λ c κs. search needs)
     (λ c κs. search needs)
@@ -76,4 +83,5 @@ operands-spec =
     returns-5
     returns-6
     returns-7
-    returns-8)
+    returns-8
+    returns-9)

@@ -26,11 +26,11 @@ use Rattle.role_file.proofs.settle.Reads as settle-reads
 use Rattle.role_store.proofs.store.Reads as store-reads
 
 abbrev Inv-loop : tie.InvT-loop
-Inv-loop s sizes attributes₀ kinds₀ known₀ values₀ assigned₀ lines₀ permissions₀ phase₀ rest₀ attributes kinds known values assigned lines permissions phase rest =
-    Reached s rest (withSizes (tabled attributes kinds known values assigned lines permissions) (sizesAt phase sizes)) phase
+Inv-loop s sizes attributes₀ kinds₀ domains₀ known₀ values₀ assigned₀ lines₀ permissions₀ phase₀ rest₀ attributes kinds domains known values assigned lines permissions phase rest =
+    Reached s rest (withSizes (tabled attributes kinds domains known values assigned lines permissions) (sizesAt phase sizes)) phase
 
 abbrev μ-loop : tie.MeasureT-loop
-μ-loop s sizes attributes₀ kinds₀ known₀ values₀ assigned₀ lines₀ permissions₀ phase₀ rest₀ attributes kinds known values assigned lines permissions phase rest =
+μ-loop s sizes attributes₀ kinds₀ domains₀ known₀ values₀ assigned₀ lines₀ permissions₀ phase₀ rest₀ attributes kinds domains known values assigned lines permissions phase rest =
     length rest
 
 -- at the loop's head: the file, its sizes, and the tables
@@ -41,7 +41,7 @@ abbrev sizes : tie.At-loop Inv-loop μ-loop → Counts
 sizes c = c .before .before .args .sizes
 
 abbrev tables : tie.At-loop Inv-loop μ-loop → RoleFile
-tables c = tabled (c .loop .attributes) (c .loop .kinds) (c .loop .known) (c .loop .values) (c .loop .assigned) (c .loop .lines) (c .loop .permissions)
+tables c = tabled (c .loop .attributes) (c .loop .kinds) (c .loop .domains) (c .loop .known) (c .loop .values) (c .loop .assigned) (c .loop .lines) (c .loop .permissions)
 
 abbrev left : tie.At-loop Inv-loop μ-loop → List ℕ
 left c = now (c .loop .rest)
@@ -92,21 +92,21 @@ returns c =
 
 store-requires : tie.Need-store-requires Inv-loop μ-loop
 store-requires c κs =
-    let k = c .before .before .before .before .before .before .before .before in
+    let k = c .before .before .before .before .before .before .before .before .before in
     next-bounded (source (head (turn k))) (left (head (turn k))) (tables (head (turn k))) (sizes (head (turn k))) (head (turn k) .loop .phase) (head (turn k) .before .before .pre .1) (state (turn k)) (command k) (width k) (obeyed k)
 
 sub-rest : tie.Need-sub-rest Inv-loop μ-loop
-sub-rest c = let h = inside (c .before .before .before .before .before .before .before .before .before) in omega arith
+sub-rest c = let h = inside (c .before .before .before .before .before .before .before .before .before .before) in omega arith
 
 part-rest-start : tie.Need-part-rest-start Inv-loop μ-loop
-part-rest-start c = let h = inside (c .before .before .before .before .before .before .before .before .before) in omega arith
+part-rest-start c = let h = inside (c .before .before .before .before .before .before .before .before .before .before) in omega arith
 
 part-rest-end : tie.Need-part-rest-end Inv-loop μ-loop
-part-rest-end c = let h = inside (c .before .before .before .before .before .before .before .before .before) in omega arith
+part-rest-end c = let h = inside (c .before .before .before .before .before .before .before .before .before .before) in omega arith
 
 loop-less : tie.Need-loop-less Inv-loop μ-loop
 loop-less c =
-    let k = c .before .before .before .before .before .before .before .before .before .before in
+    let k = c .before .before .before .before .before .before .before .before .before .before .before in
     let a = some k in
     let b = inside k in
     let d = length-drop (width k) (left (head (turn k))) in
@@ -115,7 +115,7 @@ loop-less c =
 
 loop-again : tie.Need-loop-again Inv-loop μ-loop
 loop-again c =
-    let k = c .before .before .before .before .before .before .before .before .before .before in
+    let k = c .before .before .before .before .before .before .before .before .before .before .before in
     let h = head (turn k) in
     next-reached (source h) (left h) (tables h) (sizes h) (h .loop .phase) (h .before .before .pre .1) (state (turn k)) (command k) (width k) (obeyed k) _ _ (c .before .store .ensures .1) (c .before .store .ensures .0)
 
@@ -123,11 +123,11 @@ returns-2 : tie.Need-returns-2 Inv-loop μ-loop
 returns-2 c = c .refuse2 .ensures ∙ ended (c .before .before) .trailing (c .before .if1 .taken)
 
 settle-requires : tie.Need-settle-requires Inv-loop μ-loop
-settle-requires c κs = few-roles _ _ _ (ended (c .before .before .before .before .before .before .before .before))
+settle-requires c κs = few-roles _ _ _ (ended (c .before .before .before .before .before .before .before .before .before))
 
 returns-3 : tie.Need-returns-3 Inv-loop μ-loop
 returns-3 c =
-    let u = c .before .before .before .before .before .before .before .before in
+    let u = c .before .before .before .before .before .before .before .before .before in
     let e = ended (u .before) in
     c .settle .ensures ∙ ap settledOf (e .shows) ∙ settled (e .policy) (e .sized) ∙ e .at-end (u .if1 .left)
 

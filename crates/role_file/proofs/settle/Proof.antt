@@ -30,7 +30,7 @@ holders-requires c κs = search needs
 
 returns-2 : tie.Need-returns-2
 returns-2 c =
-    let h = c .before .before .before .before .before .before .before in
+    let h = c .before .before .before .before .before .before .before .before in
     let u = h .before .before .before in
     let t = u .before in
     let d = t .before .before in

@@ -26,6 +26,18 @@ mul-kinds c = search needs
 element-write-kinds : tie.Need-element-write-kinds
 element-write-kinds c = search needs
 
+mul-domains : tie.Need-mul-domains
+mul-domains c = search needs
+
+add-domains : tie.Need-add-domains
+add-domains c = search needs
+
+mul-domains-2 : tie.Need-mul-domains-2
+mul-domains-2 c = search needs
+
+element-write-domains : tie.Need-element-write-domains
+element-write-domains c = search needs
+
 add-attributes : tie.Need-add-attributes
 add-attributes c = search needs
 
@@ -36,7 +48,7 @@ element-write-attributes : tie.Need-element-write-attributes
 element-write-attributes c = search needs
 
 returns : tie.Need-returns
-returns c = (search needs, rw (c .mark .ensures))
+returns c = (search needs, rw (c .mark .ensures), search needs)
 
 pub declare-spec : {M : Type 1} → statement M
 declare-spec =
@@ -49,6 +61,10 @@ declare-spec =
     mark-requires
     mul-kinds
     element-write-kinds
+    mul-domains
+    add-domains
+    mul-domains-2
+    element-write-domains
     add-attributes
     mul-attributes
     element-write-attributes

@@ -43,7 +43,7 @@ enum-known-c : tie.Need-enum-known-c
 enum-known-c c = search needs
 
 declare-requires : tie.Need-declare-requires
-declare-requires c κs = declare-in (c .before .before .before)
+declare-requires c κs = declare-in (c .before .before .before .before)
 
 enum-known-c-2 : tie.Need-enum-known-c-2
 enum-known-c-2 c = search needs
@@ -79,25 +79,25 @@ enum-told-2 : tie.Need-enum-told-2
 enum-told-2 c = search needs
 
 returns : tie.Need-returns
-returns c = (sym (ap phaseAfter (c .enum-told .given .1)), sizes-stored _ _ _ _ _ _ _ _ _ _ _ ∙ sym (ap (storedBy _) (c .enum-told .given .1)))
+returns c = (sym (ap phaseAfter (c .enum-told .given .1)), sizes-stored _ _ _ _ _ _ _ _ _ _ _ _ ∙ sym (ap (storedBy _) (c .enum-told .given .1)))
 
 returns-2 : tie.Need-returns-2
-returns-2 c = (sym (ap phaseAfter (c .before .before .before .before .c .given .1)), declare-stored _ _ _ _ _ _ _ _ _ _ _ (c .declare .ensures .0) (c .declare .ensures .1) ∙ sym (ap (storedBy _) (c .before .before .before .before .c .given .1)))
+returns-2 c = (sym (ap phaseAfter (c .before .before .before .before .before .c .given .1)), declare-stored _ _ _ _ _ _ _ _ _ _ _ _ _ _ (c .declare .ensures .0) (c .declare .ensures .1) (c .declare .ensures .2) ∙ sym (ap (storedBy _) (c .before .before .before .before .before .c .given .1)))
 
 returns-3 : tie.Need-returns-3
-returns-3 c = (sym (ap phaseAfter (c .before .before .before .before .c2 .given .1)), give-stored _ _ _ _ _ _ _ _ _ _ _ _ _ _ (c .give .ensures .0) (c .give .ensures .1) ∙ sym (ap (storedBy _) (c .before .before .before .before .c2 .given .1)))
+returns-3 c = (sym (ap phaseAfter (c .before .before .before .before .c2 .given .1)), give-stored _ _ _ _ _ _ _ _ _ _ _ _ _ _ _ (c .give .ensures .0) (c .give .ensures .1) ∙ sym (ap (storedBy _) (c .before .before .before .before .c2 .given .1)))
 
 returns-4 : tie.Need-returns-4
-returns-4 c = (sym (ap phaseAfter (c .before .before .before .c3 .given .1)), assign-stored _ _ _ _ _ _ _ _ _ _ (c .add .ensures) ∙ sym (ap (storedBy _) (c .before .before .before .c3 .given .1)))
+returns-4 c = (sym (ap phaseAfter (c .before .before .before .c3 .given .1)), assign-stored _ _ _ _ _ _ _ _ _ _ _ (c .add .ensures) ∙ sym (ap (storedBy _) (c .before .before .before .c3 .given .1)))
 
 returns-5 : tie.Need-returns-5
-returns-5 c = (sym (ap phaseAfter (c .before .before .before .c4 .given .1)), permit-stored _ _ _ _ _ _ _ _ _ _ _ (c .add2 .ensures) ∙ sym (ap (storedBy _) (c .before .before .before .c4 .given .1)))
+returns-5 c = (sym (ap phaseAfter (c .before .before .before .c4 .given .1)), permit-stored _ _ _ _ _ _ _ _ _ _ _ _ (c .add2 .ensures) ∙ sym (ap (storedBy _) (c .before .before .before .c4 .given .1)))
 
 returns-6 : tie.Need-returns-6
-returns-6 c = (sym (ap phaseAfter (c .before .before .before .c5 .given .1)), line-stored _ _ _ _ _ _ _ _ _ _ (c .add3 .ensures) ∙ sym (ap (storedBy _) (c .before .before .before .c5 .given .1)))
+returns-6 c = (sym (ap phaseAfter (c .before .before .before .c5 .given .1)), line-stored _ _ _ _ _ _ _ _ _ _ _ (c .add3 .ensures) ∙ sym (ap (storedBy _) (c .before .before .before .c5 .given .1)))
 
 returns-7 : tie.Need-returns-7
-returns-7 c = (sym (ap phaseAfter (c .enum-told2 .given .1)), end-stored _ _ _ _ _ _ _ ∙ sym (ap (storedBy _) (c .enum-told2 .given .1)))
+returns-7 c = (sym (ap phaseAfter (c .enum-told2 .given .1)), end-stored _ _ _ _ _ _ _ _ ∙ sym (ap (storedBy _) (c .enum-told2 .given .1)))
 
 pub store-spec : {M : Type 1} → statement M
 store-spec =

@@ -14,14 +14,14 @@ returns c =
 
 links-of-values-requires : tie.Need-links-of-values-requires
 links-of-values-requires c κs =
-    let e = c .before .before .before .before .before .before .before in
+    let e = c .before .before .before .before .before .before .before .before in
     let r = e .before .before in
     let a = r .before .before .before .args in
     roles-bounds (now (a .file)) (now (a .rules)) (r .read .result) (r .read .ensures) (e .if1 .left)
 
 read-rules-requires : tie.Need-read-rules-requires
 read-rules-requires c κs =
-    let e = c .before .before .before .before .before .before .before .before .before in
+    let e = c .before .before .before .before .before .before .before .before .before .before in
     let r = e .before .before in
     let a = r .before .before .before .args in
     let p = roles-beside (now (a .file)) (now (a .rules)) (r .read .result) (r .read .ensures) (e .if1 .left) _ (c .before .links-of-values .ensures) in
@@ -30,7 +30,7 @@ read-rules-requires c κs =
 returns-2 : tie.Need-returns-2
 returns-2 c =
     let l = c .before .before in
-    let e = l .before .before .before .before .before .before .before .before in
+    let e = l .before .before .before .before .before .before .before .before .before in
     let r = e .before .before in
     let a = r .before .before .before .args in
     let p = roles-beside (now (a .file)) (now (a .rules)) (r .read .result) (r .read .ensures) (e .if1 .left) _ (l .links-of-values .ensures) in

@@ -8,9 +8,9 @@ use mathlib.Core.Path.{_≡_, ap, _∙_}
 use native.Mathlib.Omega.{arith}
 use Rattle.policy.specs.Policy.{Policy}
 use Rattle.role_file.specs.RoleStateLaws.{tail}
-use Rattle.role_record.specs.Record.{WithinLimits}
+use Rattle.role_record.specs.Record.{WithinLimits, FewAttributes}
 use Rattle.rule_commands.specs.Raw.{Sided}
-use Rattle.rule_reading.specs.ReadsLaws.{reads-begun, within-limits, inside, command-bytes, reads-refused, reads-opened, reads-ended, line-within, reads-line}
+use Rattle.rule_reading.specs.ReadsLaws.{reads-begun, within-limits, inside, command-bytes, reads-refused, reads-opened, reads-ended, line-within, reads-line, few-attributes}
 use Rattle.rule_reading.specs.RuleStateLaws.{State}
 use Rattle.rule_reading.specs.TurnLaws.{Closing, Lining, turned-refused, turned-opens, turned-ends, turned-line}
 use Rattle.rule_reading.specs.Turns.{turnOf, Beside}
@@ -36,10 +36,13 @@ abbrev source : tie.At-loop Inv-loop μ-loop → List ℕ
 source c = now (begin c .args .rules)
 
 abbrev head : tie.After-next-turn Inv-loop μ-loop → tie.At-loop Inv-loop μ-loop
-head c = c .before .before .before .before .before .before .before
+head c = c .before .before .before .before .before .before .before .before
 
 limits : (c : tie.Start Inv-loop μ-loop) → WithinLimits (c .args .sizes)
 limits c = within-limits (c .pre .0) _ _ _ (c .pre .1)
+
+few : (c : tie.Start Inv-loop μ-loop) → FewAttributes (c .args .t1 .attributes)
+few c = few-attributes (c .pre .0) _ _ _ (c .pre .1)
 
 -- the place is not past the end
 bound : (c : tie.At-loop Inv-loop μ-loop) → c .loop .at ≤ length (source c)
@@ -55,11 +58,11 @@ part-next-turn-end : tie.Need-part-next-turn-end Inv-loop μ-loop
 part-next-turn-end c = omega (arith, bound c)
 
 next-turn-requires : tie.Need-next-turn-requires Inv-loop μ-loop
-next-turn-requires c κs = limits (begin (c .before .before .before .before .before .before))
+next-turn-requires c κs = let s = begin (c .before .before .before .before .before .before .before) in (limits s, few s)
 
 -- a turn on the bytes that are left
-found : (c : tie.After-next-turn Inv-loop μ-loop) → c .next-turn .result ≡ turnOf (head c .loop .k) (drop (head c .loop .at) (source (head c))) (begin (head c) .args .sizes) (begin (head c) .args .t1 .attributes) (begin (head c) .args .t1 .kinds) (begin (head c) .args .t1 .holders) (begin (head c) .args .t1 .permissions)
-found c = c .next-turn .ensures ∙ ap (λ (s : List ℕ). turnOf (head c .loop .k) s (begin (head c) .args .sizes) (begin (head c) .args .t1 .attributes) (begin (head c) .args .t1 .kinds) (begin (head c) .args .t1 .holders) (begin (head c) .args .t1 .permissions)) (tail (head c .loop .at) (source (head c)))
+found : (c : tie.After-next-turn Inv-loop μ-loop) → c .next-turn .result ≡ turnOf (head c .loop .k) (drop (head c .loop .at) (source (head c))) (begin (head c) .args .sizes) (begin (head c) .args .t1 .attributes) (begin (head c) .args .t1 .kinds) (begin (head c) .args .t1 .domains) (begin (head c) .args .t1 .holders) (begin (head c) .args .t1 .permissions)
+found c = c .next-turn .ensures ∙ ap (λ (s : List ℕ). turnOf (head c .loop .k) s (begin (head c) .args .sizes) (begin (head c) .args .t1 .attributes) (begin (head c) .args .t1 .kinds) (begin (head c) .args .t1 .domains) (begin (head c) .args .t1 .holders) (begin (head c) .args .t1 .permissions)) (tail (head c .loop .at) (source (head c)))
 
 -- the state beside the policy that there is
 state : (c : tie.After-next-turn Inv-loop μ-loop) → State (begin (head c) .pre .0) (source (head c)) (head c .loop .k) (head c .loop .met) (head c .loop .listed) (head c .loop .grid) (head c .loop .seen) (head c .loop .again) (head c .loop .at)
@@ -71,12 +74,12 @@ within c = inside _ _ _ _ (begin (head c) .pre .1) _ _ _ _ _ _ _ _ (state c)
 returns : tie.Need-returns Inv-loop μ-loop
 returns c =
     let n = c .before .before .before .before in
-    λ F v. c .refuse .ensures ∙ reads-refused F _ _ _ v _ _ _ _ _ _ _ _ (head n .loop .inv F v) _ (turned-refused _ _ _ _ _ _ _ _ (found n) _ (c .before .before .n .given .1))
+    λ F v. c .refuse .ensures ∙ reads-refused F _ _ _ v _ _ _ _ _ _ _ _ (head n .loop .inv F v) _ (turned-refused _ _ _ _ _ _ _ _ _ (found n) _ (c .before .before .n .given .1))
 
 -- ---- a 21
 
-opening : (c : tie.After-w Inv-loop μ-loop) → Closing (head (c .before .before) .loop .k) (drop (head (c .before .before) .loop .at) (source (head (c .before .before)))) (begin (head (c .before .before)) .args .sizes) (begin (head (c .before .before)) .args .t1 .attributes) (begin (head (c .before .before)) .args .t1 .kinds) (begin (head (c .before .before)) .args .t1 .holders) (begin (head (c .before .before)) .args .t1 .permissions) 0x21 (c .w .given .0 .0)
-opening c = turned-opens _ _ _ _ _ _ _ _ (found (c .before .before)) _ (c .w .given .1)
+opening : (c : tie.After-w Inv-loop μ-loop) → Closing (head (c .before .before) .loop .k) (drop (head (c .before .before) .loop .at) (source (head (c .before .before)))) (begin (head (c .before .before)) .args .sizes) (begin (head (c .before .before)) .args .t1 .attributes) (begin (head (c .before .before)) .args .t1 .kinds) (begin (head (c .before .before)) .args .t1 .domains) (begin (head (c .before .before)) .args .t1 .holders) (begin (head (c .before .before)) .args .t1 .permissions) 0x21 (c .w .given .0 .0)
+opening c = turned-opens _ _ _ _ _ _ _ _ _ (found (c .before .before)) _ (c .w .given .1)
 
 opening-bytes : (c : tie.After-w Inv-loop μ-loop) → (0 < c .w .given .0 .0) × (c .w .given .0 .0 ≤ length (source (head (c .before .before))) - head (c .before .before) .loop .at)
 opening-bytes c = let n = c .before .before in command-bytes _ _ _ _ (begin (head n) .pre .1) _ _ _ _ _ _ _ _ (state n) _ _ _ _ (opening c .front)
@@ -111,8 +114,8 @@ loop-again c =
 
 -- ---- a 2F
 
-ending : (c : tie.After-enum-told Inv-loop μ-loop) → Closing (head (c .before .before) .loop .k) (drop (head (c .before .before) .loop .at) (source (head (c .before .before)))) (begin (head (c .before .before)) .args .sizes) (begin (head (c .before .before)) .args .t1 .attributes) (begin (head (c .before .before)) .args .t1 .kinds) (begin (head (c .before .before)) .args .t1 .holders) (begin (head (c .before .before)) .args .t1 .permissions) 0x2F (length (drop (head (c .before .before) .loop .at) (source (head (c .before .before)))))
-ending c = turned-ends _ _ _ _ _ _ _ _ (found (c .before .before)) (c .enum-told .given .1)
+ending : (c : tie.After-enum-told Inv-loop μ-loop) → Closing (head (c .before .before) .loop .k) (drop (head (c .before .before) .loop .at) (source (head (c .before .before)))) (begin (head (c .before .before)) .args .sizes) (begin (head (c .before .before)) .args .t1 .attributes) (begin (head (c .before .before)) .args .t1 .kinds) (begin (head (c .before .before)) .args .t1 .domains) (begin (head (c .before .before)) .args .t1 .holders) (begin (head (c .before .before)) .args .t1 .permissions) 0x2F (length (drop (head (c .before .before) .loop .at) (source (head (c .before .before)))))
+ending c = turned-ends _ _ _ _ _ _ _ _ _ (found (c .before .before)) (c .enum-told .given .1)
 
 finish-requires-2 : tie.Need-finish-requires-2 Inv-loop μ-loop
 finish-requires-2 c κs =
@@ -132,8 +135,8 @@ returns-2 c =
 
 -- ---- a line
 
-lining : (c : tie.After-c Inv-loop μ-loop) → Lining (head (c .before .before) .loop .k) (drop (head (c .before .before) .loop .at) (source (head (c .before .before)))) (begin (head (c .before .before)) .args .sizes) (begin (head (c .before .before)) .args .t1 .attributes) (begin (head (c .before .before)) .args .t1 .kinds) (begin (head (c .before .before)) .args .t1 .holders) (begin (head (c .before .before)) .args .t1 .permissions) (c .c .given .0 .0) (c .c .given .0 .1 .0) (c .c .given .0 .1 .1 .0) (c .c .given .0 .1 .1 .1 .0) (c .c .given .0 .1 .1 .1 .1 .0)
-lining c = turned-line _ _ _ _ _ _ _ _ (found (c .before .before)) _ _ _ _ _ (c .c .given .1)
+lining : (c : tie.After-c Inv-loop μ-loop) → Lining (head (c .before .before) .loop .k) (drop (head (c .before .before) .loop .at) (source (head (c .before .before)))) (begin (head (c .before .before)) .args .sizes) (begin (head (c .before .before)) .args .t1 .attributes) (begin (head (c .before .before)) .args .t1 .kinds) (begin (head (c .before .before)) .args .t1 .domains) (begin (head (c .before .before)) .args .t1 .holders) (begin (head (c .before .before)) .args .t1 .permissions) (c .c .given .0 .0) (c .c .given .0 .1 .0) (c .c .given .0 .1 .1 .0) (c .c .given .0 .1 .1 .1 .0) (c .c .given .0 .1 .1 .1 .1 .0)
+lining c = turned-line _ _ _ _ _ _ _ _ _ (found (c .before .before)) _ _ _ _ _ (c .c .given .1)
 
 line-bytes : (c : tie.After-c Inv-loop μ-loop) → (0 < c .c .given .0 .1 .1 .1 .1 .0) × (c .c .given .0 .1 .1 .1 .1 .0 ≤ length (source (head (c .before .before))) - head (c .before .before) .loop .at)
 line-bytes c = let n = c .before .before in command-bytes _ _ _ _ (begin (head n) .pre .1) _ _ _ _ _ _ _ _ (state n) _ _ _ _ (lining c .front)

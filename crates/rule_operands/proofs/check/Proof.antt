@@ -11,33 +11,33 @@ use Rattle.rule_operands.proofs.check_part.Reads as check-part-reads
 use Rattle.rule_operands.proofs.check_value.Reads as check-value-reads
 
 returns : tie.Need-returns
-returns c = at-opens _ _ _ _ _ _ _ _ _ _ (c .match .keys1)
+returns c = at-opens _ _ _ _ _ _ _ _ _ _ _ (c .match .keys1)
 
 returns-2 : tie.Need-returns-2
-returns-2 c = c .check-value .ensures ∙ at-user-single _ _ _ _ _ _ _ _ _ _ (c .before .match .keys2)
+returns-2 c = c .check-value .ensures ∙ at-user-single _ _ _ _ _ _ _ _ _ _ _ (c .before .match .keys2)
 
 returns-3 : tie.Need-returns-3
-returns-3 c = c .check-value2 .ensures ∙ at-user-set _ _ _ _ _ _ _ _ _ _ (c .before .match .keys3)
+returns-3 c = c .check-value2 .ensures ∙ at-user-set _ _ _ _ _ _ _ _ _ _ _ (c .before .match .keys3)
 
 returns-4 : tie.Need-returns-4
-returns-4 c = c .check-value3 .ensures ∙ at-resource-single _ _ _ _ _ _ _ _ _ _ (c .before .match .keys4)
+returns-4 c = c .check-value3 .ensures ∙ at-resource-single _ _ _ _ _ _ _ _ _ _ _ (c .before .match .keys4)
 
 returns-5 : tie.Need-returns-5
-returns-5 c = c .check-value4 .ensures ∙ at-resource-set _ _ _ _ _ _ _ _ _ _ (c .before .match .keys5)
+returns-5 c = c .check-value4 .ensures ∙ at-resource-set _ _ _ _ _ _ _ _ _ _ _ (c .before .match .keys5)
 
 returns-6 : tie.Need-returns-6
-returns-6 c = c .check-operations .ensures ∙ at-operations _ _ _ _ _ _ _ _ _ _ (c .before .match .keys6)
+returns-6 c = c .check-operations .ensures ∙ at-operations _ _ _ _ _ _ _ _ _ _ _ (c .before .match .keys6)
 
 returns-7 : tie.Need-returns-7
-returns-7 c = c .check-link .ensures ∙ at-link _ _ _ _ _ _ _ _ _ _ (c .before .match .keys7)
+returns-7 c = c .check-link .ensures ∙ at-link _ _ _ _ _ _ _ _ _ _ _ (c .before .match .keys7)
 
 returns-8 : tie.Need-returns-8
-returns-8 c = c .check-part .ensures ∙ at-part _ _ _ _ _ _ _ _ _ _ (c .before .match .keys8)
+returns-8 c = c .check-part .ensures ∙ at-part _ _ _ _ _ _ _ _ _ _ _ (c .before .match .keys8)
 
 returns-9 : tie.Need-returns-9
 returns-9 c =
     let n = c .match .rest in
-    at-rest _ _ _ _ _ _ _ _ _ _ (n .0 .0 .0 .0 .0 .0 .0 .1) (n .0 .0 .0 .0 .0 .0 .1) (n .0 .0 .0 .0 .0 .1) (n .0 .0 .0 .0 .1) (n .0 .0 .0 .1) (n .0 .0 .1) (n .0 .1) (n .1)
+    at-rest _ _ _ _ _ _ _ _ _ _ _ (n .0 .0 .0 .0 .0 .0 .0 .1) (n .0 .0 .0 .0 .0 .0 .1) (n .0 .0 .0 .0 .0 .1) (n .0 .0 .0 .0 .1) (n .0 .0 .0 .1) (n .0 .0 .1) (n .0 .1) (n .1)
 
 pub check-spec : {M : Type 1} → statement M
 check-spec =

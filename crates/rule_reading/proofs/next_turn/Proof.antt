@@ -15,18 +15,18 @@ front : (c : tie.After-b) → rawOf (now (c .before .before .before .before .arg
 front c = sym (c .before .before .next .ensures) ∙ c .b .given .1
 
 returns : tie.Need-returns
-returns c = c .closing-turn .ensures ∙ turn-closing _ _ _ _ _ _ _ _ _ _ _ (front (c .before .before .before .before)) (sym (c .before .before .closes .ensures) ∙ c .before .if1 .taken)
+returns c = c .closing-turn .ensures ∙ turn-closing _ _ _ _ _ _ _ _ _ _ _ _ (front (c .before .before .before .before)) (sym (c .before .before .closes .ensures) ∙ c .before .if1 .taken)
 
 returns-2 : tie.Need-returns-2
 returns-2 c =
     let e = c .before .before in
-    turn-misplaced _ _ _ _ _ _ _ _ _ _ _ (front (e .before .before .before)) (sym (e .before .closes .ensures) ∙ e .if1 .left) (sym (c .before .follows .ensures) ∙ not-true _ (c .if2 .taken))
+    turn-misplaced _ _ _ _ _ _ _ _ _ _ _ _ (front (e .before .before .before)) (sym (e .before .closes .ensures) ∙ e .if1 .left) (sym (c .before .follows .ensures) ∙ not-true _ (c .if2 .taken))
 
 returns-3 : tie.Need-returns-3
-returns-3 c = turn-strange _ _ _ _ _ _ _ (sym (c .before .before .next .ensures) ∙ c .enum-told .given .1)
+returns-3 c = turn-strange _ _ _ _ _ _ _ _ (sym (c .before .before .next .ensures) ∙ c .enum-told .given .1)
 
 returns-4 : tie.Need-returns-4
-returns-4 c = turn-cut _ _ _ _ _ _ _ (sym (c .before .before .next .ensures) ∙ c .enum-told2 .given .1)
+returns-4 c = turn-cut _ _ _ _ _ _ _ _ (sym (c .before .before .next .ensures) ∙ c .enum-told2 .given .1)
 
 returns-5 : tie.Need-returns-5
 returns-5 c =
@@ -36,7 +36,7 @@ returns-5 c =
     let d = e .before .before .before in
     c .line-turn .ensures
     ∙ ap (λ t. lineTurn t (d .b .given .0 .0) (d .b .given .0 .1 .0) (d .b .given .0 .1 .1 .0) (d .b .given .0 .1 .1 .1 .0)) (k .check .ensures)
-    ∙ turn-line _ _ _ _ _ _ _ _ _ _ _ (front d) (sym (e .before .closes .ensures) ∙ e .if1 .left) (sym (f .follows .ensures) ∙ not-false _ (k .before .if2 .left))
+    ∙ turn-line _ _ _ _ _ _ _ _ _ _ _ _ (front d) (sym (e .before .closes .ensures) ∙ e .if1 .left) (sym (f .follows .ensures) ∙ not-false _ (k .before .if2 .left))
 
 pub next-turn-spec : {M : Type 1} → statement M
 next-turn-spec =

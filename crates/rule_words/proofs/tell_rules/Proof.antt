@@ -14,11 +14,11 @@ use Rattle.rule_words.proofs.tell_rules.Statement.{statement}
 use Rattle.rule_words.proofs.tell_rules.Tie as tie
 
 abbrev Inv-loop : tie.InvT-loop
-Inv-loop rules sizes attributes kinds holders permissions printed₀ number₀ some₀ former₀ former-first₀ at₀ printed number some former former-first at =
+Inv-loop rules sizes attributes kinds domains holders permissions printed₀ number₀ some₀ former₀ former-first₀ at₀ printed number some former former-first at =
     (at ≤ length rules) × (number ≤ at) × Telling rules number at
 
 abbrev μ-loop : tie.MeasureT-loop
-μ-loop rules sizes attributes kinds holders permissions printed₀ number₀ some₀ former₀ former-first₀ at₀ printed number some former former-first at =
+μ-loop rules sizes attributes kinds domains holders permissions printed₀ number₀ some₀ former₀ former-first₀ at₀ printed number some former former-first at =
     length rules - at
 
 abbrev source : tie.At-loop Inv-loop μ-loop → List ℕ
@@ -29,7 +29,7 @@ found : (c : tie.After-front Inv-loop μ-loop) → c .front .result ≡ lineOf (
 found c = c .front .ensures .0 ∙ ap lineOf (tail (c .before .before .loop .at) (source (c .before .before)))
 
 loop-holds : tie.Need-loop-holds Inv-loop μ-loop
-loop-holds c = (search needs, search needs, telling-begun _ (c .before .pre .1))
+loop-holds c = (search needs, search needs, telling-begun _ (c .before .pre .2))
 
 tell-heading-requires : tie.Need-tell-heading-requires Inv-loop μ-loop
 tell-heading-requires c κs =
@@ -48,7 +48,7 @@ loop-again c =
 
 loop-again-2 : tie.Need-loop-again-2 Inv-loop μ-loop
 loop-again-2 c =
-    let o = c .before .before .before .before in
+    let o = c .before .before .before .before .before in
     let e = o .before .before .before in
     let f = e .before .before in
     let h = f .before .before in
@@ -73,6 +73,7 @@ tell-rules-spec =
     (λ c. search needs)
     tell-heading-requires
     (λ c. search needs)
+    (λ c κs. search needs)
     (λ c κs. search needs)
     (λ c κs. search needs)
     (λ c κs. search needs)
