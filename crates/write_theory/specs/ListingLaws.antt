@@ -105,7 +105,7 @@ class-out permissions operations k members o b = sym (ap (λ (c : Bool). cond c 
 
 module _ (permissions : List ℕ) (operations : ℕ) (t : List ℕ) (head k : ℕ) where
   -- the class of the part in a seat of the role
-  seat-class : (o : ℕ) → o < rowCells → classAt permissions operations (cellAt k o) ≡ classRow permissions k operations o
+  pub seat-class : (o : ℕ) → o < rowCells → classAt permissions operations (cellAt k o) ≡ classRow permissions k operations o
   unfolding classAt
   seat-class o h = cell-parts (λ x y. classRow permissions x operations y) k o h
 
