@@ -1,6 +1,6 @@
 /*
- * Fichtengarn for C: reading role files, mining them into attribute rules, and judging and asking
- * rule files. "01" below is the paper that settles what is right.
+ * Fichtengarn for C: reading role files, mining them into attribute rules, and judging, asking and
+ * showing rule files. "01" below is the paper that settles what is right.
  *
  *     rt staticlib fichtengarn          proves the library and writes target/staticlib/libfichtengarn.a
  *     cc -Iinclude program.c target/staticlib/libfichtengarn.a
@@ -11,8 +11,10 @@
  * the stack are measured.
  *
  *   - It ends, on every input: any bytes, any lengths, any numbers. No input is asked to be good.
- *   - It returns 0, or the number of a refusal. Where two refusals could be given, 01 says which.
- *   - A refusal returns only its number. Memory lent for values and for output is then as it was.
+ *   - It returns 0, or the number of a refusal; the call that shows one rule stores it in a lent
+ *     byte. Where two refusals could be given, 01 and the requests say which.
+ *   - A refusal gives only its number: after a refusal lent memory holds its former bytes, save the
+ *     byte that carries the answer's number of the call that shows one rule. Scratch alone is free.
  *   - It writes to the memory that it is lent without 'const', as said at each call, and to its
  *     own stack. Files and rules are only read.
  *   - It has no heap, no files and no state between calls: the same input has the same answer, and
@@ -50,7 +52,7 @@
 extern "C" {
 #endif
 
-/* What a call returns: 0 or a refusal. */
+/* A call's answer: 0 or a refusal. */
 enum {
     FICHTENGARN_ACCEPTED = 0,
 
@@ -72,8 +74,11 @@ enum {
     FICHTENGARN_RULES_CUT_OFF = 10, /* it ends inside operands or before 2F */
     FICHTENGARN_RULES_UNKNOWN = 11, /* a byte that is no command */
     FICHTENGARN_RULES_ORDER = 12,   /* out of order, missing or repeated, or a byte after the end */
-    FICHTENGARN_RULES_OPERAND = 13  /* an operand beyond its size or of the wrong kind, an atom across
+    FICHTENGARN_RULES_OPERAND = 13, /* an operand beyond its size or of the wrong kind, an atom across
                                        domains, no operation, or no part of the role file */
+
+    /* of the rule that is to be shown */
+    FICHTENGARN_NO_SUCH_RULE = 14 /* its number is not below the count of rules */
 };
 
 /* Sizes of the memory that mining is lent. Output is as long as the caller likes. */
@@ -139,6 +144,24 @@ enum {
 size_t fichtengarn_judge(const uint8_t *file, size_t file_length,
                          const uint8_t *rules, size_t rules_length,
                          size_t verdict[4]);
+
+/* A part of the rule file that was lent: its first byte is rules[start]. */
+typedef struct {
+    size_t start;
+    size_t length;
+} fichtengarn_part;
+
+/*
+ * One rule: which part of the rule file is it? The part is that of the caller's own memory, from the
+ * rule's 21 up to the next command 21 or 2F; nothing is copied. Rules are numbered from 0.
+ *
+ * Stores in *answer 0; or 1 to 7; then 10 to 13, wherever in the rule file their cause stands; then
+ * 14 if there is no rule of this number. After a refusal the part is the empty one at the file's
+ * start, {0, 0}. Writes *answer, after a refusal too, and nothing else. Stack: 140 KB.
+ */
+fichtengarn_part fichtengarn_show(const uint8_t *file, size_t file_length,
+                                  const uint8_t *rules, size_t rules_length,
+                                  size_t rule, uint8_t *answer);
 
 /* The numbers that mining stores. */
 enum {

@@ -27,6 +27,7 @@ CALLS = [
     ("rule_file", "read"),
     ("rule_question", "ask"),
     ("rule_judge", "judge"),
+    ("rule_show", "show"),
     ("mining", "mine"),
     ("mining", "rule_bytes"),
     ("fichtengarn", None),

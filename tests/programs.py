@@ -1,5 +1,5 @@
 #!/usr/bin/env python3
-"""Use the programs mine, judge, ask and explain, rightly and wrongly, and compare all that they print and write.
+"""Use the programs mine, judge, ask, explain and show, rightly and wrongly, and compare all that they print and write.
 
     tests/programs.py [FOLDER]      FOLDER has the programs; target/bin if left out
 
@@ -25,7 +25,7 @@ from rolefiles import END, EXAMPLE_A, NOBODY, NO_COMMAND, assign, declare, joine
 
 HERE = os.path.dirname(os.path.abspath(__file__))
 SAMPLES = os.path.join(os.path.dirname(HERE), "samples")
-PROGRAMS = ["mine", "judge", "ask", "explain"]
+PROGRAMS = ["mine", "judge", "ask", "explain", "show"]
 
 # Where the tests run as root, who may write everything, the programs run as somebody who may not.
 NOBODY_ID = 65534
@@ -54,6 +54,7 @@ MEANING = {
     11: "the rule file has an unknown command",
     12: "the rule file has a byte after its end or a command out of order, missing or repeated",
     13: "the rule file has an operand beyond its size or of the wrong kind, an atom across domains, a zero operation set, or a part that the role file does not have",
+    14: "the rule file has no rule of this number",
 }
 
 # Role files that reading refuses, by the number.
@@ -75,7 +76,7 @@ REFUSED_RULES = {
     13: A_RULES.replace(bytes.fromhex("27 00 00"), bytes.fromhex("27 00 01")),
 }
 
-# The longest rule file that judge, ask and explain can hold, and one that is longer; both are refused by 12.
+# The longest rule file that judge, ask, explain and show can hold, and one that is longer; both are refused by 12.
 HELD_RULES = b"\x2f" * 262143
 LONG_RULES = b"\x2f" * 262144
 
@@ -135,12 +136,14 @@ KINDS = joined(
 )
 
 # A rule with every kind of condition, one with none, and one of level 2.
-KINDS_RULES = bytes.fromhex(
-    "21 22 00 05 00 22 00 07 00 23 01 00 00 00 00 00 00 00 00 23 01 06 00 00 00 00 00 00 00"
-    "23 FF 01 00 00 00 00 00 00 00 23 FF 03 00 00 00 00 00 00 00 24 00 05 00 24 FF 00 00 24 FF 01 00"
-    "25 01 02 00 00 00 00 00 00 00 25 01 06 00 00 00 00 00 00 00 26 03 00 27 00 00 27 01 00 27 01 01 28 00 03 00"
-    "21 26 04 00 28 01 04 00 21 24 FF 01 00 26 04 00 28 01 04 00 2F"
-)
+KINDS_PARTS = [
+    "21 22 00 05 00 22 00 07 00 23 01 00 00 00 00 00 00 00 00 23 01 06 00 00 00 00 00 00 00 "
+    "23 FF 01 00 00 00 00 00 00 00 23 FF 03 00 00 00 00 00 00 00 24 00 05 00 24 FF 00 00 24 FF 01 00 "
+    "25 01 02 00 00 00 00 00 00 00 25 01 06 00 00 00 00 00 00 00 26 03 00 27 00 00 27 01 00 27 01 01 28 00 03 00",
+    "21 26 04 00 28 01 04 00",
+    "21 24 FF 01 00 26 04 00 28 01 04 00",
+]
+KINDS_RULES = bytes.fromhex("".join(KINDS_PARTS) + "2F")
 
 # The first of its two parts alone.
 ONE_OF_KINDS = bytes.fromhex("21 23 FF 01 00 00 00 00 00 00 00 24 FF 00 00 26 03 00 28 00 03 00 2F")
@@ -358,7 +361,7 @@ def mine_small():
     yield mine(longest_rules(), limits=limits, out="refused 9\n", err=lengthy("1765377 bytes"))
 
 
-# ---- what judge, ask and explain have in common
+# ---- what judge, ask, explain and show have in common
 
 
 def file_refusals(program, *arguments):
@@ -406,6 +409,15 @@ def not_printed(program, *arguments):
     for file in [EXAMPLE_A, END]:
         files = {"roles": file, "rules": A_RULES}
         yield Use(program, "roles", "rules", *arguments, files=files, output=os.open("/dev/full", os.O_WRONLY), err=err)
+
+
+# What is no number.
+WRONG_NUMBERS = ["x", "", "-1", "1x", "0x1", " 1", "1 ", "+1", "1.5", "9" * 4097]
+
+
+def no_number(program, text, name):
+    shown = text if len(text) < 4097 else text[:40]
+    return f"{program}: {shown}: {name} is no number of up to 4,096 digits\n"
 
 
 def two_files_wrongly(program):
@@ -481,13 +493,11 @@ def ask_wrongly():
     files = {"roles": EXAMPLE_A, "rules": A_RULES}
     for arguments in [[], ["--help"], ["roles"], ["roles", "0"], ["roles", "0", "0"], ["roles", "rules", "0", "0", "0", "0"]]:
         yield Use("ask", *arguments, files=files, err=usage)
-    wrong = ["x", "", "-1", "1x", "0x1", " 1", "1 ", "+1", "1.5", "9" * 4097]
     for place, name in enumerate(["USER", "RESOURCE", "OPERATION"]):
-        for text in wrong:
+        for text in WRONG_NUMBERS:
             numbers = ["0", "0", "0"]
             numbers[place] = text
-            shown = text if len(text) < 4097 else text[:40]
-            err = f"ask: {shown}: {name} is no number of up to 4,096 digits\n" + usage
+            err = no_number("ask", text, name) + usage
             yield Use("ask", "roles", *numbers, files=files, err=err)
             yield Use("ask", "roles", "rules", *numbers, files=files, err=err)
     # with a number too few the rule file is taken for one; the first that is wrong is named
@@ -504,6 +514,54 @@ def explained():
     yield both("explain", sample("regions.roles"), sample("regions.rules"), out=REGIONS_TOLD)
     yield both("explain", sample("regions.roles"), sample("regions-tied.rules"), out=refused(13))
     yield both("explain", NOBODY, b"\x2f", out="there is no rule: nobody may do anything\n")
+
+
+# ---- show
+
+
+def showing(roles, rules, number, **other):
+    return Use("show", "roles", "rules", number, files={"roles": roles, "rules": rules}, **other)
+
+
+def shown():
+    """The bytes of a rule, and its words: the paragraph that explain has for it."""
+    for number, part in enumerate(KINDS_PARTS):
+        yield showing(KINDS, KINDS_RULES, str(number), out=f"{part}\n{paragraph(KINDS_TOLD, number)}\n")
+    # the last rule asks for the value 303, whose low byte is 2F
+    last = "21 23 FF 40 00 00 00 00 00 00 00 24 00 2F 01 26 03 00 28 06 03 00"
+    told = f"{last}\n{paragraph(BRANCHES_TOLD, 3)}\n"
+    yield showing(sample("branches.roles"), sample("branches.rules"), "003", out=told)
+    told = f"21 26 02 00 27 01 01 28 02 02 00 28 03 02 00\n{paragraph(REGIONS_TOLD, 1)}\n"
+    yield showing(sample("regions.roles"), sample("regions.rules"), "1", out=told)
+
+
+def paragraph(told, number):
+    """What explain has for one rule."""
+    return told.rstrip("\n").split("\n\n")[number]
+
+
+def show_refusals():
+    yield from file_refusals("show", "0")
+    # a number that no rule has comes behind the files' own refusals, the largest too
+    for number in ["1", "99", "1000000", "18446744073709551616", "9" * 4096]:
+        yield showing(EXAMPLE_A, A_RULES, number, out=refused(14))
+        for n, roles in REFUSED_ROLES.items():
+            yield showing(roles, A_RULES, number, out=refused(n))
+        for n, rules in REFUSED_RULES.items():
+            yield showing(EXAMPLE_A, rules, number, out=refused(n))
+    yield showing(NOBODY, b"\x2f", "0", out=refused(14))
+    yield showing(sample("branches.roles"), sample("branches.rules"), "4", out=refused(14))
+    # what stands behind the rule counts too
+    yield showing(EXAMPLE_A, A_RULES[:-1] + bytes.fromhex("21 26 01 00 2F"), "0", out=refused(12))
+
+
+def show_wrongly():
+    usage = "usage: show ROLES RULES NUMBER, the last a number from 0\n"
+    files = {"roles": EXAMPLE_A, "rules": A_RULES}
+    for arguments in [[], ["--help"], ["roles"], ["roles", "rules"], ["roles", "rules", "0", "0"]]:
+        yield Use("show", *arguments, files=files, err=usage)
+    for text in WRONG_NUMBERS:
+        yield showing(EXAMPLE_A, A_RULES, text, err=no_number("show", text, "NUMBER") + usage)
 
 
 def uses():
@@ -525,6 +583,11 @@ def uses():
     yield from file_errors("ask", "0", "0", "0", names=("roles",))
     yield from not_printed("ask", "0", "0", "0")
     yield from ask_wrongly()
+    yield from shown()
+    yield from show_refusals()
+    yield from file_errors("show", "0")
+    yield from not_printed("show", "0")
+    yield from show_wrongly()
 
 
 # ---- running

@@ -1,6 +1,6 @@
 /*
  * A worked example of include/fichtengarn.h: reads a role file, mines it, reads the rules back,
- * judges them, asks a question of both, and prints the answers.
+ * judges them, shows one, asks a question of both, and prints the answers.
  *
  *     worked_example FILE
  *
@@ -45,6 +45,21 @@ static void print_verdict(const size_t verdict[4])
     }
 }
 
+/* Prints the bytes of one rule, as they stand among the rules. */
+static void show(size_t file_length, size_t rules_length, size_t rule)
+{
+    uint8_t answer;
+    fichtengarn_part part = fichtengarn_show(file, file_length, rules, rules_length, rule, &answer);
+    size_t place;
+
+    if (!told("show", answer))
+        return;
+    printf("rule %zu:", rule);
+    for (place = part.start; place < part.start + part.length; place++)
+        printf(" %02X", rules[place]);
+    printf("\n");
+}
+
 /* Asks roles and rules about one triple. */
 static void ask(size_t file_length, size_t rules_length, size_t user, size_t resource, size_t operation)
 {
@@ -73,6 +88,8 @@ static void work(size_t file_length)
     printf("rules %zu\n", count);
     if (told("judge", fichtengarn_judge(file, file_length, rules, rules_length, verdict)))
         print_verdict(verdict);
+    show(file_length, rules_length, 0);
+    show(file_length, rules_length, count);
     ask(file_length, rules_length, 0, 0, 0);
     ask(file_length, rules_length, 0, 1, 0);
     ask(file_length, rules_length, 0, 0, 1);

@@ -1,6 +1,6 @@
 //! A worked example of the wrapper, and the same as `examples/c/worked_example.c`: reads a role
-//! file, mines it, reads the rules back, judges them, asks a question of both, and prints the
-//! answers.
+//! file, mines it, reads the rules back, judges them, shows one, asks a question of both, and prints
+//! the answers.
 //!
 //!     cargo run --example worked_example FILE
 
@@ -35,6 +35,14 @@ fn print_answer(granted: bool) {
     println!("answer {}", if granted { "yes" } else { "no" });
 }
 
+/// Prints the bytes of one rule, which are a part of the rules.
+fn show(file: &[u8], rules: &[u8], rule: usize) {
+    if let Some(part) = told("show", fichtengarn::show(file, rules, rule)) {
+        let bytes: String = part.iter().map(|byte| format!(" {byte:02X}")).collect();
+        println!("rule {rule}:{bytes}");
+    }
+}
+
 /// Asks roles and rules about one triple.
 fn ask(file: &[u8], rules: &[u8], asked: Triple) {
     println!("user {}, resource {}, operation {}", asked.user, asked.resource, asked.operation);
@@ -57,8 +65,11 @@ fn work(file: &[u8]) -> Option<()> {
         mined.length, mined.parts, mined.rules, mined.merges, mined.cost
     );
     let rules = &output[..mined.length];
-    println!("rules {}", told("read rules", fichtengarn::read_rules(file, rules))?);
+    let count = told("read rules", fichtengarn::read_rules(file, rules))?;
+    println!("rules {count}");
     print_verdict(told("judge", fichtengarn::judge(file, rules))?);
+    show(file, rules, 0);
+    show(file, rules, count);
     ask(file, rules, Triple { user: 0, resource: 0, operation: 0 });
     ask(file, rules, Triple { user: 0, resource: 1, operation: 0 });
     ask(file, rules, Triple { user: 0, resource: 0, operation: 1 });

@@ -1,5 +1,13 @@
 //! The functions of `include/fichtengarn.h`, as they stand there.
 
+/// A part of the rule file that was lent: its first byte, and how many it has.
+#[repr(C)]
+#[derive(Clone, Copy, PartialEq, Eq, Debug)]
+pub struct Part {
+    pub start: usize,
+    pub length: usize,
+}
+
 unsafe extern "C" {
     pub fn fichtengarn_read_roles(file: *const u8, file_length: usize) -> usize;
 
@@ -38,6 +46,15 @@ unsafe extern "C" {
         rules_length: usize,
         verdict: *mut [usize; 4],
     ) -> usize;
+
+    pub fn fichtengarn_show(
+        file: *const u8,
+        file_length: usize,
+        rules: *const u8,
+        rules_length: usize,
+        rule: usize,
+        answer: *mut u8,
+    ) -> Part;
 
     pub fn fichtengarn_mine(
         file: *const u8,

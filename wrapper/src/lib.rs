@@ -9,7 +9,7 @@
 //! that the variable `FICHTENGARN_LIB_DIR` names.
 #![no_std]
 
-mod interface;
+pub mod interface;
 
 /// The words of scratch that mining asks for.
 pub const SCRATCH_WORDS: usize = 4096;
@@ -45,10 +45,12 @@ pub enum Refusal {
     /// An operand beyond its size or of the wrong kind, an atom across domains, no operation, or no
     /// part of the role file.
     RulesOperand = 13,
+    /// There is no rule of this number.
+    NoSuchRule = 14,
 }
 
 impl Refusal {
-    const ALL: [Refusal; 13] = [
+    const ALL: [Refusal; 14] = [
         Refusal::TooLong,
         Refusal::CutOff,
         Refusal::UnknownCommand,
@@ -62,6 +64,7 @@ impl Refusal {
         Refusal::RulesUnknown,
         Refusal::RulesOrder,
         Refusal::RulesOperand,
+        Refusal::NoSuchRule,
     ];
 
     /// 01's number.
@@ -104,9 +107,9 @@ pub struct Mined {
     pub cost: usize,
 }
 
-/// What a call returned: 0, or the number of a refusal.
-fn told(returned: usize) -> Result<(), Refusal> {
-    match returned {
+/// A call's answer: 0, or the number of a refusal.
+fn told(answer: usize) -> Result<(), Refusal> {
+    match answer {
         0 => Ok(()),
         number => Err(Refusal::ALL[number - 1]),
     }
@@ -185,6 +188,24 @@ pub fn judge(file: &[u8], rules: &[u8]) -> Result<Verdict, Refusal> {
         2 => Verdict::StrayRule(first),
         _ => Verdict::StrayPart(first),
     })
+}
+
+/// One rule of a rule file, by its number from 0: that part of `rules` itself, from the rule's 21 up
+/// to the next command 21 or 2F. Nothing is copied.
+pub fn show<'a>(file: &[u8], rules: &'a [u8], rule: usize) -> Result<&'a [u8], Refusal> {
+    let mut answer = 0;
+    let part = unsafe {
+        interface::fichtengarn_show(
+            file.as_ptr(),
+            file.len(),
+            rules.as_ptr(),
+            rules.len(),
+            rule,
+            &mut answer,
+        )
+    };
+    told(answer.into())?;
+    Ok(&rules[part.start..part.start + part.length])
 }
 
 /// Writes the rules of a role file to the front of the output. A refusal leaves the output as it

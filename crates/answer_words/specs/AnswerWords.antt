@@ -7,7 +7,7 @@ use lib.ListN.{length, getD, take}
 use mathlib.Core.Bool.{Bool, true, false}
 use mathlib.Core.List.{List, [], _∷_}
 use mathlib.Core.Path.{_≡_}
-use Rattle.files.specs.Answer.{Refusal, tooLong, cutOff, unknownCommand, outOfPlace, beyond, wrongKind, ownSenior, smallScratch, shortOutput, rulesCutOff, rulesUnknown, rulesOrder, rulesOperand}
+use Rattle.files.specs.Answer.{Refusal, tooLong, cutOff, unknownCommand, outOfPlace, beyond, wrongKind, ownSenior, smallScratch, shortOutput, rulesCutOff, rulesUnknown, rulesOrder, rulesOperand, noSuchRule}
 use Rattle.files.specs.Calls.{Verdict, differ, strayRule, strayPart, sound}
 
 -- a text as bytes
@@ -37,11 +37,12 @@ causeWords rulesCutOff = "the rule file is cut off"
 causeWords rulesUnknown = "the rule file has an unknown command"
 causeWords rulesOrder = "the rule file has a byte after its end or a command out of order, missing or repeated"
 causeWords rulesOperand = "the rule file has an operand beyond its size or of the wrong kind, an atom across domains, a zero operation set, or a part that the role file does not have"
+causeWords noSuchRule = "the rule file has no rule of this number"
 
 unfoldable pub refusalTable : List String
 refusalTable =
     "no refusal has this number" ∷ causeWords tooLong ∷ causeWords cutOff ∷ causeWords unknownCommand ∷ causeWords outOfPlace ∷ causeWords beyond ∷ causeWords wrongKind ∷ causeWords ownSenior
-    ∷ causeWords smallScratch ∷ causeWords shortOutput ∷ causeWords rulesCutOff ∷ causeWords rulesUnknown ∷ causeWords rulesOrder ∷ causeWords rulesOperand ∷ []
+    ∷ causeWords smallScratch ∷ causeWords shortOutput ∷ causeWords rulesCutOff ∷ causeWords rulesUnknown ∷ causeWords rulesOrder ∷ causeWords rulesOperand ∷ causeWords noSuchRule ∷ []
 
 -- the words of a refusal by its number
 unfoldable pub refusalWords : ℕ → List ℕ

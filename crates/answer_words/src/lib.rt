@@ -52,6 +52,7 @@ pub fn refusal_words(n: usize, out: &mut [u8]) -> usize
             b"the rule file has an operand beyond its size or of the wrong kind, an atom across domains, a zero operation set, or a part that the role file does not have",
             out,
         ),
+        refusal::NO_SUCH_RULE => put(b"the rule file has no rule of this number", out),
         _ => put(b"no refusal has this number", out),
     }
 }

@@ -1,7 +1,7 @@
--- Numbers in decimal digits.
+-- Numbers in digits.
 -- Assumes nothing.
 use Prim.Native.Nat.{ℕ, _+_, _-_, _*_, min}
-use lib.Dec.{leb}
+use lib.Dec.{leb, ltb}
 use mathlib.Core.Bool.{Bool, cond, _&&_}
 use mathlib.Core.List.{List, [], _∷_}
 use Rattle.digits.specs.declared.Number.{Number}
@@ -23,3 +23,7 @@ readDigits n (c ∷ s) = let r = readDigits (min (10 * n + (c - 48)) most) s in 
 unfoldable pub numberIn : List ℕ → Number
 numberIn [] = Wrong
 numberIn (c ∷ s) = readDigits 0 (c ∷ s)
+
+-- a hexadecimal digit: 0 to 9 are the bytes 48 to 57, A to F the bytes 65 to 70
+abbrev pub hexDigit : ℕ → ℕ
+hexDigit n = cond (ltb n 10) (48 + n) (55 + n)

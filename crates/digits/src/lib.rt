@@ -1,14 +1,15 @@
-// A number in decimal digits.
+// Numbers in digits: decimal ones are read, hexadecimal ones are written.
 ghost use mathlib.Core.Path.{_≡_};
-ghost use Prim.Native.Nat.{_+_, _-_, _*_, _≤_, min};
-ghost use Rattle.digits.specs.Digits.{isWithin, numberIn, most};
+ghost use Prim.Native.Nat.{_+_, _-_, _*_, _≤_, _<_, min};
+ghost use Rattle.digits.specs.Digits.{isWithin, numberIn, most, hexDigit};
 
 pub enum Number {
     Given(usize),
     Wrong,
 }
 
-// Far beyond every size that a role file can declare. A larger number is taken for this one, so that any number of digits can be read.
+// Far beyond every size that a role file can declare, and every count of rules that a program can hold. A larger number is taken for this
+// one, so that any number of digits can be read.
 const MOST: usize = 1000000;
 
 // Whether a number lies between two others, or is one of them.
@@ -55,4 +56,15 @@ pub fn number_in(text: &[u8]) -> Number
         at = at + 1;
     }
     Number::Given(n)
+}
+
+// The byte of a hexadecimal digit.
+pub fn hex_digit(n: u8) -> u8
+    requires { ⌜ n < 16 ⌝ }
+    ensures { λ r. ⌜ r ≡ hexDigit n ⌝ }
+{
+    if n < 10 {
+        return 48 + n;
+    }
+    55 + n
 }

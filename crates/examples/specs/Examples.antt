@@ -8,7 +8,7 @@ use mathlib.Core.Bool.{Bool, true, false, _&&_, not}
 use mathlib.Core.List.{List, [], _∷_, _++_, map}
 use Rattle.examples.specs.Hex.{noByte, spelt, hex}
 use Rattle.files.specs.Answer.{told}
-use Rattle.files.specs.Calls.{Verdict, countValues, yesNo, verdictNumber, verdictValues, mineAnswer, mineOutput, roleQuestion, readBoth, ruleQuestion, judge}
+use Rattle.files.specs.Calls.{Verdict, countValues, yesNo, verdictNumber, verdictValues, mineAnswer, mineOutput, roleQuestion, readBoth, ruleQuestion, judge, shownPlace, shownPart, shownByte}
 use Rattle.files.specs.RoleFile.{readRoles}
 use Rattle.files.specs.RuleFile.{Lines, ruleIn}
 use Rattle.policy.specs.Policy.{Policy, settingOf}
@@ -63,6 +63,13 @@ ruleAnswer file rules u r o = told yesNo (ruleQuestion 2 file rules u r o)
 -- the judge: the verdict's number and values
 abbrev pub judging : List ℕ → List ℕ → List ℕ
 judging file rules = told (λ (v : Verdict). verdictNumber v ∷ verdictValues v) (judge 2 file rules)
+
+-- showing one rule: the lent byte, and behind it the bytes of the part that is handed back; and where that part begins and ends
+abbrev pub showing : List ℕ → List ℕ → ℕ → List ℕ
+showing file rules n = shownByte 2 file rules n ∷ shownPart 2 file rules n
+
+abbrev pub placing : List ℕ → List ℕ → ℕ → List ℕ
+placing file rules n = shownPlace 2 file rules n .0 ∷ shownPlace 2 file rules n .1 ∷ []
 
 -- the levels of the rules of a rule file
 abbrev pub levels : List ℕ → List ℕ → List ℕ
@@ -334,6 +341,16 @@ secondTooWide = hex "21 26 01 00 28 00 01 00 21 26 03 00 28 01 02 00 2F"
 -- role 1 with operation 1 stands under two rules
 abbrev pub listedTwice : List ℕ
 listedTwice = hex "21 26 01 00 28 00 01 00 21 26 02 00 28 01 02 00 21 26 02 00 28 01 02 00 2F"
+
+-- ---- rule files of which one rule is shown, beside A (request 2)
+
+-- users by the values 0x2121 and 0x2F2F
+abbrev pub marksAmongOperands : List ℕ
+marksAmongOperands = hex "21 22 00 21 21 26 01 00 28 00 01 00 21 22 00 2F 2F 26 01 00 28 01 01 00 2F"
+
+-- the second of two rules has no part
+abbrev pub brokenBehind : List ℕ
+brokenBehind = hex "21 26 01 00 28 00 01 00 21 26 01 00 2F"
 
 -- ---- rule files that are mined
 
@@ -654,6 +671,21 @@ table =
     ∷ row "08: kind 2" (reading (hex "01 00 00 00 00 08 00 02 00 0F")) (5 ∷ [])
     ∷ row "six 08 of users" (reading (hex "01 00 00 00 00 08 00 00 01 08 00 00 02 08 00 00 03 08 00 00 04 08 00 00 05 08 00 00 06 0F")) (0 ∷ 0 ∷ 0 ∷ 0 ∷ 0 ∷ [])
     ∷ row "a seventh attribute: 02 behind six 08" (reading (hex "01 00 00 00 00 08 00 00 01 08 00 00 02 08 00 00 03 08 00 00 04 08 00 00 05 08 00 00 06 02 00 00 0F")) (5 ∷ [])
+    -- ---- request 2: "hands back that part of the rule file itself, from its 21 up to the next command 21 or 2F"
+    ∷ row "show: rule 0 of A" (showing fileA rulesA 0) (0 ∷ hex "21 26 01 00 27 00 00 28 00 01 00 28 01 01 00")
+    ∷ row "show: a 21 among operands" (showing fileA marksAmongOperands 0) (0 ∷ hex "21 22 00 21 21 26 01 00 28 00 01 00")
+    ∷ row "show: a 2F among operands" (showing fileA marksAmongOperands 1) (0 ∷ hex "21 22 00 2F 2F 26 01 00 28 01 01 00")
+    ∷ row "show: where rule 1 stands" (placing fileA marksAmongOperands 1) (12 ∷ 24 ∷ [])
+    -- "14 for a number not below the count of rules"; "then the part handed back is the empty one at the file's start"
+    ∷ row "show: A has no rule 1" (showing fileA rulesA 1) (14 ∷ [])
+    ∷ row "show: no rule at all" (showing fileA noRules 0) (14 ∷ [])
+    ∷ row "show: a number far beyond" (showing fileA rulesA 18446744073709551615) (14 ∷ [])
+    ∷ row "show: after a refusal the empty part at the start" (placing fileA marksAmongOperands 2) (0 ∷ 0 ∷ [])
+    -- "after the rule file's own refusals", also of what stands behind rule n
+    ∷ row "show: a broken rule behind rule 0" (showing fileA brokenBehind 0) (12 ∷ [])
+    ∷ row "show: 12 before 14" (showing fileA brokenBehind 7) (12 ∷ [])
+    ∷ row "show: 10 before 14" (showing fileA [] 0) (10 ∷ [])
+    ∷ row "show: 7 before 10" (showing roleTwice [] 0) (7 ∷ [])
     -- ---- the bytes of these rows: what is no digit, half a byte, and two bytes without a blank are no bytes
     ∷ row "hex: digits" (hex "00 09 0A 0F 10 F0 FF") (0 ∷ 9 ∷ 10 ∷ 15 ∷ 16 ∷ 240 ∷ 255 ∷ [])
     ∷ row "hex: no digit" (spelt "0G 0a") (noByte ∷ noByte ∷ [])

@@ -1,11 +1,13 @@
-// The calls for C and Rust: each call of 01 as a function of the static library, in numbers and lent memory alone.
+// The calls for C and Rust: each call of 01 and of the requests as a function of the static library, in numbers and lent memory alone.
 //
 // Each returns 0, or the number of the refusal. The values that go with a 0 are stored in lent memory, from its front; a refusal
-// stores none. include/fichtengarn.h says the same to C.
+// stores none. The call that shows one rule returns where its part stands, and stores that number in a lent byte. include/fichtengarn.h
+// says the same to C.
 ghost use lib.ListN.{length, take};
+ghost use Prim.Native.Nat.{_+_};
 ghost use mathlib.Core.Path.{_≡_};
 ghost use Rattle.files.specs.Answer.{told, accepted};
-ghost use Rattle.files.specs.Calls.{Counts, countValues, yesNo, roleQuestion, readBoth, ruleQuestion, judge, mineAnswer, mineOutput, verdictTold};
+ghost use Rattle.files.specs.Calls.{Counts, countValues, yesNo, roleQuestion, readBoth, ruleQuestion, judge, mineAnswer, mineOutput, verdictTold, shownPlace, shownByte};
 ghost use Rattle.files.specs.Demand3.{Demand3};
 ghost use Rattle.files.specs.RoleFile.{readRoles};
 ghost use Rattle.policy.specs.Policy.{Policy, settingOf, rolesIn};
@@ -82,6 +84,30 @@ pub extern "C" fn fichtengarn_judge(file: &[u8], rules: &[u8], verdict: &mut [us
         (now (verdict .entry))) ⌝ }
 {
     answers::store_judgement(rule_judge::judge(file, rules), verdict)
+}
+
+// A part of the rule file that was lent: its first byte, and how many it has. It stands in for the part itself, since no reference is
+// handed over to C.
+#[repr(C)]
+pub struct Part {
+    pub start: usize,
+    pub length: usize,
+}
+
+// One rule by its number: where it stands in the rule file, and in the lent byte 0 or the refusal's number.
+#[no_mangle]
+pub extern "C" fn fichtengarn_show(file: &[u8], rules: &[u8], rule: usize, answer: &mut u8) -> Part
+    ensures { λ r. ⌜
+        (r .start ≡ shownPlace 2 (now (file .entry)) (now (rules .entry)) rule .0)
+        × (r .start + r .length ≡ shownPlace 2 (now (file .entry)) (now (rules .entry)) rule .1)
+        × (now (answer .exit) ≡ shownByte 2 (now (file .entry)) (now (rules .entry)) rule) ⌝ }
+{
+    let p = rule_show::locate(file, rules, rule);
+    rule_show::tell(p.code, answer);
+    Part {
+        start: p.from,
+        length: p.to - p.from,
+    }
 }
 
 // Mining: the rule file in the memory for output, and length, parts, rules, merges and cost.

@@ -32,6 +32,8 @@ pub data Refusal : Type 0 where
   rulesOrder : Refusal
   -- "an operand beyond its size, of the wrong kind (...), a zero operation set, or no part of that file"
   rulesOperand : Refusal
+  -- request 2: "a number not below the count of rules"
+  noSuchRule : Refusal
 
 -- 01's number of each
 abbrev pub numberOf : Refusal → ℕ
@@ -48,6 +50,7 @@ numberOf rulesCutOff = 10
 numberOf rulesUnknown = 11
 numberOf rulesOrder = 12
 numberOf rulesOperand = 13
+numberOf noSuchRule = 14
 
 -- "Every refusal here and below returns only its number."
 pub data Answer (A : Type 0) : Type 0 where

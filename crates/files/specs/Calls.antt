@@ -1,14 +1,15 @@
 -- What every call answers, as a function of the bytes and numbers handed in. 01, section "Where each call stops".
 -- Assumes nothing.
-use Prim.Native.Nat.{ℕ}
+use Prim.Native.Nat.{ℕ, suc, _-_}
 use lib.Dec.{eqb, ltb, leb}
-use lib.ListN.{length, getD, drop}
+use lib.ListN.{length, getD, take, drop}
 use mathlib.Core.Bool.{Bool, cond, _&&_, not}
 use mathlib.Core.List.{List, [], _∷_, _++_, map}
 use mathlib.Core.Option.{Option, none, some}
-use Rattle.files.specs.Answer.{Answer, unless, andThen, beyond, smallScratch, shortOutput, refused, accepted}
+use Rattle.files.specs.Answer.{Answer, numberOf, unless, andThen, beyond, smallScratch, shortOutput, noSuchRule, refused, accepted}
 use Rattle.files.specs.RoleFile.{readRoles}
 use Rattle.files.specs.RuleFile.{Lines, ruleIn, partsIn, listings, linesOf, encodeAll, readRules}
+use Rattle.files.specs.RulePart.{ruleStart}
 use Rattle.policy.specs.Merging.{union}
 use Rattle.policy.specs.Mined.{partCount, partBlock, minedGroups, mergeCount, ruleOf}
 use Rattle.policy.specs.Policy.{Policy, settingOf, rolesIn}
@@ -153,3 +154,22 @@ module _ (W : ℕ) where
   -- "as the rule question without the last 5"
   unfoldable pub judge : List ℕ → List ℕ → Answer Verdict
   judge file rules = andThen (readBoth file rules) (λ (p : Policy × List Lines). accepted (verdict (settingOf (p .0)) (rolesIn (p .0)) (p .1)))
+
+  -- ---- request 2: one rule
+
+  -- where rule n begins and ends: "14 for a number not below the count of rules, after the rule file's own refusals"
+  unfoldable pub showAnswer : List ℕ → List ℕ → ℕ → Answer (ℕ × ℕ)
+  showAnswer file rules n =
+      andThen (readBoth file rules) (λ (p : Policy × List Lines). unless (ltb n (length (p .1))) noSuchRule (accepted (ruleStart W rules n, ruleStart W rules (suc n))))
+
+  -- where the part that is handed back begins and ends: "on a refusal ... the empty one at the file's start"
+  unfoldable pub shownPlace : List ℕ → List ℕ → ℕ → ℕ × ℕ
+  shownPlace file rules n = elim (showAnswer file rules n) [ refused e ↦ (0, 0) | accepted p ↦ p ]
+
+  -- "that part of the rule file itself"
+  unfoldable pub shownPart : List ℕ → List ℕ → ℕ → List ℕ
+  shownPart file rules n = take (shownPlace file rules n .1 - shownPlace file rules n .0) (drop (shownPlace file rules n .0) rules)
+
+  -- "A lent byte gets 0, or on a refusal its number"
+  unfoldable pub shownByte : List ℕ → List ℕ → ℕ → ℕ
+  shownByte file rules n = elim (showAnswer file rules n) [ refused e ↦ numberOf e | accepted p ↦ 0 ]

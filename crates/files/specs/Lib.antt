@@ -2,6 +2,7 @@ pub mod Answer
 pub mod Bytes
 pub mod RoleFile
 pub mod RuleFile
+pub mod RulePart
 pub mod Calls
 pub mod BytesLaws
 pub mod ReadBackLaws
@@ -11,3 +12,4 @@ pub mod SoundLaws
 pub mod Demand3
 pub mod DemandLaws
 pub mod CallLaws
+pub mod RulePartLaws

@@ -24,3 +24,5 @@ pub const RULES_UNKNOWN: usize = 11;
 pub const RULES_ORDER: usize = 12;
 
 pub const RULES_OPERAND: usize = 13;
+
+pub const NO_SUCH_RULE: usize = 14;

@@ -212,8 +212,18 @@ fn tell_line(printed: bool, same: bool, some: bool, c: RuleCommand, domain: u64)
     }
 }
 
-// The same of a line of numbers. In a legal rule file no line is illegal.
-pub fn tell_checked(printed: bool, same: bool, some: bool, checked: Checked, domain: u64) -> bool {
+// The same of a line of numbers, if its rule is one that is told. In a legal rule file no line is illegal.
+pub fn tell_checked(
+    printed: bool,
+    wanted: bool,
+    same: bool,
+    some: bool,
+    checked: Checked,
+    domain: u64,
+) -> bool {
+    if !wanted {
+        return printed;
+    }
     match checked {
         Checked::Legal(c) => tell_line(printed, same, some, c, domain),
         Checked::Illegal => printed,

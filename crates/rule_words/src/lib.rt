@@ -1,4 +1,4 @@
-// Rules in words. Each function says whether all was printed so far, as those of `programs` do.
+// Rules in words. Each function but the last says whether all was printed so far, as those of `programs` do.
 ghost use Rattle.role_record.specs.Record.{WithinLimits, FewAttributes};
 ghost use mathlib.Core.Bool.{_||_};
 ghost use mathlib.Core.List.{List};
@@ -22,20 +22,23 @@ use role_record::Sizes;
 use rule_headings::front;
 use rule_headings::heading_of;
 
-// What parts two paragraphs.
-fn say_gap(printed: bool, number: usize) -> bool {
-    if number == 0 {
+// What parts the paragraph of a rule from the one before it, if there is one: the first that is told has this number.
+fn say_gap(printed: bool, first: usize, number: usize) -> bool {
+    if number == first {
         return printed;
     }
     say(printed, b"\n\n")
 }
 
-// The heading of the rule of this number, whose lines stand in front.
-fn tell_heading(printed: bool, number: usize, s: &[u8]) -> bool
+// The heading of the rule of this number, whose lines stand in front, if it is one that is told.
+fn tell_heading(printed: bool, wanted: bool, first: usize, number: usize, s: &[u8]) -> bool
     requires { ⌜ ((F : Policy) × (rules : List Lines) × RuleAt F rules number (now s)) ⌝ }
 {
+    if !wanted {
+        return printed;
+    }
     let h = heading_of(s);
-    let named = say_count(say_gap(printed, number), b"rule ", number);
+    let named = say_count(say_gap(printed, first, number), b"rule ", number);
     let leveled = say_count(named, b", level ", h.level);
     let told = say_operations(say(leveled, b": any user may do "), h.operations);
     say(told, b" on any resource")
@@ -86,9 +89,11 @@ fn domain_of(domains: &ByAttribute, attribute: u64) -> u64
     0
 }
 
-// A paragraph for each rule of a legal rule file; the last line is left open.
-pub fn tell_rules<'a>(
+// A paragraph for each rule of a legal rule file that has one of the numbers from the first to the last; its last line is left open.
+fn tell_rules<'a>(
     rules: &[u8],
+    first: usize,
+    last: usize,
     sizes: Sizes,
     attributes: &'a CountBySide,
     kinds: &'a BySide,
@@ -101,6 +106,7 @@ pub fn tell_rules<'a>(
 {
     let mut printed = true;
     let mut number: usize = 0;
+    let mut wanted = false;
     let mut some = false;
     let mut former: usize = 0;
     let mut former_first: u64 = 0;
@@ -112,7 +118,8 @@ pub fn tell_rules<'a>(
         }
         at = at + l.width;
         if l.byte == rule_byte::OPENS {
-            printed = tell_heading(printed, number, &rules[at..]);
+            wanted = digits::within(number, first, last);
+            printed = tell_heading(printed, wanted, first, number, &rules[at..]);
             number = number + 1;
             some = false;
         } else {
@@ -129,10 +136,38 @@ pub fn tell_rules<'a>(
                 permissions,
             );
             let domain = domain_of(domains, l.first);
-            printed = tell_checked(printed, same, some, checked, domain);
+            printed = tell_checked(printed, wanted, same, some, checked, domain);
             some = has_condition(some, l.byte);
         }
         former = l.byte;
         former_first = l.first;
     }
+}
+
+// Reads both files and tells the rules of these numbers, or prints the line of a refusal, for the program of this name.
+pub fn tell_files(program: &[u8], file: &[u8], rules: &[u8], first: usize, last: usize) {
+    let b = rule_file::read(file, rules);
+    if b.code != 0 {
+        programs::refuse(program, b.code);
+        return;
+    }
+    let f = b.file;
+    let sizes = Sizes {
+        users: f.users,
+        resources: f.resources,
+        operations: f.operations,
+        roles: f.roles,
+    };
+    let told = tell_rules(
+        rules,
+        first,
+        last,
+        sizes,
+        &f.attributes,
+        &f.kinds,
+        &f.domains,
+        &f.holders,
+        &f.permissions,
+    );
+    programs::end_line(program, told);
 }

@@ -10,6 +10,7 @@
 //! Files at the limit of length are tried on every run.
 
 mod case;
+mod parts;
 mod questions;
 mod roles;
 mod rules;
@@ -20,7 +21,7 @@ use std::thread::{available_parallelism, scope};
 use tally::Tally;
 
 /// How many of the change requests have landed: the second miner is asked as of then.
-pub const REV: second_miner::revision::Rev = 1;
+pub const REV: second_miner::revision::Rev = 2;
 
 /// Both sides must say the same.
 pub fn same<T: PartialEq + std::fmt::Debug>(what: &str, ours: T, theirs: T) -> Result<(), String> {

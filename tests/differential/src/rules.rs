@@ -1,6 +1,7 @@
-//! The calls that take a rule file beside a role file: reading it, the rule question, the judge.
+//! The calls that take a rule file beside a role file: reading it, the rule question, the judge, and,
+//! in `parts`, the one that shows a rule.
 
-use crate::{questions, same, tally::Tally, REV};
+use crate::{parts, questions, same, tally::Tally, REV};
 use fichtengarn::{Triple, Verdict};
 use second_miner::questions::{ask_rules, judge, verdict};
 use second_miner::rule::rule_grants;
@@ -26,11 +27,16 @@ pub fn compare(
         theirs.as_ref().map(|(verdict, _)| *verdict).map_err(|&refusal| refusal),
         tally,
     )?;
-    let asked = match &theirs {
-        Ok((_, filed)) => rule_questions(file, world, rules, filed, random, tally),
-        Err(_) => rule_question(file, rules, questions::FIRST, tally),
-    };
-    asked?;
+    match &theirs {
+        Ok((_, filed)) => {
+            parts::every(file, rules, filed, tally)?;
+            rule_questions(file, world, rules, filed, random, tally)?;
+        }
+        Err(_) => {
+            parts::asked(file, rules, 0, tally)?;
+            rule_question(file, rules, questions::FIRST, tally)?;
+        }
+    }
     questions::beyond(&world.policy)
         .into_iter()
         .try_for_each(|triple| rule_question(file, rules, triple, tally))
@@ -42,6 +48,7 @@ pub fn refused_beside(file: &[u8], tally: &mut Tally) -> Result<(), String> {
         tally.rule_files += 1;
         judged(file, rules, judge(file, rules, REV).map_err(usize::from), tally)?;
         rule_question(file, rules, questions::FIRST, tally)?;
+        parts::asked(file, rules, 0, tally)?;
     }
     Ok(())
 }

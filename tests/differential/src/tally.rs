@@ -8,8 +8,9 @@ pub struct Tally {
     pub rule_files: usize,
     pub minings: usize,
     pub questions: usize,
-    /// By number: how often the library accepted (0) or refused (1 to 13).
-    answers: [usize; 14],
+    pub shown: usize,
+    /// By number: how often the library accepted (0) or refused (1 to 14).
+    answers: [usize; 15],
     verdicts: [usize; 4],
 }
 
@@ -31,6 +32,7 @@ impl Tally {
         self.rule_files += other.rule_files;
         self.minings += other.minings;
         self.questions += other.questions;
+        self.shown += other.shown;
         self.answers.iter_mut().zip(other.answers).for_each(|(sum, often)| *sum += often);
         self.verdicts.iter_mut().zip(other.verdicts).for_each(|(sum, often)| *sum += often);
     }
@@ -46,8 +48,8 @@ impl fmt::Display for Tally {
     fn fmt(&self, f: &mut fmt::Formatter) -> fmt::Result {
         writeln!(
             f,
-            "no disagreement on {} role files, {} rule files, {} minings, {} questions",
-            self.role_files, self.rule_files, self.minings, self.questions
+            "no disagreement on {} role files, {} rule files, {} minings, {} questions, {} rules shown",
+            self.role_files, self.rule_files, self.minings, self.questions, self.shown
         )?;
         writeln!(f, "answers by number {}", met(&self.answers))?;
         write!(f, "verdicts by number {}", met(&self.verdicts))

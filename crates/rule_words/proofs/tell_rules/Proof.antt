@@ -14,11 +14,11 @@ use Rattle.rule_words.proofs.tell_rules.Statement.{statement}
 use Rattle.rule_words.proofs.tell_rules.Tie as tie
 
 abbrev Inv-loop : tie.InvT-loop
-Inv-loop rules sizes attributes kinds domains holders permissions printed₀ number₀ some₀ former₀ former-first₀ at₀ printed number some former former-first at =
+Inv-loop rules first last sizes attributes kinds domains holders permissions printed₀ number₀ wanted₀ some₀ former₀ former-first₀ at₀ printed number wanted some former former-first at =
     (at ≤ length rules) × (number ≤ at) × Telling rules number at
 
 abbrev μ-loop : tie.MeasureT-loop
-μ-loop rules sizes attributes kinds domains holders permissions printed₀ number₀ some₀ former₀ former-first₀ at₀ printed number some former former-first at =
+μ-loop rules first last sizes attributes kinds domains holders permissions printed₀ number₀ wanted₀ some₀ former₀ former-first₀ at₀ printed number wanted some former former-first at =
     length rules - at
 
 abbrev source : tie.At-loop Inv-loop μ-loop → List ℕ
@@ -33,18 +33,18 @@ loop-holds c = (search needs, search needs, telling-begun _ (c .before .pre .2))
 
 tell-heading-requires : tie.Need-tell-heading-requires Inv-loop μ-loop
 tell-heading-requires c κs =
-    let e = c .before .before .before .before in
-    let f = e .before .before in
-    let h = f .before .before in
-    subst (λ (s : List ℕ). (F : Policy) × (rules : List Lines) × RuleAt F rules (h .loop .number) s) (sym (tail (h .loop .at + f .front .result .width) (source h)))
-    (heads (source h) _ _ (h .loop .inv .2) (f .front .result) (found f) (e .if1 .left) (c .before .if2 .taken))
-
-loop-again : tie.Need-loop-again Inv-loop μ-loop
-loop-again c =
     let e = c .before .before .before .before .before in
     let f = e .before .before in
     let h = f .before .before in
-    (search needs, search needs, headed-on (source h) _ _ (h .loop .inv .2) (f .front .result) (found f) (e .if1 .left) (c .before .before .if2 .taken))
+    subst (λ (s : List ℕ). (F : Policy) × (rules : List Lines) × RuleAt F rules (h .loop .number) s) (sym (tail (h .loop .at + f .front .result .width) (source h)))
+    (heads (source h) _ _ (h .loop .inv .2) (f .front .result) (found f) (e .if1 .left) (c .before .before .if2 .taken))
+
+loop-again : tie.Need-loop-again Inv-loop μ-loop
+loop-again c =
+    let e = c .before .before .before .before .before .before in
+    let f = e .before .before in
+    let h = f .before .before in
+    (search needs, search needs, headed-on (source h) _ _ (h .loop .inv .2) (f .front .result) (found f) (e .if1 .left) (c .before .before .before .if2 .taken))
 
 loop-again-2 : tie.Need-loop-again-2 Inv-loop μ-loop
 loop-again-2 c =
@@ -68,6 +68,7 @@ tell-rules-spec =
     (λ c κs. search needs)
     (λ c. search needs)
     (λ c. search needs)
+    (λ c κs. search needs)
     (λ c. search needs)
     (λ c. search needs)
     (λ c. search needs)
