@@ -68,7 +68,7 @@ enum {
 
     /* of the memory lent to mining */
     FICHTENGARN_SMALL_SCRATCH = 8, /* less than FICHTENGARN_SCRATCH_WORDS */
-    FICHTENGARN_SHORT_OUTPUT = 9,  /* the rule file is longer than the output */
+    FICHTENGARN_SHORT_OUTPUT = 9,  /* the rule file, or the circle, is longer than the output */
 
     /* of a rule file */
     FICHTENGARN_RULES_CUT_OFF = 10, /* it ends inside operands or before 2F */
@@ -84,6 +84,7 @@ enum {
 /* Sizes of the memory that mining is lent. Output is as long as the caller likes. */
 enum {
     FICHTENGARN_MOST_ROLE_BYTES = 65535, /* of a role file */
+    FICHTENGARN_MOST_ROLES = 32,         /* of a role file, and so of a circle */
     FICHTENGARN_SCRATCH_WORDS = 4096     /* of 64 bits: 32,768 bytes */
 };
 
@@ -162,6 +163,20 @@ typedef struct {
 fichtengarn_part fichtengarn_show(const uint8_t *file, size_t file_length,
                                   const uint8_t *rules, size_t rules_length,
                                   size_t rule, uint8_t *answer);
+
+/*
+ * The circle: of a role file with refusal 7, the fewest roles that already make one.
+ *
+ * Returns 0, and *count is how many roles are listed: 0 if the role file is accepted; else the roles
+ * stand at the front of the memory, one byte each, every one the junior of the next in a line 07, and
+ * the last the junior of the first. The list starts with its lowest role; no circle of the file has
+ * fewer roles; and of those as short it is the first by its bytes. Or returns 1 to 6; then 9 if the
+ * memory is shorter than the list. Memory of FICHTENGARN_MOST_ROLES bytes is always enough. Writes the
+ * list and *count, and nothing else. Stack: 42 KB.
+ */
+size_t fichtengarn_circle(const uint8_t *file, size_t file_length,
+                          uint8_t *roles, size_t roles_length,
+                          size_t *count);
 
 /* The numbers that mining stores. */
 enum {

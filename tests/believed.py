@@ -28,6 +28,7 @@ CALLS = [
     ("rule_question", "ask"),
     ("rule_judge", "judge"),
     ("rule_show", "show"),
+    ("role_circle", "circle"),
     ("mining", "mine"),
     ("mining", "rule_bytes"),
     ("fichtengarn", None),

@@ -1,5 +1,5 @@
 #!/usr/bin/env python3
-"""Use the programs mine, judge, ask, explain and show, rightly and wrongly, and compare all that they print and write.
+"""Use the programs mine, judge, ask, explain, show and circle, rightly and wrongly, and compare all that they print and write.
 
     tests/programs.py [FOLDER]      FOLDER has the programs; target/bin if left out
 
@@ -25,7 +25,7 @@ from rolefiles import END, EXAMPLE_A, NOBODY, NO_COMMAND, assign, declare, joine
 
 HERE = os.path.dirname(os.path.abspath(__file__))
 SAMPLES = os.path.join(os.path.dirname(HERE), "samples")
-PROGRAMS = ["mine", "judge", "ask", "explain", "show"]
+PROGRAMS = ["mine", "judge", "ask", "explain", "show", "circle"]
 
 # Where the tests run as root, who may write everything, the programs run as somebody who may not.
 NOBODY_ID = 65534
@@ -564,6 +564,51 @@ def show_wrongly():
         yield showing(EXAMPLE_A, A_RULES, text, err=no_number("show", text, "NUMBER") + usage)
 
 
+# ---- circle
+
+
+def circling(roles, **other):
+    return Use("circle", "roles", files={"roles": roles}, **other)
+
+
+def ring(roles):
+    """A role file of 32 roles in which each of these is the junior of the next, and the last of the first."""
+    return joined(sizes(0, 0, 0, 32), *[line(junior, senior) for junior, senior in zip(roles, roles[1:] + roles[:1])], END)
+
+
+def circled():
+    """The roles in order, and which line of seniority to look at."""
+    yield circling(ring([7]), out="circle 7: role 7 is junior to 7\n")
+    yield circling(ring([3, 1]), out="circle 1 3: role 1 is junior to 3, 3 to 1\n")
+    yield circling(ring([2, 31, 0]), out="circle 0 2 31: role 0 is junior to 2, 2 to 31, 31 to 0\n")
+    every = list(range(32))
+    lines = ", ".join(f"{role} to {(role + 1) % 32}" for role in every[1:])
+    listed = " ".join(str(role) for role in every)
+    yield circling(ring(every), out=f"circle {listed}: role 0 is junior to 1, {lines}\n")
+    yield circling(REFUSED_ROLES[7], out="circle 0 1: role 0 is junior to 1, 1 to 0\n")
+    for roles in [EXAMPLE_A, NOBODY, sample("branches.roles"), sample("regions.roles")]:
+        yield circling(roles, out="no circle\n")
+
+
+def circle_refusals():
+    for n, roles in REFUSED_ROLES.items():
+        if n != 7:
+            yield circling(roles, out=refused(n))
+    yield circling(b"", out=refused(2))
+    # a fault behind the circle is told in its place
+    yield circling(ring([0, 1]) + END, out=refused(4))
+    yield circling(ring([0, 1])[:-1], out=refused(2))
+
+
+def circle_wrongly():
+    for arguments in [[], ["roles", "rules"]]:
+        yield Use("circle", *arguments, files={"roles": EXAMPLE_A}, err="usage: circle ROLES\n")
+    yield Use("circle", "--help", err="circle: --help: No such file or directory\n")
+    err = "circle: cannot print the answer: No space left on device\n"
+    for roles in [EXAMPLE_A, END, REFUSED_ROLES[7]]:
+        yield circling(roles, output=os.open("/dev/full", os.O_WRONLY), err=err)
+
+
 def uses():
     yield from mined()
     yield from mine_refusals()
@@ -588,6 +633,10 @@ def uses():
     yield from file_errors("show", "0")
     yield from not_printed("show", "0")
     yield from show_wrongly()
+    yield from circled()
+    yield from circle_refusals()
+    yield from file_errors("circle", names=("roles",))
+    yield from circle_wrongly()
 
 
 # ---- running

@@ -5,15 +5,15 @@
     tests/rolecases.py SECOND-MINER      write crates/test_role/stdout as well
 
 SECOND-MINER is the command of an independent implementation of the paper 01. It
-takes 'batch' and then, on standard input, lines 'read-roles FILE' and
-'ask-roles FILE USER RESOURCE OPERATION'; to each it answers with a line
-'accepted', 'yes', 'no' or 'refused N', and a line with a single dot. The answers
-come from it alone and never from the programs of this repository.
+takes 'batch' and then, on standard input, lines 'read-roles FILE', 'circle FILE'
+and 'ask-roles FILE USER RESOURCE OPERATION'; to each it answers with a line
+'accepted', 'circle ROLE ..', 'yes', 'no' or 'refused N', and a line with a single
+dot. The answers come from it alone and never from the programs of this repository.
 
 A case in stdin is: the length of the file (two bytes, low byte first), user,
 resource and operation of a question (one byte each), the bytes of the file.
-A line of stdout is: the number of the refusal to read the file or 0, and the
-answer to the question. Behind the lines of the cases stand those of the long
+A line of stdout is: the number of the refusal to read the file or 0, the answer
+to showing its circle, and the answer to the question. Behind the lines of the cases stand those of the long
 files, which the program builds itself (see long_files below): a case's length
 has two bytes, and 65,536 does not fit.
 """
@@ -331,7 +331,7 @@ def order():
 
 
 def circles():
-    """Refusal 7: circles of roles, and what is no circle."""
+    """Refusal 7: circles of roles, of each length, and what is no circle; which of several circles is shown."""
     for count in [1, 2, 3, 4, 32]:
         roles = list(range(count))
         around = [line(role, (role + 1) % count) for role in roles]
@@ -345,6 +345,24 @@ def circles():
         # one step left out: no circle
         for missing in roles[:3] + roles[-1:]:
             yield from asked(joined(sizes(1, 1, 1, count), *(around[:missing] + around[missing + 1 :]), END))
+    # each length among roles that are all above it or all below it, with lines down from the others
+    for count in range(1, 33):
+        around = [line(role, (role + 1) % count) for role in range(count)]
+        yield from asked(joined(sizes(0, 0, 0, 32), *around, *[line(role, role - 1) for role in range(count, 32)], END))
+        above = [line(31 - role, 31 - (role + 1) % count) for role in range(count)]
+        yield from asked(joined(sizes(0, 0, 0, 32), *above, *[line(32 - count, role) for role in range(32 - count)], END))
+    # the shortest, and of those the first by its bytes; a longer one with lower roles is none
+    yield from asked(joined(sizes(0, 0, 0, 4), line(3, 3), line(0, 1), line(1, 0), END))
+    for low in range(4):
+        two = [(4, 2), (2, 4), (1, 3), (3, 1), (0, 1), (1, 2), (2, 0)]
+        yield from asked(joined(sizes(0, 0, 0, 5), *[line(*pair) for pair in two[low:]], END))
+        yield from asked(joined(sizes(0, 0, 0, 5), *[line(*pair) for pair in two[: low + 3]], END))
+        yield from asked(joined(sizes(0, 0, 0, 5), *[line(4 - a, 4 - b) for a, b in two[low:]], END))
+    # two ways behind one lowest role: the lesser next role
+    yield from asked(joined(sizes(0, 0, 0, 4), line(0, 3), line(3, 1), line(1, 0), line(0, 2), line(2, 1), END))
+    yield from asked(joined(sizes(0, 0, 0, 4), line(0, 1), line(1, 3), line(3, 0), line(1, 2), line(2, 0), END))
+    # a line to a lower role never helps to close a circle of the lowest
+    yield from asked(joined(sizes(0, 0, 0, 4), line(1, 0), line(0, 2), line(2, 3), line(3, 1), line(3, 2), END))
     # circles among other roles, at either end
     yield from asked(joined(sizes(1, 1, 1, 5), line(0, 1), line(1, 2), line(2, 3), line(3, 1), END))
     yield from asked(joined(sizes(1, 1, 1, 5), line(0, 1), line(1, 0), line(2, 3), line(3, 4), END))
@@ -522,14 +540,16 @@ def answers(second_miner, all_cases):
         for file, question in all_cases:
             name = folder.file(file)
             commands.append(f"read-roles {name}")
+            commands.append(f"circle {name}")
             commands.append(f"ask-roles {name} {question[0]} {question[1]} {question[2]}")
         said = told(second_miner, commands)
     lines = []
-    for read, asked_roles in zip(said[0::2], said[1::2]):
+    for read, circle, asked_roles in zip(said[0::3], said[1::3], said[2::3]):
         code = "0" if read == "accepted" else read.removeprefix("refused ")
         assert code in "01234567" and len(code) == 1, read
         assert asked_roles in ["yes", "no"] or asked_roles.startswith("refused "), asked_roles
-        lines.append(f"{code} {asked_roles}\n")
+        assert circle.startswith("circle ") if code == "7" else circle == ("circle" if code == "0" else read), circle
+        lines.append(f"{code} {circle} {asked_roles}\n")
     return "".join(lines)
 
 

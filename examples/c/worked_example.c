@@ -1,6 +1,7 @@
 /*
  * A worked example of include/fichtengarn.h: reads a role file, mines it, reads the rules back,
- * judges them, shows one, asks a question of both, and prints the answers.
+ * judges them, shows one, asks a question of both, shows the circle of a file that has one, and
+ * prints the answers.
  *
  *     worked_example FILE
  *
@@ -15,6 +16,9 @@
 static uint8_t file[FICHTENGARN_MOST_ROLE_BYTES + 1];
 static uint8_t rules[65536];
 static uint64_t scratch[FICHTENGARN_SCRATCH_WORDS];
+
+/* Four roles, 1 the junior of 3 and 3 of 1. */
+static const uint8_t circular[] = {0x01, 0, 0, 0, 4, 0x07, 1, 3, 0x07, 3, 1, 0x0F};
 
 /* Prints what a call came to; returns whether it was accepted. */
 static int told(const char *call, size_t refusal)
@@ -72,6 +76,22 @@ static void ask(size_t file_length, size_t rules_length, size_t user, size_t res
         printf("answer %s\n", by_rules ? "yes" : "no");
 }
 
+/* Prints the roles of the circle of a role file with refusal 7. */
+static void circle(const uint8_t *roles, size_t roles_length)
+{
+    uint8_t list[FICHTENGARN_MOST_ROLES];
+    size_t count, place;
+
+    if (told("read roles", fichtengarn_read_roles(roles, roles_length)))
+        return;
+    if (!told("circle", fichtengarn_circle(roles, roles_length, list, sizeof list, &count)))
+        return;
+    printf("circle:");
+    for (place = 0; place < count; place++)
+        printf(" %u", (unsigned)list[place]);
+    printf("\n");
+}
+
 static void work(size_t file_length)
 {
     size_t counts[5], verdict[4], rules_length, count;
@@ -93,6 +113,7 @@ static void work(size_t file_length)
     ask(file_length, rules_length, 0, 0, 0);
     ask(file_length, rules_length, 0, 1, 0);
     ask(file_length, rules_length, 0, 0, 1);
+    circle(circular, sizeof circular);
 }
 
 int main(int count, char **words)

@@ -1,10 +1,13 @@
 //! A worked example of the wrapper, and the same as `examples/c/worked_example.c`: reads a role
-//! file, mines it, reads the rules back, judges them, shows one, asks a question of both, and prints
-//! the answers.
+//! file, mines it, reads the rules back, judges them, shows one, asks a question of both, shows the
+//! circle of a file that has one, and prints the answers.
 //!
 //!     cargo run --example worked_example FILE
 
 use fichtengarn::{Refusal, Triple, Verdict};
+
+/// Four roles, 1 the junior of 3 and 3 of 1.
+const CIRCULAR: [u8; 12] = [0x01, 0, 0, 0, 4, 0x07, 1, 3, 0x07, 3, 1, 0x0F];
 
 /// Prints what a call came to; passes on what it answered.
 fn told<T>(call: &str, answer: Result<T, Refusal>) -> Option<T> {
@@ -54,6 +57,18 @@ fn ask(file: &[u8], rules: &[u8], asked: Triple) {
     }
 }
 
+/// Prints the roles of the circle of a role file with refusal 7.
+fn circle(file: &[u8]) {
+    if told("read roles", fichtengarn::read_roles(file)).is_some() {
+        return;
+    }
+    let mut roles = [0; fichtengarn::MOST_ROLES];
+    if let Some(count) = told("circle", fichtengarn::circle(file, &mut roles)) {
+        let list: String = roles[..count].iter().map(|role| format!(" {role}")).collect();
+        println!("circle:{list}");
+    }
+}
+
 /// Goes on with what each call answers; ends where one is refused.
 fn work(file: &[u8]) -> Option<()> {
     let mut scratch = [0; fichtengarn::SCRATCH_WORDS];
@@ -73,6 +88,7 @@ fn work(file: &[u8]) -> Option<()> {
     ask(file, rules, Triple { user: 0, resource: 0, operation: 0 });
     ask(file, rules, Triple { user: 0, resource: 1, operation: 0 });
     ask(file, rules, Triple { user: 0, resource: 0, operation: 1 });
+    circle(&CIRCULAR);
     Some(())
 }
 

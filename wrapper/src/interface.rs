@@ -56,6 +56,14 @@ unsafe extern "C" {
         answer: *mut u8,
     ) -> Part;
 
+    pub fn fichtengarn_circle(
+        file: *const u8,
+        file_length: usize,
+        roles: *mut u8,
+        roles_length: usize,
+        count: *mut [usize; 1],
+    ) -> usize;
+
     pub fn fichtengarn_mine(
         file: *const u8,
         file_length: usize,

@@ -14,6 +14,9 @@ pub mod interface;
 /// The words of scratch that mining asks for.
 pub const SCRATCH_WORDS: usize = 4096;
 
+/// The most roles that a role file may have.
+pub const MOST_ROLES: usize = 32;
+
 /// The causes for which a call may refuse, with 01's numbers.
 #[derive(Clone, Copy, PartialEq, Eq, Debug)]
 pub enum Refusal {
@@ -34,7 +37,7 @@ pub enum Refusal {
     OwnSenior = 7,
     /// Scratch of less than `SCRATCH_WORDS`.
     SmallScratch = 8,
-    /// The rule file is longer than the output.
+    /// The rule file, or the circle, is longer than the output.
     ShortOutput = 9,
     /// The rule file ends inside operands or before 2F.
     RulesCutOff = 10,
@@ -206,6 +209,23 @@ pub fn show<'a>(file: &[u8], rules: &'a [u8], rule: usize) -> Result<&'a [u8], R
     };
     told(answer.into())?;
     Ok(&rules[part.start..part.start + part.length])
+}
+
+/// The fewest roles of a role file that make a circle of seniority, at the front of `roles`: each is
+/// the junior of the next, and the last of the first. How many they are; none if the role file is
+/// accepted. A refusal leaves the memory as it was; memory for `MOST_ROLES` is always enough.
+pub fn circle(file: &[u8], roles: &mut [u8]) -> Result<usize, Refusal> {
+    let mut count = [0];
+    told(unsafe {
+        interface::fichtengarn_circle(
+            file.as_ptr(),
+            file.len(),
+            roles.as_mut_ptr(),
+            roles.len(),
+            &mut count,
+        )
+    })?;
+    Ok(count[0])
 }
 
 /// Writes the rules of a role file to the front of the output. A refusal leaves the output as it

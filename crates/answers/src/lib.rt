@@ -4,8 +4,10 @@ ghost use lib.ListN.{length};
 ghost use mathlib.Core.Path.{_≡_};
 ghost use Rattle.answers.specs.Numbers.{returned, stored, readNumbers};
 ghost use Rattle.write_answer.specs.MinedNumbers.{minedNumbers};
+ghost use Rattle.role_circle.specs.CircledNumbers.{circledNumbers};
 ghost use Rattle.role_question.specs.Reply.{replyNumbers};
 ghost use Rattle.rule_judge.specs.Judgement.{judgementNumbers};
+use role_circle::Circled;
 use role_question::Reply;
 use rule_judge::Judgement;
 use write_answer::Mined;
@@ -37,6 +39,22 @@ pub fn store_reply(reply: Reply, answer: &mut [usize]) -> usize
         }
         Reply::Yes => {
             answer[0] = 1;
+            0
+        }
+    }
+}
+
+// How many roles of a circle are listed.
+pub fn store_circled(circled: Circled, count: &mut [usize]) -> usize
+    requires { ⌜ length (now count) ≡ 1 ⌝ }
+    ensures { λ r. ⌜
+        (r ≡ returned (circledNumbers circled))
+        × (now (count .exit) ≡ stored (circledNumbers circled) (now (count .entry))) ⌝ }
+{
+    match circled {
+        Circled::Refused(n) => n,
+        Circled::Listed(n) => {
+            count[0] = n;
             0
         }
     }

@@ -8,7 +8,7 @@ use mathlib.Core.Bool.{Bool, true, false, _&&_, not}
 use mathlib.Core.List.{List, [], _∷_, _++_, map}
 use Rattle.examples.specs.Hex.{noByte, spelt, hex}
 use Rattle.files.specs.Answer.{told}
-use Rattle.files.specs.Calls.{Verdict, countValues, yesNo, verdictNumber, verdictValues, mineAnswer, mineOutput, roleQuestion, readBoth, ruleQuestion, judge, shownPlace, shownPart, shownByte}
+use Rattle.files.specs.Calls.{Verdict, countValues, yesNo, verdictNumber, verdictValues, mineAnswer, mineOutput, roleQuestion, readBoth, ruleQuestion, judge, shownPlace, shownPart, shownByte, circleAnswer, circleOutput}
 use Rattle.files.specs.RoleFile.{readRoles}
 use Rattle.files.specs.RuleFile.{Lines, ruleIn}
 use Rattle.policy.specs.Policy.{Policy, settingOf}
@@ -70,6 +70,13 @@ showing file rules n = shownByte 2 file rules n ∷ shownPart 2 file rules n
 
 abbrev pub placing : List ℕ → List ℕ → ℕ → List ℕ
 placing file rules n = shownPlace 2 file rules n .0 ∷ shownPlace 2 file rules n .1 ∷ []
+
+-- showing the circle of a role file with so many bytes of memory: its roles; and the memory after that
+abbrev pub circling : List ℕ → ℕ → List ℕ
+circling file room = told (λ (c : List ℕ). c) (circleAnswer 2 file room)
+
+abbrev pub circled : List ℕ → ℕ → List ℕ
+circled file room = circleOutput 2 file (memory room)
 
 -- the levels of the rules of a rule file
 abbrev pub levels : List ℕ → List ℕ → List ℕ
@@ -386,6 +393,24 @@ lastAtom = hex "21 26 01 00 27 01 00 28 00 01 00 2F"
 abbrev pub smallestRoles : List ℕ
 smallestRoles = hex "21 23 FF 01 00 00 00 00 00 00 00 26 01 00 28 00 01 00 2F"
 
+-- ---- role files with circles (request 3)
+
+-- role 3 its own senior, and roles 0 and 1 each the other's
+abbrev pub ownSenior : List ℕ
+ownSenior = hex "01 00 00 00 04 07 03 03 07 00 01 07 01 00 0F"
+
+-- roles 0, 1 and 2 in a circle, and roles 3 and 4
+abbrev pub shortBehindLong : List ℕ
+shortBehindLong = hex "01 00 00 00 05 07 00 01 07 01 02 07 02 00 07 03 04 07 04 03 0F"
+
+-- role 0 is the junior of 2, 2 of 1, and 1 of 0
+abbrev pub threeRoles : List ℕ
+threeRoles = hex "01 00 00 00 03 07 02 01 07 01 00 07 00 02 0F"
+
+-- two circles of two, of roles 2 and 4 and of roles 1 and 3, and one of 0, 1 and 2
+abbrev pub twoCircles : List ℕ
+twoCircles = hex "01 00 00 00 05 07 04 02 07 02 04 07 01 03 07 03 01 07 00 01 07 01 02 07 02 00 0F"
+
 -- ---- the table
 
 abbrev pub table : List Row
@@ -686,6 +711,29 @@ table =
     ∷ row "show: 12 before 14" (showing fileA brokenBehind 7) (12 ∷ [])
     ∷ row "show: 10 before 14" (showing fileA [] 0) (10 ∷ [])
     ∷ row "show: 7 before 10" (showing roleTwice [] 0) (7 ∷ [])
+    -- ---- request 3: "the fewest roles that already make a circle", one byte a role
+    -- "a 07 with one role twice is a circle of one"; "No other circle in the file has fewer roles", though others have lower ones
+    ∷ row "circle: one role twice, beside two roles" (circling ownSenior 4) (0 ∷ 3 ∷ [])
+    ∷ row "circle: two roles, beside three with a lower one" (circling shortBehindLong 5) (0 ∷ 3 ∷ 4 ∷ [])
+    -- "each the junior of the next in a 07 line of the file, and the last likewise the junior of the first"; "It starts with its lowest role."
+    ∷ row "circle: each the junior of the next, 0 of 2" (circling threeRoles 3) (0 ∷ 0 ∷ 2 ∷ 1 ∷ [])
+    ∷ row "circle: each line twice" (circling (hex "01 00 00 00 04 07 03 01 07 03 01 07 01 03 07 01 03 0F") 2) (0 ∷ 1 ∷ 3 ∷ [])
+    -- "among those as short, it is the first by the bytes as listed"
+    ∷ row "circle: the first of two by the first byte" (circling (hex "01 00 00 00 05 07 01 02 07 02 01 07 04 00 07 00 04 0F") 2) (0 ∷ 0 ∷ 4 ∷ [])
+    ∷ row "circle: the first of two by the second byte" (circling (hex "01 00 00 00 04 07 02 03 07 00 02 07 03 00 07 01 03 07 00 01 0F") 3) (0 ∷ 0 ∷ 1 ∷ 3 ∷ [])
+    -- "Files refused otherwise return that number, and accepted files an empty list."
+    ∷ row "circle: a byte after the end" (circling (hex "01 00 00 00 01 07 00 00 0F 00") 1) (4 ∷ [])
+    ∷ row "circle: cut off behind it" (circling (hex "01 00 00 00 01 07 00 00") 1) (2 ∷ [])
+    ∷ row "circle: A" (circling fileA 0) (0 ∷ [])
+    ∷ row "circle: lines that make none" (circling (hex "01 00 00 00 03 07 00 01 07 01 02 07 00 02 0F") 3) (0 ∷ [])
+    -- "Memory shorter than the circle gives 9 and stays untouched."
+    ∷ row "circle: two of five, in memory for two" (circling twoCircles 2) (0 ∷ 1 ∷ 3 ∷ [])
+    ∷ row "circle: two of five, in memory for one" (circling twoCircles 1) (9 ∷ [])
+    ∷ row "circle: memory for two" (circled twoCircles 2) (hex "01 03")
+    ∷ row "circle: memory for more" (circled twoCircles 4) (hex "01 03 AA AA")
+    ∷ row "circle: memory for one" (circled twoCircles 1) (hex "AA")
+    ∷ row "circle: memory beside another refusal" (circled (hex "01 00 00 00 01 07 00 00 0F 00") 2) (hex "AA AA")
+    ∷ row "circle: memory beside an accepted file" (circled fileA 2) (hex "AA AA")
     -- ---- the bytes of these rows: what is no digit, half a byte, and two bytes without a blank are no bytes
     ∷ row "hex: digits" (hex "00 09 0A 0F 10 F0 FF") (0 ∷ 9 ∷ 10 ∷ 15 ∷ 16 ∷ 240 ∷ 255 ∷ [])
     ∷ row "hex: no digit" (spelt "0G 0a") (noByte ∷ noByte ∷ [])

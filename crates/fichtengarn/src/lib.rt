@@ -4,13 +4,17 @@
 // stores none. The call that shows one rule returns where its part stands, and stores that number in a lent byte. include/fichtengarn.h
 // says the same to C.
 ghost use lib.ListN.{length, take};
-ghost use Prim.Native.Nat.{_+_};
+ghost use Prim.Native.Nat.{ℕ, _+_, _<_};
+ghost use mathlib.Core.List.{List};
 ghost use mathlib.Core.Path.{_≡_};
 ghost use Rattle.files.specs.Answer.{told, accepted};
-ghost use Rattle.files.specs.Calls.{Counts, countValues, yesNo, roleQuestion, readBoth, ruleQuestion, judge, mineAnswer, mineOutput, verdictTold, shownPlace, shownByte};
+ghost use Rattle.files.specs.Calls.{Counts, countValues, yesNo, roleQuestion, readBoth, ruleQuestion, judge, mineAnswer, mineOutput, verdictTold, shownPlace, shownByte, circleAnswer, circleOutput};
 ghost use Rattle.files.specs.Demand3.{Demand3};
-ghost use Rattle.files.specs.RoleFile.{readRoles};
+ghost use Rattle.files.specs.RoleFile.{readRoles, readCommands};
+ghost use Rattle.policy.specs.Circles.{closes, Circle};
 ghost use Rattle.policy.specs.Policy.{Policy, settingOf, rolesIn};
+ghost use Rattle.role_circle.specs.CircledNumbers.{rolesListed};
+ghost use Rattle.sets.specs.Tests.{Is, _isIn_};
 ghost use Rattle.answers.specs.Numbers.{noValues};
 ghost use Rattle.answers.specs.Numbers.{returned, stored, rulesTold};
 
@@ -108,6 +112,26 @@ pub extern "C" fn fichtengarn_show(file: &[u8], rules: &[u8], rule: usize, answe
         start: p.from,
         length: p.to - p.from,
     }
+}
+
+// The circle of a role file with refusal 7: its roles in the lent memory, and how many they are.
+#[no_mangle]
+pub extern "C" fn fichtengarn_circle(file: &[u8], roles: &mut [u8], count: &mut [usize; 1]) -> usize
+    ensures { λ r. ⌜
+        (r
+        ≡ returned (told rolesListed (circleAnswer 2 (now (file .entry)) (length (now (roles .entry))))))
+        × (now (count .exit)
+        ≡ stored (told rolesListed (circleAnswer 2 (now (file .entry)) (length (now (roles .entry)))))
+        (now (count .entry)))
+        × (now (roles .exit) ≡ circleOutput 2 (now (file .entry)) (now (roles .entry)))
+        × ((list : List ℕ)
+        → circleAnswer 2 (now (file .entry)) (length (now (roles .entry))) ≡ accepted list
+        → (F : Policy)
+        × (readCommands 2 (now (file .entry)) ≡ accepted F)
+        × Circle F (take (length list) (now (roles .exit)))
+        × ((l : List ℕ) → Is (closes (F .line) l) → (k : ℕ) → k isIn l → k < F .roles)) ⌝ }
+{
+    answers::store_circled(role_circle::circle(file, roles), count)
 }
 
 // Mining: the rule file in the memory for output, and length, parts, rules, merges and cost.

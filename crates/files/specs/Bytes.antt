@@ -1,9 +1,8 @@
 -- Numbers and commands as bytes, and reading commands one after the other. 01, sections "The role file" and "The rule file".
 -- Assumes nothing.
 use Prim.Native.Nat.{ℕ, zero, suc, _+_, _*_, _/_, _%_}
-use lib.Dec.{eqb, ltb}
 use lib.ListN.{length}
-use mathlib.Core.Bool.{Bool, true, false, cond, _&&_, _||_}
+use mathlib.Core.Bool.{Bool, false, cond}
 use mathlib.Core.List.{List, [], _∷_, _++_}
 use mathlib.Core.Option.{Option, none, some, Option·map}
 use Rattle.files.specs.Answer.{Refusal, Answer, andThen, refused, accepted}
@@ -34,13 +33,6 @@ abbrev pub spreadAll : List ℕ → List ℕ → List ℕ
 spreadAll [] xs = []
 spreadAll (w ∷ ws) [] = []
 spreadAll (w ∷ ws) (x ∷ xs) = spread w x ++ spreadAll ws xs
-
--- "by command byte, then operands as numbers": the first number that differs decides
-abbrev pub before : List ℕ → List ℕ → Bool
-before [] [] = false
-before [] (y ∷ ys) = true
-before (x ∷ xs) [] = false
-before (x ∷ xs) (y ∷ ys) = ltb x y || (eqb x y && before xs ys)
 
 -- A kind of file: its commands, and what is kept while it is read.
 pub record Format (Command State : Type 0) : Type 0 where

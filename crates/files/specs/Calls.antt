@@ -7,9 +7,10 @@ use mathlib.Core.Bool.{Bool, cond, _&&_, not}
 use mathlib.Core.List.{List, [], _∷_, _++_, map}
 use mathlib.Core.Option.{Option, none, some}
 use Rattle.files.specs.Answer.{Answer, numberOf, unless, andThen, beyond, smallScratch, shortOutput, noSuchRule, refused, accepted}
-use Rattle.files.specs.RoleFile.{readRoles}
+use Rattle.files.specs.RoleFile.{readRoles, readCommands}
 use Rattle.files.specs.RuleFile.{Lines, ruleIn, partsIn, listings, linesOf, encodeAll, readRules}
 use Rattle.files.specs.RulePart.{ruleStart}
+use Rattle.policy.specs.Circles.{circleOf}
 use Rattle.policy.specs.Merging.{union}
 use Rattle.policy.specs.Mined.{partCount, partBlock, minedGroups, mergeCount, ruleOf}
 use Rattle.policy.specs.Policy.{Policy, settingOf, rolesIn}
@@ -173,3 +174,14 @@ module _ (W : ℕ) where
   -- "A lent byte gets 0, or on a refusal its number"
   unfoldable pub shownByte : List ℕ → List ℕ → ℕ → ℕ
   shownByte file rules n = elim (showAnswer file rules n) [ refused e ↦ numberOf e | accepted p ↦ 0 ]
+
+  -- ---- request 3: the circle
+
+  -- the roles listed: "Files refused otherwise return that number, and accepted files an empty list. Memory shorter than the circle gives
+  -- 9"; room is the bytes of the memory
+  unfoldable pub circleAnswer : List ℕ → ℕ → Answer (List ℕ)
+  circleAnswer file room = andThen (readCommands W file) (λ F. let c = circleOf F in unless (leb (length c) room) shortOutput (accepted c))
+
+  -- the memory afterwards: "written one byte a role into lent memory", the former bytes behind them; a refusal leaves it "untouched"
+  unfoldable pub circleOutput : List ℕ → List ℕ → List ℕ
+  circleOutput file former = elim (circleAnswer file (length former)) [ refused e ↦ former | accepted c ↦ c ++ drop (length c) former ]

@@ -12,4 +12,5 @@ pub mod SoundLaws
 pub mod Demand3
 pub mod DemandLaws
 pub mod CallLaws
+pub mod CircleCallLaws
 pub mod RulePartLaws

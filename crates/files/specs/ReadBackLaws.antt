@@ -10,13 +10,13 @@ use mathlib.Core.Path.{_≡_, refl, sym, ap, _∙_, subst}
 use native.Mathlib.Omega.{arith}
 use Rattle.files.specs.Answer.{Answer, accepted}
 use Rattle.files.specs.Bytes.{spreadAll}
-use Rattle.files.specs.BytesLaws.{Fit, before-apart, before-chain, before-equal, Reads, reads-on, reads-end}
+use Rattle.files.specs.BytesLaws.{Fit, Reads, reads-on, reads-end}
 use Rattle.files.specs.RuleFile.{RuleCommand, byteOf, operandsOf, ruleCommand, precedes, isOperations, Lines, Reading, endsFile, whole, finished, follows, legal, addLine, obeyRule, widthsOr, ruleWidths, encode, encodeAll, ruleFormat, readRules, opens, value, operations, link, part, ends}
 use Rattle.policy.specs.MergeLaws.{Every}
 use Rattle.policy.specs.Roles.{Roles}
 use Rattle.policy.specs.Rules.{Setting, user, resource}
 use Rattle.sets.specs.Sorted.{Rising, and-then}
-use Rattle.sets.specs.SortedLaws.{Before, Strict}
+use Rattle.sets.specs.SortedLaws.{Before, Strict, before-apart, before-chain, before-equal}
 use Rattle.sets.specs.Tests.{Is, _isIn_, any, each}
 use Rattle.sets.specs.TestLaws.{and-in, and-l, and-r, fails, all-in, any-out, not-in}
 

@@ -230,3 +230,7 @@ module _ (W : ℕ) where
   -- "1 too long. Then by command ... Last, where no command was refused: 7 a role is its own senior."
   unfoldable pub readRoles : List ℕ → Answer Policy
   readRoles bytes = unless (leb (length bytes) 65535) tooLong (andThen (read roleFormat fresh bytes) settle)
+
+  -- the same without its last test: 1 to 6 alone, and what the file says "where no command was refused"
+  unfoldable pub readCommands : List ℕ → Answer Policy
+  readCommands bytes = unless (leb (length bytes) 65535) tooLong (andThen (read roleFormat fresh bytes) (λ s. accepted (s .policy)))

@@ -7,12 +7,12 @@ use mathlib.Core.Bool.{Bool, true, false, cond, _&&_, not}
 use mathlib.Core.List.{List, [], _∷_, _++_, map}
 use mathlib.Core.Option.{Option, none, some}
 use Rattle.files.specs.Answer.{Answer, unless, andThen, rulesCutOff, rulesUnknown, rulesOrder, rulesOperand, refused, accepted}
-use Rattle.files.specs.Bytes.{spreadAll, before, Format, read}
+use Rattle.files.specs.Bytes.{spreadAll, Format, read}
 use Rattle.files.specs.RoleFile.{sameSide}
 use Rattle.policy.specs.Mined.{partCount, partAt}
 use Rattle.policy.specs.Roles.{Roles, parts, classOf}
 use Rattle.policy.specs.Rules.{own, Which, Setting, Cond, Rule, attrsOf, atomForm, user, resource, conjunct, atom}
-use Rattle.sets.specs.Sorted.{sort}
+use Rattle.sets.specs.Sorted.{sort, before}
 use Rattle.sets.specs.Tests.{iff, all, any, keep, each, only, upTo, isSome, sum}
 
 pub data RuleCommand : Type 0 where

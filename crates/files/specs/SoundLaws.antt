@@ -15,7 +15,7 @@ use Rattle.files.specs.Answer.{Answer, andThen, tooLong, outOfPlace, bey
 use Rattle.files.specs.Bytes.{read}
 use Rattle.files.specs.BytesLaws.{Fit, Bytes, Carries, unless-carries, then-carries, read-keeps}
 use Rattle.files.specs.LineLaws.{same-side}
-use Rattle.files.specs.RoleFile.{RoleCommand, roleWidths, roleCommand, Phase, Loading, blankTable, blank, sideBy, sameSide, withTable, withKind, withValue, withAssigned, withPermitted, withLine, isNothing, isDeclaring, enter, takeKind, takeValue, takeAssignment, takePermission, takeLine, fresh, settle, takeSizes, obeyRole, roleFormat, readRoles, sizes, declare, give, assign, permit, line, end, declaring, telling}
+use Rattle.files.specs.RoleFile.{RoleCommand, roleWidths, roleCommand, Phase, Loading, blankTable, blank, sideBy, sameSide, withTable, withKind, withValue, withAssigned, withPermitted, withLine, isNothing, isDeclaring, enter, takeKind, takeValue, takeAssignment, takePermission, takeLine, fresh, settle, takeSizes, obeyRole, roleFormat, readRoles, readCommands, sizes, declare, give, assign, permit, line, end, declaring, telling}
 use Rattle.files.specs.RuleFile.{ownValue, value}
 use Rattle.files.specs.WriteLaws.{Encodable}
 use Rattle.policy.specs.Policy.{Table, Policy, kindOf, circular, held, rolesOf, isSetAt, valueAt, sideOf, settingOf, rolesIn}
@@ -272,14 +272,26 @@ module _ (W : ℕ) where
   obey-sound s (line j k) t S = enter-sound (not (isNothing (s .phase))) telling (takeLine (s .policy) j k) (line-taken (s .policy) S j k)
   obey-sound s end t S = enter-sound (not (isNothing (s .phase))) telling (accepted (s .policy)) S
 
+  all-obeyed : (bytes : List ℕ) → Bytes bytes → Carries SoundSoFar (read (roleFormat W) fresh bytes)
+  unfolding roleFormat
+  all-obeyed bytes h =
+      read-keeps (roleFormat W) SoundSoFar (λ s b ws xs e f S. obey-sound s (roleCommand b xs) (told b xs (rw e f)) S) (suc (length bytes)) false fresh bytes h
+      (blank-sound W 0 0 0 0 (omega arith) (omega arith) (omega arith) (omega arith))
+
   -- THE LAW: an accepted role file keeps to the limits
   pub read-sound : (bytes : List ℕ) → Bytes bytes → Carries (Sound W) (readRoles W bytes)
-  unfolding readRoles roleFormat
+  unfolding readRoles
   read-sound bytes h =
       unless-carries (Sound W) (leb (length bytes) 65535) tooLong (andThen (read (roleFormat W) fresh bytes) settle) λ p.
-      then-carries SoundSoFar (Sound W) (read (roleFormat W) fresh bytes) settle
-      (read-keeps (roleFormat W) SoundSoFar (λ s b ws xs e f S. obey-sound s (roleCommand b xs) (told b xs (rw e f)) S) (suc (length bytes)) false fresh bytes h (blank-sound W 0 0 0 0 (omega arith) (omega arith) (omega arith) (omega arith)))
+      then-carries SoundSoFar (Sound W) (read (roleFormat W) fresh bytes) settle (all-obeyed bytes h)
       λ s S. unless-carries (Sound W) (not (circular (s .policy))) ownSenior (accepted (s .policy)) λ q. S
+
+  -- and so does one of which no command is refused
+  pub commands-sound : (bytes : List ℕ) → Bytes bytes → Carries (Sound W) (readCommands W bytes)
+  unfolding readCommands
+  commands-sound bytes h =
+      unless-carries (Sound W) (leb (length bytes) 65535) tooLong (andThen (read (roleFormat W) fresh bytes) (λ s. accepted (s .policy))) λ p.
+      then-carries SoundSoFar (Sound W) (read (roleFormat W) fresh bytes) (λ s. accepted (s .policy)) (all-obeyed bytes h) λ s S. S
 
 -- ---- an accepted role file's rules can be written
 

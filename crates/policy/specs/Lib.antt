@@ -1,6 +1,8 @@
 pub mod Rules
 pub mod Roles
 pub mod Policy
+pub mod Circles
+pub mod CircleSearch
 pub mod Covering
 pub mod Merging
 pub mod Thinning
@@ -18,5 +20,7 @@ pub mod GroupLaws
 pub mod PartLaws
 pub mod ClassLaws
 pub mod SeniorLaws
+pub mod CircleLaws
+pub mod CircleSearchLaws
 pub mod MinedLaws
 pub mod PolicyLaws

@@ -24,11 +24,11 @@ module _ (line : ℕ → ℕ → Bool) where
       go r (inl p) = r i j p
       go r (inr p) = join (r i n (and-l (reach line n i n) (reach line n n j) p)) (r n j (and-r (reach line n i n) (reach line n n j) p))
 
-  reach-more : (n i j : ℕ) → Is (line i j) → Is (reach line n i j)
+  pub reach-more : (n i j : ℕ) → Is (line i j) → Is (reach line n i j)
   reach-more zero i j h = h
   reach-more (suc n) i j h = or-l (reach line n i n && reach line n n j) (reach-more n i j h)
 
-  reach-join : (n i m j : ℕ) → m < n → Is (reach line n i m) → Is (reach line n m j) → Is (reach line n i j)
+  pub reach-join : (n i m j : ℕ) → m < n → Is (reach line n i m) → Is (reach line n m j) → Is (reach line n i j)
   reach-join zero i m j l p q = absurd (omega arith)
   reach-join (suc n) i m j l p q = test (eqb m n) (λ e. at-top (eqb-true m n e)) (λ e. below (let d = eqb-false m n e in omega arith) (reach-join n) (or-out (reach line n i m) _ p) (or-out (reach line n m j) _ q))
     where

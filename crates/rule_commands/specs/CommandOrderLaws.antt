@@ -6,11 +6,11 @@ use mathlib.Core.Bool.{Bool, _&&_, and-false}
 use mathlib.Core.List.{[], _∷_, _++_}
 use mathlib.Core.Path.{refl, sym, ap, ap₂, _∙_}
 use native.Mathlib.Omega.{arith}
-use Rattle.files.specs.BytesLaws.{before-chain}
 use Rattle.files.specs.RuleFile.{byteOf, operandsOf, precedes, Lines}
 use Rattle.rule_commands.specs.Raw.{rawBefore, commandOf, InOrder, Shape}
 use Rattle.rule_commands.specs.RawLaws.{shape-second, raw-before}
 use Rattle.sets.specs.ListLaws.{all-last}
+use Rattle.sets.specs.SortedLaws.{before-chain}
 use Rattle.sets.specs.TestLaws.{or-l, test, all-out, all-in}
 use Rattle.sets.specs.Tests.{Is, all}
 

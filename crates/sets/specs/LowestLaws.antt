@@ -28,6 +28,15 @@ lowestFrom-passes f k (suc n) h = go (f k) refl (lowestFrom-passes f (suc k) n (
     go true e r = e
     go false e r = r
 
+-- one that is below the end passes
+pub lowestFrom-hits : (f : ℕ → Bool) (k n : ℕ) → lowestFrom f k n < k + n → Is (f (lowestFrom f k n))
+lowestFrom-hits f k zero h = absurd (omega arith)
+lowestFrom-hits f k (suc n) h = go (f k) refl (lowestFrom-hits f (suc k) n) h
+  where
+    go : (b : Bool) → f k ≡ b → (lowestFrom f (suc k) n < suc k + n → Is (f (lowestFrom f (suc k) n))) → cond b k (lowestFrom f (suc k) n) < k + suc n → Is (f (cond b k (lowestFrom f (suc k) n)))
+    go true e r l = e
+    go false e r l = r (omega arith)
+
 pub lowestFrom-most : (f : ℕ → Bool) (k n : ℕ) → lowestFrom f k n ≤ k + n
 lowestFrom-most f k zero = omega arith
 lowestFrom-most f k (suc n) = go (f k) (lowestFrom-most f (suc k) n)

@@ -1,16 +1,40 @@
-// Reads a corpus of cases from standard input and prints for each what reading its file and asking its question answer, a line a
-// case; then the same for files at the limit of length. tests/rolecases.py makes the corpus, and an independent implementation the
-// lines that these are held to.
+// Reads a corpus of cases from standard input and prints for each what reading its file, showing its circle and asking its question
+// answer, a line a case; then the same for files at the limit of length. tests/rolecases.py makes the corpus, and an independent
+// implementation the lines that these are held to.
 ghost use mathlib.Core.Path.{_≡_};
 ghost use Prim.Native.Nat.{_+_, min};
 ghost use lib.ListN.{length};
 ghost use Rattle.file_bytes.specs.Numbers.{numberAt};
+use role_circle::Circled;
 use role_record::RoleFile;
+
+// Prints the roles of a circle.
+fn print_roles(roles: &[u8], n: usize) {
+    for at in 0..n {
+        test_lines::print_number(b" ", file_bytes::byte_at(roles, at));
+    }
+}
+
+// Prints what showing the circle of a file answers.
+fn print_circle(file: &[u8]) {
+    let mut roles = [0u8; RoleFile::ROLES];
+    match role_circle::circle(file, &mut roles) {
+        Circled::Refused(n) => {
+            test_lines::print_number(b"refused ", n);
+        }
+        Circled::Listed(n) => {
+            io::write_all(1, b"circle");
+            print_roles(&roles, n);
+        }
+    }
+}
 
 // Prints the line of one file and one question.
 fn print_answers(file: &[u8], user: usize, resource: usize, operation: usize) {
     let loaded = role_file::read(file);
     io::print_decimal(1, loaded.code as u64);
+    io::write_all(1, b" ");
+    print_circle(file);
     io::write_all(1, b" ");
     test_lines::print_reply(role_question::ask(file, user, resource, operation));
 }

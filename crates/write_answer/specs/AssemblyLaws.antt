@@ -1,14 +1,13 @@
 -- The tables that mining works out of a record are those of its policy, and so is what comes of them.
 -- Assumes nothing.
-use Prim.Native.Nat.{ℕ, suc, _≤_, _<_}
+use Prim.Native.Nat.{ℕ, _≤_}
 use lib.ListN.{length, getD}
-use mathlib.Core.List.{List, List·Memᴰ·head, List·Memᴰ·tail}
+use mathlib.Core.List.{List}
 use mathlib.Core.Path.{_≡_, refl, sym, ap, _∙_, subst}
 use native.Mathlib.Omega.{arith}
 use Rattle.role_record.specs.Record.{Sized, attributeTable, recordWith, recordOf}
 use Rattle.mine_distinct.specs.InsideValues.{insideTable}
 use Rattle.files.specs.Answer.{accepted}
-use Rattle.files.specs.BytesLaws.{Bytes}
 use Rattle.files.specs.Calls.{Counts, minedBytes, minedCounts}
 use Rattle.files.specs.RoleFile.{readRoles}
 use Rattle.grant_grids.specs.Links.{linkTable}
@@ -22,7 +21,6 @@ use Rattle.write_lines.specs.Writing.{wrote}
 use Rattle.write_lines.specs.WritingLaws.{length-wrote}
 use Rattle.policy.specs.Policy.{Policy}
 use Rattle.policy.specs.Rules.{user, resource}
-use Rattle.sets.specs.Tests.{_isIn_}
 use Rattle.mine_groups.specs.Scratch.{Merged}
 use Rattle.mine_groups.specs.SeatGroups.{seatMerges}
 use Rattle.role_record.specs.declared.RoleFile.{RoleFile}
@@ -31,16 +29,6 @@ use Rattle.mine_merge.specs.Steps.{Tables}
 use Rattle.write_answer.specs.declared.Mined.{Mined}
 use Rattle.grant_distinct.specs.Distinct.{distinctTable, havingTable}
 use Rattle.write_answer.specs.declared.Mined.the-variants.{Written}
-
--- ---- the role file
-
-byte-low : {s : List ℕ} {g : ℕ} → g isIn s → ((i : ℕ) → getD s i 0 < 256) → g < 256
-byte-low (List·Memᴰ·head {x = x} {xs = xs} e) h = subst (λ (n : ℕ). n < 256) (sym e) (h 0)
-byte-low (List·Memᴰ·tail {x = x} {xs = xs} m) h = byte-low m (λ i. h (suc i))
-
--- bytes, place by place
-pub bytes-all : (s : List ℕ) → ((i : ℕ) → getD s i 0 < 256) → Bytes s
-bytes-all s h g m = byte-low m h
 
 -- ---- the record
 

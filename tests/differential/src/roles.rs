@@ -1,6 +1,6 @@
-//! The calls that take a role file alone: reading it, the role question, mining.
+//! The calls that take a role file alone: reading it, its circle, the role question, mining.
 
-use crate::{questions, same, tally::Tally, REV};
+use crate::{circles, questions, same, tally::Tally, REV};
 use second_miner::mining::{mine_world, Mined};
 use second_miner::rule::ALL_ONES;
 use second_miner::{questions::ask_roles, random::Random, role_file::read_role_file, world::World};
@@ -15,6 +15,7 @@ pub fn compare(
     let theirs = read_role_file(file, REV).map_err(usize::from);
     let ours = tally.told(fichtengarn::read_roles(file));
     same("reading the role file", ours, theirs.as_ref().map(|_| ()).map_err(|&refusal| refusal))?;
+    circles::compare(file, tally)?;
     let policy = match theirs {
         Ok(policy) => policy,
         Err(refusal) => return refused(file, refusal, tally).map(|()| None),

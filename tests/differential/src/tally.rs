@@ -9,6 +9,7 @@ pub struct Tally {
     pub minings: usize,
     pub questions: usize,
     pub shown: usize,
+    pub circles: usize,
     /// By number: how often the library accepted (0) or refused (1 to 14).
     answers: [usize; 15],
     verdicts: [usize; 4],
@@ -33,6 +34,7 @@ impl Tally {
         self.minings += other.minings;
         self.questions += other.questions;
         self.shown += other.shown;
+        self.circles += other.circles;
         self.answers.iter_mut().zip(other.answers).for_each(|(sum, often)| *sum += often);
         self.verdicts.iter_mut().zip(other.verdicts).for_each(|(sum, often)| *sum += often);
     }
@@ -48,8 +50,8 @@ impl fmt::Display for Tally {
     fn fmt(&self, f: &mut fmt::Formatter) -> fmt::Result {
         writeln!(
             f,
-            "no disagreement on {} role files, {} rule files, {} minings, {} questions, {} rules shown",
-            self.role_files, self.rule_files, self.minings, self.questions, self.shown
+            "no disagreement on {} role files, {} rule files, {} minings, {} questions, {} rules shown, {} circles",
+            self.role_files, self.rule_files, self.minings, self.questions, self.shown, self.circles
         )?;
         writeln!(f, "answers by number {}", met(&self.answers))?;
         write!(f, "verdicts by number {}", met(&self.verdicts))

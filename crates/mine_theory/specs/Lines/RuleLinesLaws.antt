@@ -8,7 +8,6 @@ use mathlib.Core.List.{List, [], _∷_, _++_, List·Memᴰ·head, List·Memᴰ·
 use mathlib.Core.Logic.{_⊎_, inl, inr}
 use mathlib.Core.Path.{_≡_, refl, sym, ap, ap₂, _∙_, subst}
 use native.Mathlib.Omega.{arith}
-use Rattle.files.specs.Bytes.{before}
 use Rattle.files.specs.ReadBackLaws.{lines-strict}
 use Rattle.files.specs.RuleFile.{RuleCommand, valueByte, byteOf, operandsOf, precedes, isPartLine, Lines, condLines, opens, value, operations, link, part, ends}
 use Rattle.policy.specs.Covering.{fits, levelOf}
@@ -20,7 +19,7 @@ use Rattle.policy.specs.Thinning.{trim, trimCond, written}
 use Rattle.mine_theory.specs.Lines.RuleLines.{kindPlace, writtenValues, attributeLines, isKind, kindLines, atomLines, ruleLines}
 use Rattle.sets.specs.ListLaws.{map-rising, sort-is}
 use Rattle.sets.specs.Sets.{bit}
-use Rattle.sets.specs.Sorted.{Rising, sort, none-left, and-then}
+use Rattle.sets.specs.Sorted.{before, Rising, sort, none-left, and-then}
 use Rattle.sets.specs.SortedLaws.{Before, sort-in, sort-out, sort-rising, keep-rising, append-rising, each-rising, only-rising, from-rising}
 use Rattle.sets.specs.Tests.{Is, _isIn_, each, only, upTo}
 use Rattle.sets.specs.TestLaws.{and-in, and-l, and-r, or-l, or-r, test, iff-in, iff-out, each-in, each-out, only-in, only-out, upTo-in, upTo-out, map-in, map-out}

@@ -3,8 +3,7 @@ use borrow.Author.Needs.{needs}
 use denote.Ref.{now}
 use lib.ListN.{length}
 use native.Mathlib.Omega.{arith}
-use Rattle.files.specs.BytesLaws.{Bytes}
-use Rattle.write_answer.specs.AssemblyLaws.{bytes-all}
+use Rattle.files.specs.BytesLaws.{Bytes, bytes-all}
 use Rattle.write_answer.specs.MineLaws.{small, promised}
 use Rattle.write_answer.specs.declared.Mined.the-variants.{Refused}
 use Rattle.mining.proofs.mine.Statement.{statement}

@@ -1,0 +1,26 @@
+-- The invariant: no role behind the last. Assumes nothing.
+use Prim.Native.Nat.{_≤_, _-_}
+use borrow.Author.Needs.{needs}
+use Rattle.circle.proofs.say_lines.Statement.{statement}
+use Rattle.circle.proofs.say_lines.Tie as tie
+
+abbrev Inv-loop : tie.InvT-loop
+Inv-loop headed roles n printed₀ at₀ printed at = at ≤ n
+
+abbrev μ-loop : tie.MeasureT-loop
+μ-loop headed roles n printed₀ at₀ printed at = n - at
+
+pub say-lines-spec : {M : Type 1} → statement M
+say-lines-spec =
+    tie.close
+    (tie.spec
+    Inv-loop
+    μ-loop
+    (λ c. search needs)
+    (λ c κs. search needs)
+    (λ c κs. search needs)
+    (λ c κs. search needs)
+    (λ c. search needs)
+    (λ c. search needs)
+    (λ c. search needs)
+    (λ c. search needs))

@@ -1,0 +1,2 @@
+pub mod CircledNumbers
+pub mod CircledLaws

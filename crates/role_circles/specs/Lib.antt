@@ -1,0 +1,2 @@
+pub mod BackWords
+pub mod BackLaws

@@ -1,0 +1,62 @@
+//! The call that shows a circle: its list, how many roles it has, and the memory around it.
+
+use crate::{same, tally::Tally, REV};
+use second_miner::requests::circle;
+
+/// What stands in lent memory before a call, and on both sides of it.
+const FORMER: u8 = 0xA5;
+
+/// Bytes on each side of the memory that is lent.
+const EDGE: usize = 8;
+
+/// A role file with memory of 0 bytes, of one too few for its circle, of as many, and of more.
+pub fn compare(file: &[u8], tally: &mut Tally) -> Result<(), String> {
+    let length = circle(file, fichtengarn::MOST_ROLES, REV).map_or(0, |roles| roles.len());
+    let rooms = [0, length.saturating_sub(1), length, length + 1, fichtengarn::MOST_ROLES];
+    rooms.into_iter().try_for_each(|room| with_memory(file, room, tally))
+}
+
+fn with_memory(file: &[u8], room: usize, tally: &mut Tally) -> Result<(), String> {
+    tally.circles += 1;
+    let theirs = circle(file, room, REV).map_err(usize::from);
+    let mut memory = vec![FORMER; EDGE + room + EDGE];
+    let mut wanted = memory.clone();
+    if let Ok(roles) = &theirs {
+        wanted[EDGE..EDGE + roles.len()].copy_from_slice(roles);
+    }
+    let ours = tally.told(fichtengarn::circle(file, &mut memory[EDGE..EDGE + room]));
+    let what = format!("the circle, in {room} bytes of memory");
+    same(&what, ours, theirs.map(|roles| roles.len()))?;
+    same(&format!("{what}: the memory"), memory, wanted)
+}
+
+/// A circle of every length, with the lines in its order and the other way round, and beside as many
+/// lines as make no other.
+pub fn every_length(tally: &mut Tally) -> Result<(), String> {
+    for length in 1..=fichtengarn::MOST_ROLES as u8 {
+        let ring: Vec<_> = (0..length).map(|role| (role, (role + 1) % length)).collect();
+        let turned = ring.iter().map(|&(junior, senior)| (senior, junior)).collect();
+        for lines in [ring.clone(), turned, filled(length)] {
+            let file = with_lines(&lines);
+            compare(&file, tally)
+                .map_err(|what| format!("a circle of {length} roles, lines {lines:?}\n{what}"))?;
+        }
+    }
+    Ok(())
+}
+
+/// The ring of so many roles, and from the others, which are above it, lines to all below them.
+fn filled(length: u8) -> Vec<(u8, u8)> {
+    let ring = (0..length).map(|role| (role, (role + 1) % length));
+    let others = (length..fichtengarn::MOST_ROLES as u8)
+        .flat_map(|role| (0..role).map(move |below| (role, below)));
+    ring.chain(others).collect()
+}
+
+/// A role file of 32 roles and these lines.
+fn with_lines(lines: &[(u8, u8)]) -> Vec<u8> {
+    let mut file = vec![1, 0, 0, 0, fichtengarn::MOST_ROLES as u8];
+    lines.iter().for_each(|&(junior, senior)| file.extend([7, junior, senior]));
+    file.push(15);
+    file
+}
