@@ -5,24 +5,21 @@ use Prim.Native.Nat.{ℕ, _+_, _*_, _^_, _<_}
 use borrow.Author.Tests.{eqb-true, ltb-true}
 use lib.Dec.{eqb, ltb}
 use lib.ListN.{getD}
-use mathlib.Core.Bool.{Bool, true, false, _&&_, and-comm, and-true}
+use mathlib.Core.Bool.{Bool, true, false, _&&_, and-true}
 use mathlib.Core.List.{List}
 use mathlib.Core.Path.{_≡_, refl, sym, ap, _∙_, subst}
 use native.Mathlib.Omega.{arith}
 use Rattle.grant_links.specs.Linked.{linkedWith, rowOf}
 use Rattle.sets.specs.MemberLaws.{bit-less}
 use Rattle.sets.specs.Sets.{narrowing, bit, maskOf, lessOne}
-use Rattle.sets.specs.MaskLaws.{mask-lt, bit-maskOf, mask-unique, mask-same, mask-none, mask-wide}
+use Rattle.sets.specs.MaskLaws.{mask-lt, bit-maskOf, mask-unique, mask-same, mask-none, cut-law}
 use Rattle.sets.specs.SetLaws.{bit-none, bit-mask}
 use Rattle.sets.specs.Tests.{Is, imp, all, upTo}
 use Rattle.sets.specs.TestLaws.{and-in, and-l, and-r, never, test, same, imp-in, imp-out, all-out, all-in, upTo-in, upTo-out, not-in}
 
 -- the atoms of a word, `meet(m, below(36))`
 pub atoms-cut : (m b s : ℕ) → b ≡ maskOf 64 (λ k. ltb k 36) → s ≡ maskOf 64 (λ k. bit m k && bit b k) → s ≡ maskOf 36 (bit m)
-atoms-cut m b s e q =
-    q
-    ∙ mask-same 64 (λ k. bit m k && bit b k) (λ k. ltb k 36 && bit m k) (λ k l. ap (λ (x : Bool). bit m k && x) (ap (λ (x : ℕ). bit x k) e ∙ bit-mask 64 (λ k. ltb k 36) k l) ∙ and-comm (bit m k) (ltb k 36))
-    ∙ sym (mask-wide 36 64 (bit m) (omega arith))
+atoms-cut m b s e q = cut-law 36 m b s (omega arith) e q
 
 -- ---- a loop over the members of a set that narrows another, least member first
 

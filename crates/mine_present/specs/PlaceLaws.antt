@@ -1,14 +1,13 @@
--- The laws of the code's steps: shifted sets, and what is worked out place by place.
+-- The laws of the code's steps: what is worked out place by place.
 -- Assumes nothing.
-use Prim.Native.Nat.{ℕ, zero, suc, _+_, _*_, _%_, _^_, _-_, _<_}
+use Prim.Native.Nat.{ℕ, _+_, _*_, _%_, _^_, _-_, _<_}
 use borrow.Author.Tests.{lt-ltb, ltb-true, ltb-false}
 use lib.Dec.{eqb, ltb}
 use lib.ListN.{length, getD}
-use lib.Pow.{shl-exact, shl-shr}
+use lib.Pow.{shl-exact}
 use mathlib.Core.Bool.{Bool, true, false, cond, _&&_, _||_, not, or-false}
 use mathlib.Core.List.{List}
 use mathlib.Core.Path.{_≡_, refl, sym, ap, ap₂, _∙_, subst}
-use native.Mathlib.Nat.{pow-suc, mul-assoc, mul-mod-left, mul-div-cancel}
 use native.Mathlib.Numerals.{add-one}
 use native.Mathlib.Omega.{arith}
 use Rattle.role_record.specs.Places.{placeSide}
@@ -17,24 +16,10 @@ use Rattle.mine_matches.specs.Matches.{metOf}
 use Rattle.sets.specs.LoopLaws.{table-unique}
 use Rattle.sets.specs.MaskLaws.{bit-out, bit-maskOf, mask-lt, mask-same, mask-wide}
 use Rattle.sets.specs.Sets.{bit, subset, maskOf, lessOne}
-use Rattle.sets.specs.SetLaws.{bit-zero, bit-suc, bit-none, bit-mask, bit-down}
+use Rattle.sets.specs.SetLaws.{bit-none, bit-mask, bit-up, bit-under}
 use Rattle.sets.specs.TestLaws.{test, same}
 use Rattle.mine_theory.specs.Words.Words.{Words, membersOf}
 use Rattle.mine_rows.specs.KeptPlaces.{metAt, metPlaces, allowedAt, conjunctAt, presentPlaces, grantsSame, thinBy, thinTo, keptIn}
-
--- ---- shifted sets
-
--- `m << n`, where nothing is lost
-bit-up : (m n j : ℕ) → bit (m * 2 ^ n) (n + j) ≡ bit m j
-bit-up m n j = sym (bit-down (m * 2 ^ n) n j) ∙ ap (λ (x : ℕ). bit x j) (shl-shr m n)
-
-bit-under : (m n i : ℕ) → i < n → bit (m * 2 ^ n) i ≡ false
-bit-under m zero i l = absurd (omega arith)
-bit-under m (suc n) i l = ap (λ (x : ℕ). bit x i) (ap (λ (x : ℕ). m * x) (pow-suc 2 n) ∙ sym (mul-assoc m (2 ^ n) 2)) ∙ go i l (bit-under m n)
-  where
-    go : (i : ℕ) → i < suc n → ((j : ℕ) → j < n → bit (m * 2 ^ n) j ≡ false) → bit (m * 2 ^ n * 2) i ≡ false
-    go zero l r = bit-zero (m * 2 ^ n * 2) ∙ ap (λ (x : ℕ). eqb x 1) (mul-mod-left (m * 2 ^ n) 2)
-    go (suc j) l r = bit-suc (m * 2 ^ n * 2) j ∙ ap (λ (x : ℕ). bit x j) (mul-div-cancel (m * 2 ^ n) (omega arith)) ∙ r j (omega arith)
 
 -- ---- who meets the conjunct of a place
 

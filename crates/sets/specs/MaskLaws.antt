@@ -8,7 +8,7 @@ use lib.Count.{ones, ones-step, trailingZeros, under}
 use lib.Dec.{eqb, ltb}
 use lib.ListN.{length}
 use lib.Pow.{pow-pos, pow-mono, shl-exact}
-use mathlib.Core.Bool.{Bool, true, false, cond, _&&_, _||_, false≢true, not, and-true, or-false}
+use mathlib.Core.Bool.{Bool, true, false, cond, _&&_, _||_, false≢true, not, and-comm, and-true, or-false}
 use mathlib.Core.List.{_∷_}
 use mathlib.Core.Path.{_≡_, refl, sym, ap, ap₂, _∙_}
 use native.Mathlib.Nat.{pow-suc, mod-lt, add-zero, add-suc, suc-add, zero-add, div-eq-of-lt, lt-of-lt-of-le, one-mul}
@@ -167,6 +167,13 @@ below-law n l = ap (λ (x : ℕ). x - 1) (one-shifted n l) ∙ below-ones n (ome
 -- `!0`
 pub below-all : (n : ℕ) → 64 ≤ n → 2 ^ 64 - 1 ≡ maskOf 64 (λ k. ltb k n)
 below-all n l = sym (mask-all 64) ∙ mask-same 64 (λ i. true) (λ k. ltb k n) (λ k q. sym (lt-ltb k n (omega arith)))
+
+-- `meet(m, below(n))`: what a set has below n
+pub cut-law : (n m b s : ℕ) → n ≤ 64 → b ≡ maskOf 64 (λ k. ltb k n) → s ≡ maskOf 64 (λ k. bit m k && bit b k) → s ≡ maskOf n (bit m)
+cut-law n m b s h e q =
+    q
+    ∙ mask-same 64 (λ k. bit m k && bit b k) (λ k. ltb k n && bit m k) (λ k l. ap (λ (x : Bool). bit m k && x) (ap (λ (x : ℕ). bit x k) e ∙ bit-mask 64 (λ k. ltb k n) k l) ∙ and-comm (bit m k) (ltb k n))
+    ∙ sym (mask-wide n 64 (bit m) h)
 
 -- ---- a loop that fills a mask of the numbers below n that pass a test
 

@@ -5,10 +5,10 @@ use borrow.Author.Tests.{eqb-true, eqb-false, eq-eqb, ne-eqb}
 use lib.Arith.{bin-ind}
 use lib.Bits.{bitAnd, and-step}
 use lib.Dec.{eqb, eqb·suc-zero, eqb·zero-suc, eqb·suc-suc}
-use lib.Pow.{pow-add}
+use lib.Pow.{pow-add, shl-shr}
 use mathlib.Core.Bool.{Bool, true, false, cond, _&&_, false≢true}
 use mathlib.Core.Path.{_≡_, refl, sym, ap, ap₂, _∙_}
-use native.Mathlib.Nat.{pow-suc, mod-lt, div-div-eq-div-mul, pow-succ', div-one, mul-mod-left, mul-div-cancel}
+use native.Mathlib.Nat.{pow-suc, mod-lt, div-div-eq-div-mul, pow-succ', div-one, mul-assoc, mul-mod-left, mul-div-cancel}
 use native.Mathlib.Omega.{arith}
 use Rattle.sets.specs.Tests.{Is}
 use Rattle.sets.specs.TestLaws.{and-in, and-l, and-r, test, same}
@@ -115,3 +115,15 @@ bit-mask (suc n) f (suc i) h =
 pub bit-down : (m n j : ℕ) → bit (m / 2 ^ n) j ≡ bit m (n + j)
 unfolding bit
 bit-down m n j = ap (λ (x : ℕ). eqb (x % 2) 1) (div-div-eq-div-mul m (2 ^ n) (2 ^ j) ∙ ap (λ (x : ℕ). m / x) (sym (pow-add 2 n j)))
+
+-- `m << n`, where nothing is lost
+pub bit-up : (m n j : ℕ) → bit (m * 2 ^ n) (n + j) ≡ bit m j
+bit-up m n j = sym (bit-down (m * 2 ^ n) n j) ∙ ap (λ (x : ℕ). bit x j) (shl-shr m n)
+
+pub bit-under : (m n i : ℕ) → i < n → bit (m * 2 ^ n) i ≡ false
+bit-under m zero i l = absurd (omega arith)
+bit-under m (suc n) i l = ap (λ (x : ℕ). bit x i) (ap (λ (x : ℕ). m * x) (pow-suc 2 n) ∙ sym (mul-assoc m (2 ^ n) 2)) ∙ go i l (bit-under m n)
+  where
+    go : (i : ℕ) → i < suc n → ((j : ℕ) → j < n → bit (m * 2 ^ n) j ≡ false) → bit (m * 2 ^ n * 2) i ≡ false
+    go zero l r = bit-zero (m * 2 ^ n * 2) ∙ ap (λ (x : ℕ). eqb x 1) (mul-mod-left (m * 2 ^ n) 2)
+    go (suc j) l r = bit-suc (m * 2 ^ n * 2) j ∙ ap (λ (x : ℕ). bit x j) (mul-div-cancel (m * 2 ^ n) (omega arith)) ∙ r j (omega arith)

@@ -16,7 +16,8 @@ use Rattle.sets.specs.Sets.{bit, size}
 use Rattle.sets.specs.Tests.{Is, keep, only, upTo, sum}
 use Rattle.sets.specs.TestLaws.{never}
 use Rattle.write_theory.specs.ListingLaws.{place-members, listed-most, cost-most}
-use Rattle.write_theory.specs.RuleLists.{setPlace, listedAt, placeCostIn}
+use Rattle.role_record.specs.Places.{setPlace}
+use Rattle.write_theory.specs.RuleLists.{listedAt, placeCostIn}
 use Rattle.write_sizes.specs.Sizes.{linesLong, linesCost, placeLongIn}
 
 -- ---- the values at a place

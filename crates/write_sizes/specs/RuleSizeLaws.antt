@@ -21,9 +21,9 @@ use Rattle.sets.specs.SetLaws.{bit-none, bit-mask}
 use Rattle.sets.specs.Tests.{Is, iff, each, from, upTo, sum}
 use Rattle.sets.specs.TestLaws.{and-l, test, from-out, upTo-out}
 use Rattle.role_record.specs.Cells.{rowCells, roleCells}
-use Rattle.role_record.specs.Places.{placeAttribute}
+use Rattle.role_record.specs.Places.{placeAttribute, setPlace}
 use Rattle.write_theory.specs.ListingLaws.{listed-none, classes-most}
-use Rattle.write_theory.specs.RuleLists.{setPlace, listedAt, memberSet, classesAt}
+use Rattle.write_theory.specs.RuleLists.{listedAt, memberSet, classesAt}
 use Rattle.write_sizes.specs.Sizes.{linesLong, placeLongIn}
 use Rattle.write_theory.specs.RuleTable.{keptAs, placeBytesIn, kindBytesIn, atomBytesAt, atomBytesIn, roleBytesIn, partBytesIn, ruleBytesIn}
 use Rattle.write_roles.specs.GroupRoles.{rolesFor}

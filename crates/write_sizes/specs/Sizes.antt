@@ -4,7 +4,8 @@ use Prim.Native.Nat.{ℕ, _*_}
 use lib.ListN.{length}
 use mathlib.Core.Bool.{Bool, cond}
 use mathlib.Core.List.{List}
-use Rattle.write_theory.specs.RuleLists.{setPlace, listedAt}
+use Rattle.role_record.specs.Places.{setPlace}
+use Rattle.write_theory.specs.RuleLists.{listedAt}
 use Rattle.sets.specs.Sets.{bit, size}
 use Rattle.sets.specs.Tests.{sum}
 

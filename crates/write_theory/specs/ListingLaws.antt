@@ -1,6 +1,6 @@
 -- What a rule lists and costs, in the steps in which code works it out.
 -- Assumes nothing.
-use Prim.Native.Nat.{ℕ, _+_, _*_, _/_, _%_, _≤_, _<_}
+use Prim.Native.Nat.{ℕ, _+_, _*_, _/_, _≤_, _<_}
 use borrow.Author.Tests.{eq-eqb, ne-eqb, ltb-true, ltb-false}
 use lib.Dec.{ltb}
 use lib.ListN.{length, getD, length-map}
@@ -12,7 +12,7 @@ use Rattle.mine_distinct.specs.InsideValues.{isListed, listedBy}
 use Rattle.write_lines.specs.Writing.{wrote}
 use Rattle.role_record.specs.Cells.{rowCells, rowStart, cellAt, cellOperation}
 use Rattle.role_record.specs.CellsLaws.{cell-parts}
-use Rattle.role_record.specs.Places.{placeSide}
+use Rattle.role_record.specs.Places.{placeSide, setPlace}
 use Rattle.role_record.specs.Record.{tableOf}
 use Rattle.role_record.specs.RecordLaws.{table-get}
 use Rattle.grant_parts.specs.Parts.{classRow}
@@ -26,7 +26,7 @@ use Rattle.sets.specs.Tests.{Is, _isIn_, keep, from, upTo, sum}
 use Rattle.sets.specs.TestLaws.{and-l, and-r, test, keep-in, keep-out, from-in, from-out, upTo-in, map-in, map-out}
 use Rattle.mine_seats.specs.Seats.{operationsAt, restAt, membersAt, headIn, wordsAt, isPartAt}
 use Rattle.mine_theory.specs.Words.Words.{membersOf}
-use Rattle.write_theory.specs.RuleLists.{setPlace, listedAt, classAt, classAmong, ClassTable, inGroup, memberSet, partsAt, classesAt, placeCostIn, ruleCostIn}
+use Rattle.write_theory.specs.RuleLists.{listedAt, classAt, classAmong, ClassTable, inGroup, memberSet, partsAt, classesAt, placeCostIn, ruleCostIn}
 use Rattle.mine_seats.specs.SeatLaws.{users-first, resources-second}
 use Rattle.grant_listed.specs.ValueLaws.{among-nobody}
 use Rattle.grant_listed.specs.Values.{valuesAmong, listedOf}
@@ -34,21 +34,6 @@ use Rattle.grant_listed.specs.Values.{valuesAmong, listedOf}
 -- ---- lists
 
 -- ---- conjuncts
-
--- the users' 255 is a set
-pub set-own-user : (kinds : List ℕ) (i : ℕ) → i ≡ 6 → true ≡ setPlace kinds i
-unfolding setPlace
-set-own-user kinds i h = rw (eq-eqb i 6 h) refl
-
--- the resources' is not
-pub set-own-resource : (kinds : List ℕ) (i : ℕ) → (i ≡ 6 → ⊥) → i ≡ 13 → false ≡ setPlace kinds i
-unfolding setPlace
-set-own-resource kinds i h e = rw (ne-eqb i 6 h, eq-eqb i 13 e) refl
-
--- and of the others the table of kinds says it
-pub set-declared : (kinds : List ℕ) (i : ℕ) (b : Bool) → (i ≡ 6 → ⊥) → (i ≡ 13 → ⊥) → b ≡ bit (getD kinds (i / 7) 0) (i % 7) → b ≡ setPlace kinds i
-unfolding setPlace
-set-declared kinds i b h k e = rw (ne-eqb i 6 h, ne-eqb i 13 k) e
 
 -- the members on the side of a place
 pub place-members : (t : List ℕ) (head i : ℕ) → i < 14 → membersAt t head (i / 7) ≡ membersOf (wordsAt t head) (placeSide i)

@@ -1,10 +1,10 @@
 -- What a mined rule lists and what it costs, read off the tables of the policy, a group in scratch memory and the places that
 -- its rule keeps: the form in which code works it out.
 -- Assumes nothing.
-use Prim.Native.Nat.{ℕ, _+_, _/_, _%_, _<_}
+use Prim.Native.Nat.{ℕ, _+_, _<_}
 use lib.Dec.{eqb, ltb}
 use lib.ListN.{length, getD}
-use mathlib.Core.Bool.{Bool, true, false, cond, _&&_}
+use mathlib.Core.Bool.{Bool, cond, _&&_}
 use mathlib.Core.List.{List, map}
 use mathlib.Core.Path.{_≡_}
 use Rattle.mine_distinct.specs.InsideValues.{listedBy}
@@ -16,13 +16,9 @@ use Rattle.sets.specs.Tests.{keep, from, upTo, sum}
 use Rattle.mine_seats.specs.Seats.{restAt, headIn, wordsAt, isPartAt}
 use Rattle.mine_theory.specs.Words.Words.{membersOf}
 use Rattle.role_record.specs.Cells.{rowCells, rowStart, cellAt, cellRow, cellOperation}
-use Rattle.role_record.specs.Places.{placeSide}
+use Rattle.role_record.specs.Places.{placeSide, setPlace}
 
 -- ---- conjuncts
-
--- the place is one of sets: of the 255s the users' is, the resources' is not
-unfoldable pub setPlace : List ℕ → ℕ → Bool
-setPlace kinds i = cond (eqb i 6) true (cond (eqb i 13) false (bit (getD kinds (i / 7) 0) (i % 7)))
 
 -- the values that the conjunct at a place lists
 unfoldable pub listedAt : (distinct having inside : List ℕ) → List ℕ → ℕ → ℕ → List ℕ

@@ -9,11 +9,11 @@ use Rattle.files.specs.Bytes.{spread}
 use Rattle.files.specs.RoleFile.{sideBy}
 use Rattle.policy.specs.Rules.{Which, user, resource}
 use Rattle.mine_theory.specs.Lines.RuleLines.{linkBytes, valueBytes, partBytes, kindPlace}
-use Rattle.write_theory.specs.RuleLists.{setPlace, listedAt, classesAt}
+use Rattle.write_theory.specs.RuleLists.{listedAt, classesAt}
 use Rattle.sets.specs.Sets.{bit}
 use Rattle.sets.specs.Tests.{iff, each, upTo}
 use Rattle.mine_seats.specs.Seats.{wordsAt}
-use Rattle.role_record.specs.Places.{placeAttribute}
+use Rattle.role_record.specs.Places.{placeAttribute, setPlace}
 
 -- a conjunct of this kind, sets or singles, is kept at a place
 unfoldable pub keptAs : List ℕ → ℕ → Bool → ℕ → Bool

@@ -14,7 +14,7 @@ use Rattle.policy.specs.Rules.{Which, user, resource}
 use Rattle.mine_theory.specs.Lines.RuleBytesLaws.{value-length}
 use Rattle.mine_theory.specs.Lines.RuleLines.{linkBytes, valueBytes, partBytes, kindPlace}
 use Rattle.write_theory.specs.ListingLaws.{listed-most, classes-most}
-use Rattle.write_theory.specs.RuleLists.{setPlace, listedAt, classesAt}
+use Rattle.write_theory.specs.RuleLists.{listedAt, classesAt}
 use Rattle.write_theory.specs.RuleTable.{keptAs, placeBytesIn, kindBytesIn, kindBytesAt, conjunctBytesIn, atomBytesAt, atomBytesIn, roleBytesIn, partBytesIn, operationBytesIn, ruleBytesIn}
 use Rattle.mine_seats.specs.Seats.{operationsAt}
 use Rattle.sets.specs.ListLaws.{length-each, sum-each, sum-most, sum-both, from-length}
@@ -22,7 +22,7 @@ use Rattle.sets.specs.Sets.{bit}
 use Rattle.sets.specs.TestLaws.{beq-iff}
 use Rattle.sets.specs.Tests.{Is, iff, each, upTo}
 use Rattle.role_record.specs.Cells.{rowCells}
-use Rattle.role_record.specs.Places.{placeSide, placeAttribute}
+use Rattle.role_record.specs.Places.{placeSide, placeAttribute, setPlace}
 
 -- bytes that were written, under another name
 pub written-as : (bytes names out o : List ℕ) (r : ℕ) → bytes ≡ names → (r ≡ length bytes) × (out ≡ wrote bytes o) → (r ≡ length names) × (out ≡ wrote names o)

@@ -1,14 +1,13 @@
 -- What is written from the tables of a policy's record and a group's words is the group's rule, and what it costs is that rule's cost.
 -- Assumes nothing.
-use Prim.Native.Nat.{ℕ, zero, suc, _+_, _/_, _%_, _-_, _^_, _≤_, _<_}
-use borrow.Author.Tests.{eqb-true, eqb-false, eq-eqb, ne-eqb, ltb-true, ltb-false, lt-ltb}
+use Prim.Native.Nat.{ℕ, zero, suc, _+_, _-_, _^_, _≤_, _<_}
+use borrow.Author.Tests.{eqb-true, eq-eqb, lt-ltb}
 use lib.Dec.{eqb, ltb}
 use lib.ListN.{length}
 use mathlib.Core.Bool.{Bool, true, false, cond, _&&_, not}
 use mathlib.Core.List.{List, [], _∷_, _++_, map}
 use mathlib.Core.Path.{_≡_, refl, sym, ap, ap₂, _∙_}
 use native.Mathlib.Omega.{arith}
-use Rattle.role_admit.specs.AdmitLaws.{side-kinds}
 use Rattle.mine_distinct.specs.InsideValues.{distinctIn, havingIn, insideIn}
 use Rattle.mine_distinct.specs.DistinctLaws.{listed-by}
 use Rattle.files.specs.Bytes.{spread}
@@ -16,15 +15,16 @@ use Rattle.files.specs.RuleFile.{Lines, encode, opens}
 use Rattle.mine_theory.specs.Search.Frontier.{Seats}
 use Rattle.grant_parts.specs.PartTableLaws.{class-shown}
 use Rattle.role_record.specs.Cells.{rowCells, rowStart, cellRow, cellOperation, roleCells}
-use Rattle.role_record.specs.Places.{placeSide, placeAttribute}
-use Rattle.role_record.specs.Record.{Sized, recordWith, recordOf}
+use Rattle.role_record.specs.Places.{placeSide, placeAttribute, setPlace}
+use Rattle.role_record.specs.PlacesLaws.{set-means}
+use Rattle.role_record.specs.Record.{Sized, recordOf}
 use Rattle.policy.specs.Covering.{allKnow, levelOf}
 use Rattle.policy.specs.MergeLaws.{Every}
 use Rattle.policy.specs.Merging.{union}
-use Rattle.policy.specs.Policy.{Policy, kindOf, isSetAt, sideOf, settingOf, rolesIn}
+use Rattle.policy.specs.Policy.{Policy, settingOf, rolesIn}
 use Rattle.policy.specs.PolicyLaws.{lawful}
 use Rattle.policy.specs.Roles.{classOf}
-use Rattle.policy.specs.Rules.{own, Which, Setting, Block, attrsOf, ownAt, sameBlock, user, resource, conjunct}
+use Rattle.policy.specs.Rules.{Which, Setting, Block, attrsOf, ownAt, sameBlock, user, resource, conjunct}
 use Rattle.policy.specs.Thinning.{ruleCost}
 use Rattle.mine_theory.specs.Lines.PartLinesLaws.{seats-sorted}
 use Rattle.mine_theory.specs.Lines.RuleBytesLaws.{parts-bytes, placeBytes, rule-bytes, placeCost, rule-cost}
@@ -36,7 +36,7 @@ use Rattle.sets.specs.SetLaws.{bit-mask}
 use Rattle.sets.specs.Sets.{bit, maskOf, size}
 use Rattle.sets.specs.Sorted.{sort}
 use Rattle.sets.specs.SortedLaws.{numbers}
-use Rattle.sets.specs.TestLaws.{and-l, and-r, test, keep-in, keep-out, from-in, from-out, upTo-out, elem-in, elem-out, map-in, map-out}
+use Rattle.sets.specs.TestLaws.{and-l, and-r, keep-in, keep-out, from-in, from-out, upTo-out, elem-in, elem-out, map-in, map-out}
 use Rattle.sets.specs.Tests.{Is, iff, _isIn_, each, from, upTo, elem, sum}
 use Rattle.mine_seats.specs.Seats.{wordsAt}
 use Rattle.mine_groups.specs.Scratch.{ShowsGroups}
@@ -44,7 +44,7 @@ use Rattle.mine_groups.specs.SeatGroups.{seatPart, seatBlock, seatRule, seatLin
 use Rattle.mine_theory.specs.Words.Flags.{hasAt, placesGrant, thinnedAt, thinnedTo, keptPlaces}
 use Rattle.mine_theory.specs.Words.WordLaws.{roomy}
 use Rattle.mine_theory.specs.Words.Words.{Words, membersOf, wordsOf, spans}
-use Rattle.write_theory.specs.RuleLists.{setPlace, listedAt, classAt, inGroup, partsAt, classesAt, placeCostIn, ruleCostIn}
+use Rattle.write_theory.specs.RuleLists.{listedAt, classAt, inGroup, partsAt, classesAt, placeCostIn, ruleCostIn}
 use Rattle.write_theory.specs.RuleTable.{keptAs, placeBytesIn, kindBytesIn, atomBytesAt, atomBytesIn, roleBytesIn, partBytesIn, ruleBytesIn}
 use Rattle.mine_matches.specs.ValueMeansLaws.{valuesIn, least-means, values-place, members-valued}
 use Rattle.grant_listed.specs.Values.{listsLeast, listedOf}
@@ -80,24 +80,6 @@ lists-same : (w : Which) (a : ℕ) (xs ys : List ℕ) → conjunct w a xs ≡ co
 lists-same w a xs ys e = cc
 
 module _ (F : Policy) (Z : Sized F) where
-  -- the place is one of sets where the policy says so
-  pub set-means : (i : ℕ) → i < 14 → setPlace (recordOf F .kinds) i ≡ settingOf F .side (placeSide i) .isSet (placeAttribute i)
-  unfolding setPlace recordOf recordWith settingOf sideOf isSetAt
-  set-means i hi = test (ltb i 7)
-      (λ h. let l = ltb-true i 7 h in
-      let e : i % 7 ≡ i = omega arith in
-      let d : i / 7 ≡ 0 = omega arith in
-      rw (h, e, d) (test (eqb i 6)
-      (λ q. rw q refl)
-      (λ q. rw (q, ne-eqb i 13 (λ z. omega arith), ne-eqb i own (λ z. omega arith), side-kinds F 0 (omega arith)) (bit-mask 64 (kindOf (F .table user)) i (omega arith)))))
-      (λ h. let l = ltb-false i 7 h in
-      let e : i % 7 ≡ i - 7 = omega arith in
-      let d : i / 7 ≡ 1 = omega arith in
-      rw (h, e, d, ne-eqb i 6 (λ z. omega arith)) (test (eqb i 13)
-      (λ q. let x = eqb-true i 13 q in rw (q, eq-eqb (i - 7) 6 (omega arith)) refl)
-      (λ q. let x = eqb-false i 13 q in
-      rw (q, ne-eqb (i - 7) 6 (λ z. omega arith), ne-eqb (i - 7) own (λ z. omega arith), side-kinds F 1 (omega arith)) (bit-mask 64 (kindOf (F .table resource)) (i - 7) (omega arith)))))
-
   module _ (t : List ℕ) (s : Seats (List ℕ)) (shows : ShowsGroups F t s) (head : ℕ) (low : head < roleCells) (alive : Is (s .alive head)) (kept : ℕ)
       (k : kept ≡ keptPlaces (settingOf F) (wordsAt t head) (levelOf (settingOf F) (union (settingOf F) (seatBlock F) (s .group head)))) where
     -- the triples of the group, and its words
@@ -132,7 +114,7 @@ module _ (F : Policy) (Z : Sized F) where
     unfolding placeBytesIn keptAs placeBytes
     place-written w set j h =
         go (bit kept (kindPlace w j)) (setPlace (recordOf F .kinds) (kindPlace w j)) (settingOf F .side w .isSet (placeAttribute (kindPlace w j)))
-        (set-means (kindPlace w j) (place-below w j h) ∙ ap (λ (x : Which). settingOf F .side x .isSet (placeAttribute (kindPlace w j))) (place-side w j h))
+        (set-means F (kindPlace w j) (place-below w j h) ∙ ap (λ (x : Which). settingOf F .side x .isSet (placeAttribute (kindPlace w j))) (place-side w j h))
         (λ b. ap (each (valueBytes w set (placeAttribute (kindPlace w j)))) (listed-written (kindPlace w j) (place-below w j h) b))
       where
         go : (b x y : Bool) {l m : List ℕ} → x ≡ y → (Is b → l ≡ m) → cond (b && iff x set) l [] ≡ cond (b && iff y set) m []
@@ -196,7 +178,7 @@ module _ (F : Policy) (Z : Sized F) where
 
     cost-written : (i : ℕ) → i < 14 → placeCostIn (distinctIn F) (havingIn F) (insideIn F) (recordOf F .kinds) t head kept i ≡ placeCost (settingOf F) (wordsOf (settingOf F) block) kept i
     unfolding placeCostIn placeCost
-    cost-written i h = go (bit kept i) _ _ (set-means i h) (listed-written i h)
+    cost-written i h = go (bit kept i) _ _ (set-means F i h) (listed-written i h)
       where
         go : (b x y : Bool) {l m : List ℕ} → x ≡ y → (Is b → l ≡ m) → cond b (cond x (sum size l) (length l)) 0 ≡ cond b (cond y (sum size m) (length m)) 0
         go true x y e f = ap₂ (λ (z : Bool) (n : List ℕ). cond z (sum size n) (length n)) e (f refl)
