@@ -10,10 +10,11 @@ use Rattle.examples.specs.Hex.{noByte, spelt, hex}
 use Rattle.files.specs.Answer.{told}
 use Rattle.files.specs.Calls.{Verdict, countValues, yesNo, verdictNumber, verdictValues, mineAnswer, mineOutput, roleQuestion, readBoth, ruleQuestion, judge, shownPlace, shownPart, shownByte, circleAnswer, circleOutput}
 use Rattle.files.specs.RoleFile.{readRoles}
-use Rattle.files.specs.RuleFile.{Lines, ruleIn}
+use Rattle.files.specs.RuleFile.{Lines, valuesIn, ruleIn}
 use Rattle.policy.specs.Policy.{Policy, settingOf}
-use Rattle.policy.specs.Rules.{Rule, atom, conjunct, ofSection, ruleLevel, user, resource}
-use Rattle.sets.specs.Tests.{keep}
+use Rattle.policy.specs.Rules.{Which, Rule, atom, conjunct, ofSection, ruleLevel, user, resource}
+use Rattle.policy.specs.Satisfying.{Expression, satisfiesSingles, satisfiesSets, satisfies}
+use Rattle.sets.specs.Tests.{keep, each}
 
 -- a row: what it holds, what the definitions say, and what 01 says
 pub record Row : Type 0 where
@@ -77,6 +78,13 @@ circling file room = told (λ (c : List ℕ). c) (circleAnswer 2 file room)
 
 abbrev pub circled : List ℕ → ℕ → List ℕ
 circled file room = circleOutput 2 file (memory room)
+
+-- the test of a user or a resource against each rule of a rule file: the half of the single attributes, that of the sets, and the whole
+abbrev pub halves : Policy → Which → Expression → ℕ → List ℕ
+halves F w e x = yesNo (satisfiesSingles F w e x) ++ yesNo (satisfiesSets F w e x) ++ yesNo (satisfies F w e x)
+
+abbrev pub satisfying : List ℕ → List ℕ → Which → ℕ → List ℕ
+satisfying file rules w x = told (λ (p : Policy × List Lines). each (λ ls. halves (p .0) w (valuesIn (settingOf (p .0)) ls w) x) (p .1)) (readBoth 2 file rules)
 
 -- the levels of the rules of a rule file
 abbrev pub levels : List ℕ → List ℕ → List ℕ
@@ -411,6 +419,25 @@ threeRoles = hex "01 00 00 00 03 07 02 01 07 01 00 07 00 02 0F"
 abbrev pub twoCircles : List ℕ
 twoCircles = hex "01 00 00 00 05 07 04 02 07 02 04 07 01 03 07 03 01 07 00 01 07 01 02 07 02 00 0F"
 
+-- ---- satisfaction (request 4)
+
+-- users 0 to 3 have 5 and {1, 2}, 5 and {2}, 7 and {1, 2}, nothing; resources 0 to 3 have 5 and {1}, 5 and {1, 2}, 7 and {1}, nothing;
+-- user 0 is in role 0, user 1 in role 1
+abbrev pub bothHalves : List ℕ
+bothHalves = hex "01 04 04 01 02 02 00 00 02 00 01 02 01 00 02 01 01 03 00 00 00 05 00 04 00 01 00 06 00 00 00 00 00 00 00 03 00 00 01 05 00 04 00 01 01 04 00 00 00 00 00 00 00 03 00 00 02 07 00 04 00 01 02 06 00 00 00 00 00 00 00 03 01 00 00 05 00 04 01 01 00 02 00 00 00 00 00 00 00 03 01 00 01 05 00 04 01 01 01 06 00 00 00 00 00 00 00 03 01 00 02 07 00 04 01 01 02 02 00 00 00 00 00 00 00 05 00 00 05 01 01 06 00 00 00 0F"
+
+-- user conjuncts {5} and {{1}}, resource conjuncts {5} and {{1}}
+abbrev pub asksBoth : List ℕ
+asksBoth = hex "21 22 00 05 00 23 01 02 00 00 00 00 00 00 00 24 00 05 00 25 01 02 00 00 00 00 00 00 00 26 01 00 28 00 01 00 2F"
+
+-- user conjuncts {5, 7} and {{1}, {2}}
+abbrev pub asksOneOfTwo : List ℕ
+asksOneOfTwo = hex "21 22 00 05 00 22 00 07 00 23 01 02 00 00 00 00 00 00 00 23 01 04 00 00 00 00 00 00 00 26 01 00 28 00 01 00 2F"
+
+-- a user conjunct {{0}} and a resource conjunct {0}, both of 255
+abbrev pub asks255 : List ℕ
+asks255 = hex "21 23 FF 01 00 00 00 00 00 00 00 24 FF 00 00 26 01 00 28 00 01 00 2F"
+
 -- ---- the table
 
 abbrev pub table : List Row
@@ -734,6 +761,32 @@ table =
     ∷ row "circle: memory for one" (circled twoCircles 1) (hex "AA")
     ∷ row "circle: memory beside another refusal" (circled (hex "01 00 00 00 01 07 00 00 0F 00") 2) (hex "AA AA")
     ∷ row "circle: memory beside an accepted file" (circled fileA 2) (hex "AA AA")
+    -- ---- request 4: "satisfaction for all single attributes first and for set attributes after", "and the whole is yes exactly when both are"
+    ∷ row "satisfies: a user, both halves" (satisfying bothHalves asksBoth user 0) (0 ∷ 1 ∷ 1 ∷ 1 ∷ [])
+    ∷ row "satisfies: a user, the single met and the set not" (satisfying bothHalves asksBoth user 1) (0 ∷ 1 ∷ 0 ∷ 0 ∷ [])
+    ∷ row "satisfies: a user, the set met and the single not" (satisfying bothHalves asksBoth user 2) (0 ∷ 0 ∷ 1 ∷ 0 ∷ [])
+    ∷ row "satisfies: a user of whom nothing is known" (satisfying bothHalves asksBoth user 3) (0 ∷ 0 ∷ 0 ∷ 0 ∷ [])
+    ∷ row "satisfies: a resource, both halves" (satisfying bothHalves asksBoth resource 0) (0 ∷ 1 ∷ 1 ∷ 1 ∷ [])
+    ∷ row "satisfies: a resource, the single met and the set not" (satisfying bothHalves asksBoth resource 1) (0 ∷ 1 ∷ 0 ∷ 0 ∷ [])
+    ∷ row "satisfies: a resource, the set met and the single not" (satisfying bothHalves asksBoth resource 2) (0 ∷ 0 ∷ 1 ∷ 0 ∷ [])
+    ∷ row "satisfies: a resource of which nothing is known" (satisfying bothHalves asksBoth resource 3) (0 ∷ 0 ∷ 0 ∷ 0 ∷ [])
+    -- "∃v ∈ e(a)", and e(a) = ⊤
+    ∷ row "satisfies: one of two values and of two sets" (satisfying bothHalves asksOneOfTwo user 1) (0 ∷ 1 ∷ 1 ∷ 1 ∷ [])
+    ∷ row "satisfies: no conjunct" (satisfying bothHalves anybody user 3) (0 ∷ 1 ∷ 1 ∷ 1 ∷ [])
+    -- "255 being a set attribute": the users'
+    ∷ row "satisfies: the users' 255 alone, met" (satisfying bothHalves asks255 user 0) (0 ∷ 1 ∷ 1 ∷ 1 ∷ [])
+    ∷ row "satisfies: the users' 255 alone, not met" (satisfying bothHalves asks255 user 1) (0 ∷ 1 ∷ 0 ∷ 0 ∷ [])
+    ∷ row "satisfies: the resources' 255 alone, met" (satisfying bothHalves asks255 resource 0) (0 ∷ 1 ∷ 1 ∷ 1 ∷ [])
+    ∷ row "satisfies: the resources' 255 alone, not met" (satisfying bothHalves asks255 resource 1) (0 ∷ 0 ∷ 1 ∷ 0 ∷ [])
+    -- the rule question says the same
+    ∷ row "a rule that the user and the resource satisfy" (ruleAnswer bothHalves asksBoth 0 0 0) (0 ∷ 1 ∷ [])
+    ∷ row "a rule that the user satisfies in one half: the singles" (ruleAnswer bothHalves asksBoth 1 0 0) (0 ∷ 0 ∷ [])
+    ∷ row "a rule that the user satisfies in one half: the sets" (ruleAnswer bothHalves asksBoth 2 0 0) (0 ∷ 0 ∷ [])
+    ∷ row "a rule that the resource satisfies in one half: the singles" (ruleAnswer bothHalves asksBoth 0 1 0) (0 ∷ 0 ∷ [])
+    ∷ row "a rule that the resource satisfies in one half: the sets" (ruleAnswer bothHalves asksBoth 0 2 0) (0 ∷ 0 ∷ [])
+    ∷ row "both 255s, met" (ruleAnswer bothHalves asks255 0 0 0) (0 ∷ 1 ∷ [])
+    ∷ row "both 255s, the users' not" (ruleAnswer bothHalves asks255 1 0 0) (0 ∷ 0 ∷ [])
+    ∷ row "both 255s, the resources' not" (ruleAnswer bothHalves asks255 0 1 0) (0 ∷ 0 ∷ [])
     -- ---- the bytes of these rows: what is no digit, half a byte, and two bytes without a blank are no bytes
     ∷ row "hex: digits" (hex "00 09 0A 0F 10 F0 FF") (0 ∷ 9 ∷ 10 ∷ 15 ∷ 16 ∷ 240 ∷ 255 ∷ [])
     ∷ row "hex: no digit" (spelt "0G 0a") (noByte ∷ noByte ∷ [])

@@ -1,6 +1,7 @@
 pub mod Rules
 pub mod Roles
 pub mod Policy
+pub mod Satisfying
 pub mod Circles
 pub mod CircleSearch
 pub mod Covering

@@ -1,2 +1,3 @@
 pub mod Satisfaction
+pub mod HalvesLaws
 pub mod SatisfactionLaws
