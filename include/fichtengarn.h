@@ -178,13 +178,24 @@ size_t fichtengarn_circle(const uint8_t *file, size_t file_length,
                           uint8_t *roles, size_t roles_length,
                           size_t *count);
 
+/*
+ * The weights of the cost, each 0 to 65,535: every number of the type is one, and none is refused.
+ * Passed by value. With {1, 1, 1, 1} the cost is 01's.
+ */
+typedef struct {
+    uint16_t users;      /* w1: a value or an element in conditions on users, 22 and 23 */
+    uint16_t resources;  /* w2: the same in conditions on resources, 24 and 25 */
+    uint16_t operations; /* w3: an operation of a rule, 26 */
+    uint16_t atoms;      /* w4: an atom, 27 */
+} fichtengarn_weights;
+
 /* The numbers that mining stores. */
 enum {
     FICHTENGARN_LENGTH = 0, /* bytes of the rule file */
     FICHTENGARN_PARTS = 1,  /* parts of the role file: parts = rules + merges */
     FICHTENGARN_RULES = 2,  /* rules written */
     FICHTENGARN_MERGES = 3, /* merges made */
-    FICHTENGARN_COST = 4    /* cost of the rules as written */
+    FICHTENGARN_COST = 4    /* cost of the rules as written, by the weights of the call */
 };
 
 /*
@@ -193,6 +204,12 @@ enum {
  * Returns 0, or 8, then 1 to 7, then 9. After 0 the first counts[FICHTENGARN_LENGTH] bytes of the
  * output are the rule file, and the others are as they were; all five counts are stored. After a
  * refusal neither is touched, nor is it by 9: the length is known before a byte is written.
+ *
+ * The cost is, over all rules written, weights.users times the values and the elements of sets that
+ * the rule's conditions on users list, and weights.resources times those of its conditions on
+ * resources, the roles and resource numbers of attribute 255 among them; weights.operations times its
+ * operations; and weights.atoms times its atoms. It is exact: it never wraps. Nothing is chosen by
+ * it: answer, bytes and the other counts are the same with any weights.
  *
  * The rule file is read without refusal beside its role file. Its rules grant a triple exactly when
  * the roles do. Every part is listed under exactly one rule, which grants what its parts do. No rule
@@ -203,9 +220,10 @@ enum {
  * Scratch may hold anything before, and holds anything after. Stack: 110 KB.
  */
 size_t fichtengarn_mine(const uint8_t *file, size_t file_length,
+                        fichtengarn_weights weights,
                         uint64_t *scratch, size_t scratch_words,
                         uint8_t *output, size_t output_length,
-                        size_t counts[5]);
+                        uint64_t counts[5]);
 
 #ifdef __cplusplus
 }

@@ -9,8 +9,8 @@ text, as in a must-fail edit, and the name of the row that it fails.
 `rt must-fail` edits one crate and proves that crate alone, and the definitions stand in crates
 below the table's. So the table and the definitions that it rests on are copied to
 target/meanings. There the table is proved as it stands; then, with each edit in turn, that the
-row fails. What the table does not rest on, code and laws, is not copied: many laws are true of
-a wrong meaning too, and none is to refuse it in the table's place. Each processor has a copy of
+row fails. What the table does not rest on, laws and code without a type that it speaks of, is not
+copied: many laws are true of a wrong meaning too, and none is to refuse it in the table's place. Each processor has a copy of
 its own and tries every so many edits.
 """
 import concurrent.futures
@@ -38,6 +38,9 @@ use Rattle.sets.specs.Tests.{any}
 
 # `use Rattle.policy.specs.Rules.{..}`, and inside crate policy `use Rattle.policy.specs.Rules.{..}`
 USE = re.compile(r"^use Rattle·(\w+)(?:·specs)?\.specs\.(\w+)\.", re.MULTILINE)
+
+# `use Rattle.policy.specs.declared.Weights.{..}`: a type of the crate's code
+TYPES = "declared"
 
 
 def fail(why):
@@ -67,23 +70,28 @@ def source(crate, module):
 
 
 def rests_on(module, found):
-    """The module, those that it uses, those that they use, and so on."""
+    """The module, those that it uses, those that they use, and so on. The types of a crate's code are one module."""
     if module not in found:
         found.add(module)
-        for used in USE.findall(read(ROOT, source(*module))):
+        for used in USE.findall(read(ROOT, source(*module))) if module[1] != TYPES else []:
             rests_on(used, found)
     return found
+
+
+def code(crate, modules):
+    """The code of a crate whose types the definitions use."""
+    return read(ROOT, "crates", crate, "src", "lib.rt") if (crate, TYPES) in modules else "// Definitions only.\n"
 
 
 def copy_crates():
     shutil.rmtree(COPY, ignore_errors=True)
     modules = rests_on(PROOF, set())
     for crate in CRATES:
-        names = sorted(name for owner, name in modules if owner == crate)
+        names = sorted(name for owner, name in modules if owner == crate and name != TYPES)
         for name in names:
             write(read(ROOT, source(crate, name)), COPY, source(crate, name))
         write("".join(f"pub mod {name}\n" for name in names), COPY, source(crate, "Lib"))
-        write("// Definitions only.\n", COPY, "crates", crate, "src", "lib.rt")
+        write(code(crate, modules), COPY, "crates", crate, "src", "lib.rt")
     order = [f"{crate}: {' '.join(reversed(CRATES[:at]))}" for at, crate in enumerate(CRATES)]
     write("".join(f"{line}\n" for line in order), COPY, "crates.txt")
 

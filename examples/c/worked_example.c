@@ -8,6 +8,7 @@
  * All memory is set aside beforehand, as firmware would do it: 64 KB for the role file, 64 KB for
  * the rules, 32 KB of scratch.
  */
+#include <inttypes.h>
 #include <stdio.h>
 
 #include "fichtengarn.h"
@@ -19,6 +20,10 @@ static uint64_t scratch[FICHTENGARN_SCRATCH_WORDS];
 
 /* Four roles, 1 the junior of 3 and 3 of 1. */
 static const uint8_t circular[] = {0x01, 0, 0, 0, 4, 0x07, 1, 3, 0x07, 3, 1, 0x0F};
+
+/* 01's weights; and an atom that costs as much as a hundred values, an operation as much as seven. */
+static const fichtengarn_weights ones = {1, 1, 1, 1};
+static const fichtengarn_weights others = {.users = 1, .resources = 1, .operations = 7, .atoms = 100};
 
 /* Prints what a call came to; returns whether it was accepted. */
 static int told(const char *call, size_t refusal)
@@ -92,17 +97,28 @@ static void circle(const uint8_t *roles, size_t roles_length)
     printf("\n");
 }
 
+/* Mines with the memory set aside for it. */
+static size_t mine(size_t file_length, fichtengarn_weights weights, uint64_t counts[5])
+{
+    return fichtengarn_mine(file, file_length, weights, scratch, FICHTENGARN_SCRATCH_WORDS, rules, sizeof rules, counts);
+}
+
 static void work(size_t file_length)
 {
-    size_t counts[5], verdict[4], rules_length, count;
+    uint64_t counts[5];
+    size_t verdict[4], rules_length, count;
 
     if (!told("read roles", fichtengarn_read_roles(file, file_length)))
         return;
-    if (!told("mine", fichtengarn_mine(file, file_length, scratch, FICHTENGARN_SCRATCH_WORDS, rules, sizeof rules, counts)))
+    if (!told("mine", mine(file_length, ones, counts)))
         return;
     rules_length = counts[FICHTENGARN_LENGTH];
-    printf("length %zu parts %zu rules %zu merges %zu cost %zu\n", rules_length, counts[FICHTENGARN_PARTS],
-           counts[FICHTENGARN_RULES], counts[FICHTENGARN_MERGES], counts[FICHTENGARN_COST]);
+    printf("length %" PRIu64 " parts %" PRIu64 " rules %" PRIu64 " merges %" PRIu64 " cost %" PRIu64 "\n",
+           counts[FICHTENGARN_LENGTH], counts[FICHTENGARN_PARTS], counts[FICHTENGARN_RULES],
+           counts[FICHTENGARN_MERGES], counts[FICHTENGARN_COST]);
+    if (!told("mine", mine(file_length, others, counts)))
+        return;
+    printf("cost %" PRIu64 "\n", counts[FICHTENGARN_COST]);
     if (!told("read rules", fichtengarn_read_rules(file, file_length, rules, rules_length, &count)))
         return;
     printf("rules %zu\n", count);

@@ -4,7 +4,10 @@
 //!
 //!     cargo run --example worked_example FILE
 
-use fichtengarn::{Refusal, Triple, Verdict};
+use fichtengarn::{Refusal, Triple, Verdict, Weights};
+
+/// An atom costs as much as a hundred values, an operation as much as seven.
+const WEIGHTS: Weights = Weights { users: 1, resources: 1, operations: 7, atoms: 100 };
 
 /// Four roles, 1 the junior of 3 and 3 of 1.
 const CIRCULAR: [u8; 12] = [0x01, 0, 0, 0, 4, 0x07, 1, 3, 0x07, 3, 1, 0x0F];
@@ -74,11 +77,13 @@ fn work(file: &[u8]) -> Option<()> {
     let mut scratch = [0; fichtengarn::SCRATCH_WORDS];
     let mut output = [0; 65536];
     told("read roles", fichtengarn::read_roles(file))?;
-    let mined = told("mine", fichtengarn::mine(file, &mut scratch, &mut output))?;
+    let mined = told("mine", fichtengarn::mine(file, Weights::ONES, &mut scratch, &mut output))?;
     println!(
         "length {} parts {} rules {} merges {} cost {}",
         mined.length, mined.parts, mined.rules, mined.merges, mined.cost
     );
+    let weighed = told("mine", fichtengarn::mine(file, WEIGHTS, &mut scratch, &mut output))?;
+    println!("cost {}", weighed.cost);
     let rules = &output[..mined.length];
     let count = told("read rules", fichtengarn::read_rules(file, rules))?;
     println!("rules {count}");

@@ -8,6 +8,18 @@ pub struct Part {
     pub length: usize,
 }
 
+/// What counts how much in the cost of rules: the four weights of 000, each 0 to 65,535.
+#[repr(C)]
+#[derive(Clone, Copy, PartialEq, Eq, Debug)]
+pub struct Weights {
+    /// A value or an element in conditions on users.
+    pub users: u16,
+    /// The same in conditions on resources.
+    pub resources: u16,
+    pub operations: u16,
+    pub atoms: u16,
+}
+
 unsafe extern "C" {
     pub fn fichtengarn_read_roles(file: *const u8, file_length: usize) -> usize;
 
@@ -67,10 +79,11 @@ unsafe extern "C" {
     pub fn fichtengarn_mine(
         file: *const u8,
         file_length: usize,
+        weights: Weights,
         scratch: *mut u64,
         scratch_words: usize,
         output: *mut u8,
         output_length: usize,
-        counts: *mut [usize; 5],
+        counts: *mut [u64; 5],
     ) -> usize;
 }

@@ -11,11 +11,18 @@
 
 pub mod interface;
 
+pub use interface::Weights;
+
 /// The words of scratch that mining asks for.
 pub const SCRATCH_WORDS: usize = 4096;
 
 /// The most roles that a role file may have.
 pub const MOST_ROLES: usize = 32;
+
+impl Weights {
+    /// 01's weights: every value, element, operation and atom counts once.
+    pub const ONES: Weights = Weights { users: 1, resources: 1, operations: 1, atoms: 1 };
+}
 
 /// The causes for which a call may refuse, with 01's numbers.
 #[derive(Clone, Copy, PartialEq, Eq, Debug)]
@@ -107,7 +114,8 @@ pub struct Mined {
     pub parts: usize,
     pub rules: usize,
     pub merges: usize,
-    pub cost: usize,
+    /// What the rules cost by the weights of the call. It never wraps.
+    pub cost: u64,
 }
 
 /// A call's answer: 0, or the number of a refusal.
@@ -228,14 +236,21 @@ pub fn circle(file: &[u8], roles: &mut [u8]) -> Result<usize, Refusal> {
     Ok(count[0])
 }
 
-/// Writes the rules of a role file to the front of the output. A refusal leaves the output as it
-/// was. Scratch may hold anything before and after.
-pub fn mine(file: &[u8], scratch: &mut [u64], output: &mut [u8]) -> Result<Mined, Refusal> {
+/// Writes the rules of a role file to the front of the output, and says what they cost by these
+/// weights; nothing else depends on them. A refusal leaves the output as it was. Scratch may hold
+/// anything before and after.
+pub fn mine(
+    file: &[u8],
+    weights: Weights,
+    scratch: &mut [u64],
+    output: &mut [u8],
+) -> Result<Mined, Refusal> {
     let mut counts = [0; 5];
     told(unsafe {
         interface::fichtengarn_mine(
             file.as_ptr(),
             file.len(),
+            weights,
             scratch.as_mut_ptr(),
             scratch.len(),
             output.as_mut_ptr(),
@@ -244,5 +259,6 @@ pub fn mine(file: &[u8], scratch: &mut [u64], output: &mut [u8]) -> Result<Mined
         )
     })?;
     let [length, parts, rules, merges, cost] = counts;
+    let [length, parts, rules, merges] = [length, parts, rules, merges].map(|count| count as usize);
     Ok(Mined { length, parts, rules, merges, cost })
 }

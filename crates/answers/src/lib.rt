@@ -92,7 +92,8 @@ pub fn store_judgement(judgement: Judgement, verdict: &mut [usize]) -> usize
     }
 }
 
-pub fn store_mined(mined: Mined, counts: &mut [usize]) -> usize
+// In words of 64 bits, since the cost has so many.
+pub fn store_mined(mined: Mined, counts: &mut [u64]) -> usize
     requires { ⌜ length (now counts) ≡ 5 ⌝ }
     ensures { λ r. ⌜
         (r ≡ returned (minedNumbers mined))
@@ -107,10 +108,10 @@ pub fn store_mined(mined: Mined, counts: &mut [usize]) -> usize
             merges,
             cost,
         } => {
-            counts[0] = length;
-            counts[1] = parts;
-            counts[2] = rules;
-            counts[3] = merges;
+            counts[0] = length as u64;
+            counts[1] = parts as u64;
+            counts[2] = rules as u64;
+            counts[3] = merges as u64;
             counts[4] = cost;
             0
         }

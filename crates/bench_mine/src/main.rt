@@ -1,10 +1,11 @@
-// Mines the role file on standard input as many times as the two bytes in front of it say, low byte first, and prints a checksum of the
-// answers. The program of bench/mine does the same with a second miner, and the two are measured; beside the proofs it mines example A
+// Mines the role file on standard input by four ones, as many times as the two bytes in front of it say, low byte first, and prints a checksum
+// of the answers. The program of bench/mine does the same with a second miner, and the two are measured; beside the proofs it mines example A
 // of 01, a hundred times.
 ghost use lib.ListN.{length};
 ghost use mathlib.Core.Path.{_≡_};
 ghost use Rattle.files.specs.Answer.{told};
 ghost use Rattle.files.specs.Calls.{countValues, mineAnswer};
+ghost use Rattle.policy.specs.Cost.{fourOnes};
 ghost use Rattle.write_answer.specs.MinedNumbers.{minedNumbers};
 ghost use Rattle.bench_mine.specs.MineChecksum.{weightOf, sampleOf, total};
 use write_answer::Mined;
@@ -22,7 +23,7 @@ fn weight(mined: Mined) -> u64
             merges,
             cost,
         } => {
-            let of_file = std::num::wrapping_add_u64(length as u64, cost as u64);
+            let of_file = std::num::wrapping_add_u64(length as u64, cost);
             let of_groups = std::num::wrapping_add_u64(rules as u64, merges as u64);
             std::num::wrapping_add_u64(of_file, std::num::wrapping_add_u64(parts as u64, of_groups))
         }
@@ -35,10 +36,11 @@ fn sample(file: &[u8], scratch: &mut [u64], out: &mut [u8], turn: usize) -> u64
         r
         ≡ sampleOf
         (told countValues
-        (mineAnswer 2 (now (file .entry)) (length (now (scratch .entry))) (length (now (out .entry)))))
+        (mineAnswer 2 (now (file .entry)) fourOnes (length (now (scratch .entry))) (length (now (out .entry)))))
         turn ⌝ }
 {
-    std::num::wrapping_add_u64(weight(mining::mine(file, scratch, out)), turn as u64)
+    let mined = mining::mine(file, mining::ones(), scratch, out);
+    std::num::wrapping_add_u64(weight(mined), turn as u64)
 }
 
 fn checksum(file: &[u8], scratch: &mut [u64], out: &mut [u8], turns: usize) -> u64
@@ -47,7 +49,7 @@ fn checksum(file: &[u8], scratch: &mut [u64], out: &mut [u8], turns: usize) -> u
         ≡ total
         (sampleOf
         (told countValues
-        (mineAnswer 2 (now (file .entry)) (length (now (scratch .entry)))
+        (mineAnswer 2 (now (file .entry)) fourOnes (length (now (scratch .entry)))
         (length (now (out .entry))))))
         turns ⌝ }
 {

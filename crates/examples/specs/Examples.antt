@@ -11,6 +11,7 @@ use Rattle.files.specs.Answer.{told}
 use Rattle.files.specs.Calls.{Verdict, countValues, yesNo, verdictNumber, verdictValues, mineAnswer, mineOutput, roleQuestion, readBoth, ruleQuestion, judge, shownPlace, shownPart, shownByte, circleAnswer, circleOutput}
 use Rattle.files.specs.RoleFile.{readRoles}
 use Rattle.files.specs.RuleFile.{Lines, valuesIn, ruleIn}
+use Rattle.policy.specs.Cost.{fourOnes}
 use Rattle.policy.specs.Policy.{Policy, settingOf}
 use Rattle.policy.specs.Rules.{Which, Rule, atom, conjunct, ofSection, ruleLevel, user, resource}
 use Rattle.policy.specs.Satisfying.{Expression, satisfiesSingles, satisfiesSets, satisfies}
@@ -42,9 +43,13 @@ abbrev pub memory : ℕ → List ℕ
 memory zero = []
 memory (suc n) = 0xAA ∷ memory n
 
--- mining a file with so many words of scratch and bytes of output: length, parts, rules, merges, cost
+-- mining a file with so many words of scratch and bytes of output: length, parts, rules, merges, cost by four ones
 abbrev pub mining : List ℕ → ℕ → ℕ → List ℕ
-mining file scratch room = told countValues (mineAnswer 2 file scratch room)
+mining file scratch room = told countValues (mineAnswer 2 file fourOnes scratch room)
+
+-- the same by the weights w1 to w4, with scratch enough
+abbrev pub weighing : (w1 w2 w3 w4 : ℕ) → List ℕ → ℕ → List ℕ
+weighing w1 w2 w3 w4 file room = told countValues (mineAnswer 2 file (record { users = w1; resources = w2; operations = w3; atoms = w4 }) 4096 room)
 
 -- the bytes of the output memory after that, with scratch enough
 abbrev pub output : List ℕ → ℕ → List ℕ
@@ -190,6 +195,18 @@ userSets = hex "01 03 01 01 01 02 00 01 04 00 00 00 06 00 00 00 00 00 00 00 04 0
 -- resources 0 and 1 have {1, 2} and {3}
 abbrev pub resourceSets : List ℕ
 resourceSets = hex "01 01 03 01 01 02 01 01 04 01 00 00 06 00 00 00 00 00 00 00 04 01 00 01 08 00 00 00 00 00 00 00 05 00 00 06 00 00 00 06 00 01 00 0F"
+
+-- ---- role files with weights (request 5)
+
+-- A with four operations, and with a second attribute a side, which a third user and resource have no value of: users 0 and 1 have the sets
+-- {1, 2} and {3}, resources 0 and 1 have 3 and 4. So the rule has three elements of users' sets, two values of resources, four operations and an
+-- atom
+abbrev pub fourSums : List ℕ
+fourSums =
+    hex "01 03 03 04 02 02 00 00 02 00 01 02 01 00 02 01 00"
+    ++ hex "03 00 00 00 05 00 03 00 00 01 07 00 03 00 00 02 05 00 04 00 01 00 06 00 00 00 00 00 00 00 04 00 01 01 08 00 00 00 00 00 00 00"
+    ++ hex "03 01 00 00 05 00 03 01 00 01 07 00 03 01 00 02 05 00 03 01 01 00 03 00 03 01 01 01 04 00 05 00 00 05 01 01"
+    ++ hex "06 00 00 00 06 00 00 01 06 00 00 02 06 00 00 03 06 01 01 00 06 01 01 01 06 01 01 02 06 01 01 03 0F"
 
 -- ---- role files with domains (request 1): A with 08 in the place of 02
 
@@ -787,6 +804,24 @@ table =
     ∷ row "both 255s, met" (ruleAnswer bothHalves asks255 0 0 0) (0 ∷ 1 ∷ [])
     ∷ row "both 255s, the users' not" (ruleAnswer bothHalves asks255 1 0 0) (0 ∷ 0 ∷ [])
     ∷ row "both 255s, the resources' not" (ruleAnswer bothHalves asks255 0 1 0) (0 ∷ 0 ∷ [])
+    -- ---- request 5: "w1 for user conjuncts, w2 for resource conjuncts, w3 for operations, w4 for atoms, each 0 to 65,535"
+    ∷ row "weights: A by 1, 1, 7 and 100" (weighing 1 1 7 100 fileA 16) (0 ∷ 16 ∷ 2 ∷ 1 ∷ 1 ∷ 107 ∷ [])
+    ∷ row "weights: four sums, by ones" (mining fourSums 4096 44) (0 ∷ 44 ∷ 2 ∷ 1 ∷ 1 ∷ 10 ∷ [])
+    ∷ row "weights: four sums, the rule" (output fourSums 44) (hex "21 23 01 06 00 00 00 00 00 00 00 23 01 08 00 00 00 00 00 00 00 24 01 03 00 24 01 04 00 26 0F 00 27 00 00 28 00 0F 00 28 01 0F 00 2F")
+    ∷ row "weights: four sums, w1 alone" (weighing 1 0 0 0 fourSums 44) (0 ∷ 44 ∷ 2 ∷ 1 ∷ 1 ∷ 3 ∷ [])
+    ∷ row "weights: four sums, w2 alone" (weighing 0 1 0 0 fourSums 44) (0 ∷ 44 ∷ 2 ∷ 1 ∷ 1 ∷ 2 ∷ [])
+    ∷ row "weights: four sums, w3 alone" (weighing 0 0 1 0 fourSums 44) (0 ∷ 44 ∷ 2 ∷ 1 ∷ 1 ∷ 4 ∷ [])
+    ∷ row "weights: four sums, w4 alone" (weighing 0 0 0 1 fourSums 44) (0 ∷ 44 ∷ 2 ∷ 1 ∷ 1 ∷ 1 ∷ [])
+    ∷ row "weights: four sums, all 0" (weighing 0 0 0 0 fourSums 44) (0 ∷ 44 ∷ 2 ∷ 1 ∷ 1 ∷ 0 ∷ [])
+    ∷ row "weights: four sums, all 65,535" (weighing 65535 65535 65535 65535 fourSums 44) (0 ∷ 44 ∷ 2 ∷ 1 ∷ 1 ∷ 655350 ∷ [])
+    ∷ row "weights: four sums, each another" (weighing 2 30 400 5000 fourSums 44) (0 ∷ 44 ∷ 2 ∷ 1 ∷ 1 ∷ 6666 ∷ [])
+    -- values and elements, on each side; the 255s' conjuncts are their side's
+    ∷ row "weights: values of users" (weighing 2 30 400 5000 userValues 17) (0 ∷ 17 ∷ 1 ∷ 1 ∷ 0 ∷ 404 ∷ [])
+    ∷ row "weights: values of resources" (weighing 2 30 400 5000 resourceValues 17) (0 ∷ 17 ∷ 1 ∷ 1 ∷ 0 ∷ 460 ∷ [])
+    ∷ row "weights: elements of resource sets" (weighing 2 30 400 5000 resourceSets 29) (0 ∷ 29 ∷ 1 ∷ 1 ∷ 0 ∷ 490 ∷ [])
+    ∷ row "weights: both 255s" (weighing 2 30 400 5000 oneOfTwo 23) (0 ∷ 23 ∷ 1 ∷ 1 ∷ 0 ∷ 432 ∷ [])
+    -- over the rules as written: two of them
+    ∷ row "weights: two rules" (weighing 2 30 400 5000 userDomain 33) (0 ∷ 33 ∷ 2 ∷ 2 ∷ 0 ∷ 864 ∷ [])
     -- ---- the bytes of these rows: what is no digit, half a byte, and two bytes without a blank are no bytes
     ∷ row "hex: digits" (hex "00 09 0A 0F 10 F0 FF") (0 ∷ 9 ∷ 10 ∷ 15 ∷ 16 ∷ 240 ∷ 255 ∷ [])
     ∷ row "hex: no digit" (spelt "0G 0a") (noByte ∷ noByte ∷ [])

@@ -8,6 +8,7 @@ use Rattle.files.specs.RoleFile.{blank, withTable, withKind, withValue, withAss
 use Rattle.files.specs.RuleFile.{valuesIn, conjunctsIn, ruleIn, lists, partsIn, listings, condLines, allLines, linesOf, whole, finished, follows, legal, addLine, obeyRule, encode, encodeAll, ruleFormat, readRules}
 use Rattle.files.specs.RulePart.{ruleStart}
 use Rattle.policy.specs.Circles.{circleIn, circleOf}
+use Rattle.policy.specs.Cost.{singleCost, setCost, atomCost, sideCost, ruleCost}
 use Rattle.policy.specs.Covering.{allKnow, valuesOf, opIn, pairIn, standsIn, everywhere, conjuncts, atomConds, cover, fits, levelOf}
 use Rattle.policy.specs.Merging.{union, mergeable, groups, mergesMade}
 use Rattle.policy.specs.Mined.{partCount, partAt, partBlock, minedGroups, mergeCount, groupBlock, ruleOf}
@@ -15,10 +16,10 @@ use Rattle.policy.specs.Policy.{senior, circular, held, rolesOf, isSetAt, value
 use Rattle.policy.specs.Roles.{alike, leads, isPart, parts, blockOf, classOf, rolesGrant}
 use Rattle.policy.specs.Rules.{meets, attrsOf, holds, grants, allowed, at, ruleLevel, wellFormed, ofSection, sameBlock}
 use Rattle.policy.specs.Satisfying.{singleAttributes, setAttributes, satisfiesSingles, satisfiesSets, satisfies}
-use Rattle.policy.specs.Thinning.{trim, trimCond, grantsJust, thinned, written, singleCost, setCost, atomCost, ruleCost}
+use Rattle.policy.specs.Thinning.{trim, trimCond, grantsJust, thinned, written}
 use Rattle.sets.specs.Lowest.{lowest}
 use Rattle.sets.specs.Sets.{bit, subset, maskOf, size}
 
 pub shown : failing table ≡ []
-unfolding maskOf allKnow valuesOf opIn pairIn standsIn everywhere conjuncts atomConds cover fits levelOf lowest union mergeable groups mergesMade partCount partAt partBlock minedGroups mergeCount groupBlock ruleOf senior circular held rolesOf isSetAt valueAt sideOf settingOf rolesIn alike leads isPart parts blockOf classOf rolesGrant meets attrsOf holds grants allowed at ruleLevel wellFormed ofSection sameBlock bit subset size trim trimCond grantsJust thinned written singleCost setCost atomCost ruleCost triples isTriple rulesGrant partsGrant firstDifference firstStrayRule firstStrayPart verdict minedLines minedBytes minedCounts mayMine mineAnswer mineOutput roleQuestion readBoth ruleQuestion judge blank withTable withKind withValue withAssigned withPermitted withLine takeKind takeValue takeAssignment takePermission takeLine takeSizes obeyRole roleFormat readRoles valuesIn conjunctsIn ruleIn lists partsIn listings condLines linesOf allLines encode encodeAll legal whole finished follows addLine obeyRule ruleFormat readRules ruleStart showAnswer shownPlace shownPart shownByte circleIn circleOf circleAnswer circleOutput readCommands singleAttributes setAttributes satisfiesSingles satisfiesSets satisfies
+unfolding maskOf allKnow valuesOf opIn pairIn standsIn everywhere conjuncts atomConds cover fits levelOf lowest union mergeable groups mergesMade partCount partAt partBlock minedGroups mergeCount groupBlock ruleOf senior circular held rolesOf isSetAt valueAt sideOf settingOf rolesIn alike leads isPart parts blockOf classOf rolesGrant meets attrsOf holds grants allowed at ruleLevel wellFormed ofSection sameBlock bit subset size trim trimCond grantsJust thinned written singleCost setCost atomCost sideCost ruleCost triples isTriple rulesGrant partsGrant firstDifference firstStrayRule firstStrayPart verdict minedLines minedBytes minedCounts mayMine mineAnswer mineOutput roleQuestion readBoth ruleQuestion judge blank withTable withKind withValue withAssigned withPermitted withLine takeKind takeValue takeAssignment takePermission takeLine takeSizes obeyRole roleFormat readRoles valuesIn conjunctsIn ruleIn lists partsIn listings condLines linesOf allLines encode encodeAll legal whole finished follows addLine obeyRule ruleFormat readRules ruleStart showAnswer shownPlace shownPart shownByte circleIn circleOf circleAnswer circleOutput readCommands singleAttributes setAttributes satisfiesSingles satisfiesSets satisfies
 shown = refl

@@ -17,6 +17,7 @@ ghost use Rattle.role_circle.specs.CircledNumbers.{rolesListed};
 ghost use Rattle.sets.specs.Tests.{Is, _isIn_};
 ghost use Rattle.answers.specs.Numbers.{noValues};
 ghost use Rattle.answers.specs.Numbers.{returned, stored, rulesTold};
+use policy::Weights;
 
 // Whether a role file may be read: 0, or 1 to 7.
 #[no_mangle]
@@ -134,31 +135,33 @@ pub extern "C" fn fichtengarn_circle(file: &[u8], roles: &mut [u8], count: &mut 
     answers::store_circled(role_circle::circle(file, roles), count)
 }
 
-// Mining: the rule file in the memory for output, and length, parts, rules, merges and cost.
+// Mining: the rule file in the memory for output, and length, parts, rules, merges and the cost by these weights.
 #[no_mangle]
 pub extern "C" fn fichtengarn_mine(
     file: &[u8],
+    weights: Weights,
     scratch: &mut [u64],
     out: &mut [u8],
-    counts: &mut [usize; 5],
+    counts: &mut [u64; 5],
 ) -> usize
     ensures { λ r. ⌜
         (r
         ≡ returned
         (told countValues
-        (mineAnswer 2 (now (file .entry)) (length (now (scratch .entry))) (length (now (out .entry))))))
+        (mineAnswer 2 (now (file .entry)) weights (length (now (scratch .entry))) (length (now (out .entry))))))
         × (now (counts .exit)
         ≡ stored
         (told countValues
-        (mineAnswer 2 (now (file .entry)) (length (now (scratch .entry)))
+        (mineAnswer 2 (now (file .entry)) weights (length (now (scratch .entry)))
         (length (now (out .entry)))))
         (now (counts .entry)))
         × (now (out .exit) ≡ mineOutput 2 (now (file .entry)) (length (now (scratch .entry))) (now (out .entry)))
         × ((c : Counts)
-        → mineAnswer 2 (now (file .entry)) (length (now (scratch .entry))) (length (now (out .entry))) ≡ accepted c
+        → mineAnswer 2 (now (file .entry)) weights (length (now (scratch .entry))) (length (now (out .entry)))
+        ≡ accepted c
         → (F : Policy)
         × (readRoles 2 (now (file .entry)) ≡ accepted F)
-        × Demand3 2 (settingOf F) (rolesIn F) (take (c .size) (now (out .exit))) c) ⌝ }
+        × Demand3 2 weights (settingOf F) (rolesIn F) (take (c .size) (now (out .exit))) c) ⌝ }
 {
-    answers::store_mined(mining::mine(file, scratch, out), counts)
+    answers::store_mined(mining::mine(file, weights, scratch, out), counts)
 }

@@ -12,14 +12,15 @@ use mathlib.Core.Logic.{_⊎_, inl, inr}
 use mathlib.Core.Option.{Option, none, some}
 use mathlib.Core.Path.{_≡_, refl, sym, ap, _∙_}
 use native.Mathlib.Omega.{arith}
-use Rattle.files.specs.Answer.{Refusal, Answer, unless, andThen, smallScratch, shortOutput, refused, accepted}
+use Rattle.files.specs.Answer.{Refusal, Answer, told, unless, andThen, smallScratch, shortOutput, refused, accepted}
 use Rattle.files.specs.BytesLaws.{Bytes, carried}
-use Rattle.files.specs.Calls.{Counts, Verdict, decided, first, triples, isTriple, rulesGrant, partsGrant, firstDifference, firstStrayRule, firstStrayPart, verdict, minedBytes, minedCounts, mayMine, mineAnswer, mineOutput, roleQuestion, readBoth, ruleQuestion, judge, differ, strayRule, strayPart, sound}
+use Rattle.files.specs.Calls.{Counts, Verdict, countValues, decided, first, triples, isTriple, rulesGrant, partsGrant, firstDifference, firstStrayRule, firstStrayPart, verdict, minedBytes, minedCounts, mayMine, mineAnswer, mineOutput, roleQuestion, readBoth, ruleQuestion, judge, differ, strayRule, strayPart, sound}
 use Rattle.files.specs.Demand3.{Demand3}
 use Rattle.files.specs.DemandLaws.{demand-3}
 use Rattle.files.specs.RoleFile.{readRoles}
 use Rattle.files.specs.RuleFile.{Lines, ruleIn, listings}
 use Rattle.files.specs.SoundLaws.{Sound, read-sound, encodable}
+use Rattle.policy.specs.Cost.{fourOnes}
 use Rattle.policy.specs.Mined.{partCount}
 use Rattle.policy.specs.Policy.{Policy, Senior, senior, settingOf, rolesIn}
 use Rattle.policy.specs.PolicyLaws.{lawful, mined-of}
@@ -27,6 +28,7 @@ use Rattle.policy.specs.Roles.{Roles, rolesGrant}
 use Rattle.policy.specs.RuleLaws.{same-in, same-out}
 use Rattle.policy.specs.Rules.{Setting, grants, Triple, Same, sameBlock, user, resource}
 use Rattle.policy.specs.SeniorLaws.{reach-out, reach-in}
+use Rattle.policy.specs.declared.Weights.{Weights}
 use Rattle.sets.specs.Tests.{Is, iff, _isIn_, each, upTo, isSome}
 use Rattle.sets.specs.TestLaws.{and-l, and-r, test, iff-in, iff-out, each-in, each-out, upTo-in, upTo-out, map-in, map-out, getD-in}
 
@@ -76,11 +78,12 @@ module _ (W : ℕ) where
         room-left = leb-true (length (minedBytes W F)) room (rw e at (k .0));
       }
 
-  answer-out : (file : List ℕ) (scratch room : ℕ) (c : Counts) → mineAnswer W file scratch room ≡ accepted c → (F : Policy) × (mayMine W file scratch room ≡ accepted F) × (c ≡ minedCounts W F)
+  answer-out : (file : List ℕ) (weights : Weights) (scratch room : ℕ) (c : Counts) → mineAnswer W file weights scratch room ≡ accepted c
+      → (F : Policy) × (mayMine W file scratch room ≡ accepted F) × (c ≡ minedCounts W F weights)
   unfolding mineAnswer
-  answer-out file scratch room c h =
-      let t = then-out (mayMine W file scratch room) (λ F. accepted (minedCounts W F)) h in
-      let e : c ≡ minedCounts W (t .0) = cc in
+  answer-out file weights scratch room c h =
+      let t = then-out (mayMine W file scratch room) (λ F. accepted (minedCounts W F weights)) h in
+      let e : c ≡ minedCounts W (t .0) weights = cc in
       (t .0, t .1, e)
 
   output-of : (file : List ℕ) (scratch : ℕ) (former : List ℕ) (F : Policy) → mayMine W file scratch (length former) ≡ accepted F
@@ -89,11 +92,11 @@ module _ (W : ℕ) where
   output-of file scratch former F h = ap (λ (r : Answer Policy). elim r as (λ _. List ℕ) [ refused e ↦ former | accepted F ↦ minedBytes W F ++ drop (length (minedBytes W F)) former ]) h
 
   -- "Output is untouched": after a refusal it holds its former bytes
-  pub refused-output : (file : List ℕ) (scratch : ℕ) (former : List ℕ) (e : Refusal) → mineAnswer W file scratch (length former) ≡ refused e → mineOutput W file scratch former ≡ former
+  pub refused-output : (file : List ℕ) (weights : Weights) (scratch : ℕ) (former : List ℕ) (e : Refusal) → mineAnswer W file weights scratch (length former) ≡ refused e → mineOutput W file scratch former ≡ former
   unfolding mineAnswer mineOutput
-  refused-output file scratch former e h = go (mayMine W file scratch (length former)) h
+  refused-output file weights scratch former e h = go (mayMine W file scratch (length former)) h
     where
-      go : (r : Answer Policy) → andThen r (λ F. accepted (minedCounts W F)) ≡ refused e → (elim r as (λ _. List ℕ) [ refused e ↦ former | accepted F ↦ minedBytes W F ++ drop (length (minedBytes W F)) former ]) ≡ former
+      go : (r : Answer Policy) → andThen r (λ F. accepted (minedCounts W F weights)) ≡ refused e → (elim r as (λ _. List ℕ) [ refused e ↦ former | accepted F ↦ minedBytes W F ++ drop (length (minedBytes W F)) former ]) ≡ former
       go (refused d) k = refl
       go (accepted F) k = absurd (false≢true (ap isAccepted (sym k)))
 
@@ -103,10 +106,10 @@ module _ (W : ℕ) where
     pub inside : c .size ≤ length former
     pub kept : drop (c .size) after ≡ drop (c .size) former
 
-  pub accepted-output : (file : List ℕ) (scratch : ℕ) (former : List ℕ) (c : Counts) → mineAnswer W file scratch (length former) ≡ accepted c → Behind former (mineOutput W file scratch former) c
+  pub accepted-output : (file : List ℕ) (weights : Weights) (scratch : ℕ) (former : List ℕ) (c : Counts) → mineAnswer W file weights scratch (length former) ≡ accepted c → Behind former (mineOutput W file scratch former) c
   unfolding minedCounts
-  accepted-output file scratch former c h =
-      let t = answer-out file scratch (length former) c h in
+  accepted-output file weights scratch former c h =
+      let t = answer-out file weights scratch (length former) c h in
       let m = mined-out file scratch (length former) (t .0) (t .1) in
       let bytes = minedBytes W (t .0) in
       let o = output-of file scratch former (t .0) (t .1) in
@@ -118,9 +121,9 @@ module _ (W : ℕ) where
       })
 
   -- the amount of scratch changes nothing, once it is enough
-  pub scratch-free : (file : List ℕ) (m n room : ℕ) → 4096 ≤ m → 4096 ≤ n → mineAnswer W file m room ≡ mineAnswer W file n room
+  pub scratch-free : (file : List ℕ) (weights : Weights) (m n room : ℕ) → 4096 ≤ m → 4096 ≤ n → mineAnswer W file weights m room ≡ mineAnswer W file weights n room
   unfolding mineAnswer mayMine
-  scratch-free file m n room p q = rw (le-leb 4096 m p, le-leb 4096 n q) refl
+  scratch-free file weights m n room p q = rw (le-leb 4096 m p, le-leb 4096 n q) refl
 
   pub scratch-free-output : (file : List ℕ) (m n : ℕ) (former : List ℕ) → 4096 ≤ m → 4096 ≤ n → mineOutput W file m former ≡ mineOutput W file n former
   unfolding mineOutput mayMine
@@ -131,34 +134,46 @@ module _ (W : ℕ) where
       enough-scratch m p = rw (le-leb 4096 m p) refl
 
   -- and of the output memory only its length counts: the answer's bytes are the same whatever it held
-  pub former-free : (file : List ℕ) (scratch : ℕ) (former other : List ℕ) (c : Counts) → length former ≡ length other → mineAnswer W file scratch (length former) ≡ accepted c
+  pub former-free : (file : List ℕ) (weights : Weights) (scratch : ℕ) (former other : List ℕ) (c : Counts) → length former ≡ length other → mineAnswer W file weights scratch (length former) ≡ accepted c
       → take (c .size) (mineOutput W file scratch former) ≡ take (c .size) (mineOutput W file scratch other)
   unfolding minedCounts
-  former-free file scratch former other c e h = let t = answer-out file scratch (length former) c h in go (t .0) c (t .1) (t .2)
+  former-free file weights scratch former other c e h = let t = answer-out file weights scratch (length former) c h in go (t .0) c (t .1) (t .2)
     where
-      go : (F : Policy) (c : Counts) → mayMine W file scratch (length former) ≡ accepted F → c ≡ minedCounts W F → take (c .size) (mineOutput W file scratch former) ≡ take (c .size) (mineOutput W file scratch other)
+      go : (F : Policy) (c : Counts) → mayMine W file scratch (length former) ≡ accepted F → c ≡ minedCounts W F weights → take (c .size) (mineOutput W file scratch former) ≡ take (c .size) (mineOutput W file scratch other)
       go F c m k =
           let front : (l : List ℕ) → mayMine W file scratch (length l) ≡ accepted F → take (length (minedBytes W F)) (mineOutput W file scratch l) ≡ minedBytes W F =
           λ l n. ap (take (length (minedBytes W F))) (output-of file scratch l F n) ∙ take-append-seam (minedBytes W F) (drop (length (minedBytes W F)) l) in
           rw k (front former m ∙ sym (front other (rw e at m)))
 
+  -- "Mining chooses nothing by cost": with any two weights it is refused for the same cause, or the answers differ at most in the cost, their last
+  -- number. The output has no weights to differ by (`mineOutput`)
+  pub weights-free : (file : List ℕ) (weights others : Weights) (scratch room : ℕ)
+      → take 5 (told countValues (mineAnswer W file weights scratch room)) ≡ take 5 (told countValues (mineAnswer W file others scratch room))
+  unfolding mineAnswer minedCounts
+  weights-free file weights others scratch room = go (mayMine W file scratch room)
+    where
+      go : (r : Answer Policy)
+          → take 5 (told countValues (andThen r (λ F. accepted (minedCounts W F weights)))) ≡ take 5 (told countValues (andThen r (λ F. accepted (minedCounts W F others))))
+      go (refused e) = refl
+      go (accepted F) = refl
+
   -- the demand, of the policy of any accepted role file
-  pub policy-demand : (file : List ℕ) → Bytes file → (F : Policy) → readRoles W file ≡ accepted F → Demand3 W (settingOf F) (rolesIn F) (minedBytes W F) (minedCounts W F)
+  pub policy-demand : (file : List ℕ) → Bytes file → (weights : Weights) (F : Policy) → readRoles W file ≡ accepted F → Demand3 W weights (settingOf F) (rolesIn F) (minedBytes W F) (minedCounts W F weights)
   unfolding minedBytes minedCounts
-  policy-demand file b F h =
-      demand-3 W (settingOf F) (rolesIn F) (lawful F) (mined-of F) (encodable W F (carried (Sound W) (readRoles W file) (read-sound W file b) h)) (minedCounts W F) refl refl refl refl refl
+  policy-demand file b weights F h =
+      demand-3 W (settingOf F) (rolesIn F) (lawful F) (mined-of F) (encodable W F (carried (Sound W) (readRoles W file) (read-sound W file b) h)) weights (minedCounts W F weights) refl refl refl refl refl
 
   -- THE THIRD DEMAND: of "the output's first bytes up to the length returned", whatever scratch and output held
-  pub third-demand : (file : List ℕ) → Bytes file → (scratch : ℕ) (former : List ℕ) (c : Counts) → mineAnswer W file scratch (length former) ≡ accepted c
-      → (F : Policy) × (readRoles W file ≡ accepted F) × Demand3 W (settingOf F) (rolesIn F) (take (c .size) (mineOutput W file scratch former)) c
+  pub third-demand : (file : List ℕ) → Bytes file → (weights : Weights) (scratch : ℕ) (former : List ℕ) (c : Counts) → mineAnswer W file weights scratch (length former) ≡ accepted c
+      → (F : Policy) × (readRoles W file ≡ accepted F) × Demand3 W weights (settingOf F) (rolesIn F) (take (c .size) (mineOutput W file scratch former)) c
   unfolding minedCounts
-  third-demand file b scratch former c h = let t = answer-out file scratch (length former) c h in go (t .0) c (t .1) (t .2)
+  third-demand file b weights scratch former c h = let t = answer-out file weights scratch (length former) c h in go (t .0) c (t .1) (t .2)
     where
-      go : (F : Policy) (c : Counts) → mayMine W file scratch (length former) ≡ accepted F → c ≡ minedCounts W F → (F : Policy) × (readRoles W file ≡ accepted F) × Demand3 W (settingOf F) (rolesIn F) (take (c .size) (mineOutput W file scratch former)) c
+      go : (F : Policy) (c : Counts) → mayMine W file scratch (length former) ≡ accepted F → c ≡ minedCounts W F weights → (F : Policy) × (readRoles W file ≡ accepted F) × Demand3 W weights (settingOf F) (rolesIn F) (take (c .size) (mineOutput W file scratch former)) c
       go F c m k =
           let r = mined-out file scratch (length former) F m .reading in
           let e : take (length (minedBytes W F)) (mineOutput W file scratch former) ≡ minedBytes W F = ap (take (length (minedBytes W F))) (output-of file scratch former F m) ∙ take-append-seam (minedBytes W F) (drop (length (minedBytes W F)) former) in
-          (F, r, rw (k, e) (policy-demand file b F r))
+          (F, r, rw (k, e) (policy-demand file b weights F r))
 
 -- ---- the questions and the judge, of mined bytes
 
@@ -223,9 +238,9 @@ sound-means P R rules h = record {
     nothing-found = none-of (firstDifference P R rules) (firstStrayRule P R rules) (firstStrayPart P R rules) h
 
 -- rules of which the demand holds are sound
-demand-sound : (W : ℕ) (P : Setting) (R : Roles) (bytes : List ℕ) (c : Counts) (D : Demand3 W P R bytes c) → verdict P R (D .rules) ≡ sound
+demand-sound : (W : ℕ) (weights : Weights) (P : Setting) (R : Roles) (bytes : List ℕ) (c : Counts) (D : Demand3 W weights P R bytes c) → verdict P R (D .rules) ≡ sound
 unfolding verdict firstDifference firstStrayRule firstStrayPart
-demand-sound W P R bytes c D =
+demand-sound W weights P R bytes c D =
     rw (
       first-none (λ (t : ℕ × ℕ × ℕ). not (iff (rolesGrant P R (t .0) (t .1) (t .2)) (rulesGrant P (D .rules) (t .0) (t .1) (t .2)))) (triples P)
           (λ t m. not-so _ (iff-in (rolesGrant P R (t .0) (t .1) (t .2)) (rulesGrant P (D .rules) (t .0) (t .1) (t .2)) (sym (D .same (t .0) (t .1) (t .2) (triple-out P t m))))),
@@ -236,14 +251,18 @@ demand-sound W P R bytes c D =
     ) refl
 
 module _ (W : ℕ) (file : List ℕ) (b : Bytes file) (F : Policy) (h : readRoles W file ≡ accepted F) where
-  both-read : readBoth W file (minedBytes W F) ≡ accepted (F, policy-demand W file b F h .rules)
+  -- the demand by some weights: what it says of the bytes holds by any
+  demanded : Demand3 W fourOnes (settingOf F) (rolesIn F) (minedBytes W F) (minedCounts W F fourOnes)
+  demanded = policy-demand W file b fourOnes F h
+
+  both-read : readBoth W file (minedBytes W F) ≡ accepted (F, demanded .rules)
   unfolding readBoth
-  both-read = rw (h, policy-demand W file b F h .taken) refl
+  both-read = rw (h, demanded .taken) refl
 
   -- the judge finds nothing amiss in mined bytes
   pub mined-judged : judge W file (minedBytes W F) ≡ accepted sound
   unfolding judge
-  mined-judged = rw (both-read, demand-sound W (settingOf F) (rolesIn F) (minedBytes W F) (minedCounts W F) (policy-demand W file b F h)) refl
+  mined-judged = rw (both-read, demand-sound W fourOnes (settingOf F) (rolesIn F) (minedBytes W F) (minedCounts W F fourOnes) demanded) refl
 
   -- and the rules answer every question as the roles do
   pub mined-questions : (u r o : ℕ) → ruleQuestion W file (minedBytes W F) u r o ≡ roleQuestion W file u r o
@@ -251,7 +270,7 @@ module _ (W : ℕ) (file : List ℕ) (b : Bytes file) (F : Policy) (h : readRole
   mined-questions u r o =
       rw (both-read, h)
       (test (isTriple (settingOf F) u r o)
-      (λ k. rw (k, policy-demand W file b F h .same u r o (inside k)) refl)
+      (λ k. rw (k, demanded .same u r o (inside k)) refl)
       (λ k. rw k refl))
     where
       inside : Is (isTriple (settingOf F) u r o) → Triple (settingOf F) u r o

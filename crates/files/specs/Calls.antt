@@ -11,12 +11,13 @@ use Rattle.files.specs.RoleFile.{readRoles, readCommands}
 use Rattle.files.specs.RuleFile.{Lines, ruleIn, partsIn, listings, linesOf, encodeAll, readRules}
 use Rattle.files.specs.RulePart.{ruleStart}
 use Rattle.policy.specs.Circles.{circleOf}
+use Rattle.policy.specs.Cost.{ruleCost}
 use Rattle.policy.specs.Merging.{union}
 use Rattle.policy.specs.Mined.{partCount, partBlock, minedGroups, mergeCount, ruleOf}
 use Rattle.policy.specs.Policy.{Policy, settingOf, rolesIn}
 use Rattle.policy.specs.Roles.{Roles, rolesGrant}
 use Rattle.policy.specs.Rules.{Setting, Block, grants, sameBlock, user, resource}
-use Rattle.policy.specs.Thinning.{ruleCost}
+use Rattle.policy.specs.declared.Weights.{Weights}
 use Rattle.sets.specs.Tests.{iff, any, each, upTo, sum}
 
 -- "The result carries length (bytes of the rule file), parts ..., rules ..., merges ... and total cost"; size is 01's length
@@ -114,13 +115,14 @@ module _ (W : ℕ) where
     unfoldable pub minedBytes : List ℕ
     minedBytes = encodeAll W (minedLines (settingOf F) (rolesIn F))
 
-    unfoldable pub minedCounts : Counts
-    minedCounts = record {
+    -- the cost is by the weights handed in, over the rules as written: 000, "WSC(Rules) = Σ WSC(ρ)"
+    unfoldable pub minedCounts : Weights → Counts
+    minedCounts weights = record {
       size = length minedBytes;
       parts = partCount (settingOf F) (rolesIn F);
       rules = length (minedGroups (settingOf F) (rolesIn F));
       merges = mergeCount (settingOf F) (rolesIn F);
-      cost = sum (λ g. ruleCost (settingOf F) (ruleOf (settingOf F) (rolesIn F) g)) (minedGroups (settingOf F) (rolesIn F));
+      cost = sum (λ g. ruleCost (settingOf F) weights (ruleOf (settingOf F) (rolesIn F) g)) (minedGroups (settingOf F) (rolesIn F));
     }
 
   -- "8 scratch below 4,096 words of 64 bits; then 1 to 7; then 9 output shorter than the rule file"
@@ -129,9 +131,10 @@ module _ (W : ℕ) where
       unless (leb 4096 scratch) smallScratch
       (andThen (readRoles W file) (λ F. unless (leb (length (minedBytes F)) room) shortOutput (accepted F)))
 
-  -- mining: the counts, from the file, the words of scratch and the bytes of output
-  unfoldable pub mineAnswer : List ℕ → ℕ → ℕ → Answer Counts
-  mineAnswer file scratch room = andThen (mayMine file scratch room) (λ F. accepted (minedCounts F))
+  -- mining: the counts, from the file, the weights, the words of scratch and the bytes of output. "Mining chooses nothing by cost": whether it is
+  -- refused and what it writes do not look at the weights
+  unfoldable pub mineAnswer : List ℕ → Weights → ℕ → ℕ → Answer Counts
+  mineAnswer file weights scratch room = andThen (mayMine file scratch room) (λ F. accepted (minedCounts F weights))
 
   -- the output memory after mining: "Output is untouched" by a refusal; else the rule file, and behind it the former bytes
   unfoldable pub mineOutput : List ℕ → ℕ → List ℕ → List ℕ

@@ -8,17 +8,19 @@ use mathlib.Core.Path.{_≡_}
 use Rattle.files.specs.Answer.{accepted}
 use Rattle.files.specs.Calls.{Counts, rulesGrant, partsGrant}
 use Rattle.files.specs.RuleFile.{Lines, ruleIn, listings, linesOf, readRules}
+use Rattle.policy.specs.Cost.{ruleCost}
 use Rattle.policy.specs.Covering.{cover, levelOf}
 use Rattle.policy.specs.Merging.{lowPart}
 use Rattle.policy.specs.Mined.{partCount, minedGroups, mergeCount, ruleOf}
 use Rattle.policy.specs.Roles.{Roles, rolesGrant}
 use Rattle.policy.specs.Rules.{Setting, Rule, grants, ruleLevel, ofSection, Triple, Same, struck}
-use Rattle.policy.specs.Thinning.{thinned, ruleCost}
+use Rattle.policy.specs.Thinning.{thinned}
+use Rattle.policy.specs.declared.Weights.{Weights}
 use Rattle.sets.specs.Sorted.{Ascending}
 use Rattle.sets.specs.Tests.{Is, _isIn_, sum}
 
--- W bytes for a set of operations; P and R are the policy and the roles that the role file states
-pub record Demand3 (W : ℕ) (P : Setting) (R : Roles) (bytes : List ℕ) (c : Counts) : Type 0 where
+-- W bytes for a set of operations; the cost is by these weights; P and R are the policy and the roles that the role file states
+pub record Demand3 (W : ℕ) (weights : Weights) (P : Setting) (R : Roles) (bytes : List ℕ) (c : Counts) : Type 0 where
   -- "read like any rule file beside their role file; the reader accepts them"
   pub rules : List Lines
   pub taken : readRules W P R bytes ≡ accepted rules
@@ -54,4 +56,4 @@ pub record Demand3 (W : ℕ) (P : Setting) (R : Roles) (bytes : List ℕ) (c : C
   pub parted : c .parts ≡ partCount P R
   pub ruled : c .rules ≡ length rules
   pub merged : c .merges ≡ mergeCount P R
-  pub costed : c .cost ≡ sum (λ ls. ruleCost P (ruleIn P ls)) rules
+  pub costed : c .cost ≡ sum (λ ls. ruleCost P weights (ruleIn P ls)) rules

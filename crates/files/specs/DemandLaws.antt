@@ -12,6 +12,7 @@ use Rattle.files.specs.LineLaws.{Sayable, rule-back}
 use Rattle.files.specs.ReadBackLaws.{Writable, read-back}
 use Rattle.files.specs.RuleFile.{Lines, ruleIn, listings, linesOf, encodeAll, readRules}
 use Rattle.files.specs.WriteLaws.{parts-back, listings-times, Encodable, writable, attr-numbered}
+use Rattle.policy.specs.Cost.{ruleCost}
 use Rattle.policy.specs.Covering.{cover, levelOf}
 use Rattle.policy.specs.MergeLaws.{Every}
 use Rattle.policy.specs.Merging.{union}
@@ -21,7 +22,8 @@ use Rattle.policy.specs.OrderLaws.{written-asc, written-values}
 use Rattle.policy.specs.Roles.{Roles, parts, rolesGrant}
 use Rattle.policy.specs.RuleLaws.{Lawful}
 use Rattle.policy.specs.Rules.{Setting, Rule, grants, at, ruleLevel, wellFormed, ofSection, Triple, Same, struck}
-use Rattle.policy.specs.Thinning.{thinned, ruleCost}
+use Rattle.policy.specs.Thinning.{thinned}
+use Rattle.policy.specs.declared.Weights.{Weights}
 use Rattle.policy.specs.WrittenLaws.{written-had, written-ops-lt, written-ops-some, written-allowed, written-formed, written-of-section}
 use Rattle.sets.specs.ListLaws.{any-map}
 use Rattle.sets.specs.Lowest.{lowest}
@@ -93,10 +95,10 @@ module _ (W : ℕ) (P : Setting) (R : Roles) (L : Lawful P) (M : MinedRules P R)
       ∙ M .triples u r o t
 
   -- THE THEOREM, of any policy whose rules can be written
-  pub demand-3 : (c : Counts) → c .size ≡ length (encodeAll W (minedLines P R)) → c .parts ≡ partCount P R → c .rules ≡ length (minedGroups P R) → c .merges ≡ mergeCount P R
-      → c .cost ≡ sum (λ g. ruleCost P (ruleOf P R g)) (minedGroups P R) → Demand3 W P R (encodeAll W (minedLines P R)) c
+  pub demand-3 : (weights : Weights) (c : Counts) → c .size ≡ length (encodeAll W (minedLines P R)) → c .parts ≡ partCount P R → c .rules ≡ length (minedGroups P R) → c .merges ≡ mergeCount P R
+      → c .cost ≡ sum (λ g. ruleCost P weights (ruleOf P R g)) (minedGroups P R) → Demand3 W weights P R (encodeAll W (minedLines P R)) c
   unfolding minedLines ruleOf
-  demand-3 c size parts rules merges cost = record {
+  demand-3 weights c size parts rules merges cost = record {
     rules = minedLines P R;
     taken = mined-taken;
     same = mined-same;
@@ -130,5 +132,5 @@ module _ (W : ℕ) (P : Setting) (R : Roles) (L : Lawful P) (M : MinedRules P R)
       grouped-so : minedLines P R ≡ map (λ g. linesOf P R (ruleOf P R g) g) (minedGroups P R)
       grouped-so = refl
 
-      costs-so : sum (λ ls. ruleCost P (ruleIn P ls)) (minedLines P R) ≡ sum (λ g. ruleCost P (ruleOf P R g)) (minedGroups P R)
-      costs-so = sum-map-same (λ g. linesOf P R (ruleOf P R g) g) (λ ls. ruleCost P (ruleIn P ls)) (λ g. ruleCost P (ruleOf P R g)) (minedGroups P R) (λ g m. ap (ruleCost P) (says-rule g m))
+      costs-so : sum (λ ls. ruleCost P weights (ruleIn P ls)) (minedLines P R) ≡ sum (λ g. ruleCost P weights (ruleOf P R g)) (minedGroups P R)
+      costs-so = sum-map-same (λ g. linesOf P R (ruleOf P R g) g) (λ ls. ruleCost P weights (ruleIn P ls)) (λ g. ruleCost P weights (ruleOf P R g)) (minedGroups P R) (λ g m. ap (ruleCost P weights) (says-rule g m))

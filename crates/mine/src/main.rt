@@ -1,5 +1,5 @@
-// Mines the role file on standard input. Writes the rules to rules.out in the working directory and prints the counts and the cost; on a
-// refusal prints its number, and rules.out stays as it is; standard error has the number's meaning. Where the system does not read or
+// Mines the role file on standard input. Writes the rules to rules.out in the working directory and prints the counts and the cost by four ones;
+// on a refusal prints its number, and rules.out stays as it is; standard error has the number's meaning. Where the system does not read or
 // write, a line on standard error says so and rules.out stays as it is too.
 mod save;
 
@@ -10,11 +10,11 @@ use save::save;
 use write_answer::Mined;
 
 // Prints the counts and the cost.
-fn print_counts(parts: usize, rules: usize, merges: usize, cost: usize) -> bool {
+fn print_counts(parts: usize, rules: usize, merges: usize, cost: u64) -> bool {
     let one = programs::say_count(true, b"parts ", parts);
     let two = programs::say_count(one, b" rules ", rules);
     let three = programs::say_count(two, b" merges ", merges);
-    programs::say_count(three, b" cost ", cost)
+    programs::say_count(three, b" cost ", cost as usize)
 }
 
 // Says how long the output would have to be, for whoever has more of it to lend.
@@ -65,7 +65,7 @@ fn finish(mined: Mined, file: &[u8], out: &[u8])
 fn mine_file(file: &[u8]) {
     let mut scratch = [0u64; mining::SCRATCH];
     let mut out = io::large_buffer();
-    let mined = mining::mine(file, &mut scratch, &mut out);
+    let mined = mining::mine(file, mining::ones(), &mut scratch, &mut out);
     finish(mined, file, &out);
 }
 

@@ -13,6 +13,7 @@ use native.Mathlib.Omega.{arith}
 use Rattle.files.specs.Calls.{Counts, minedLines, minedBytes, minedCounts}
 use Rattle.files.specs.RuleFile.{Lines, precedes, condLines, allLines, linesOf, encodeAll, operations, part}
 use Rattle.mine_theory.specs.Search.AlikeLaws.{run-image}
+use Rattle.policy.specs.Cost.{ruleCost}
 use Rattle.policy.specs.CoverLaws.{exact-fits, fits-exact}
 use Rattle.policy.specs.Covering.{cover, fits, levelOf}
 use Rattle.policy.specs.MergeLaws.{run, merges}
@@ -24,7 +25,8 @@ use Rattle.policy.specs.PolicyLaws.{lawful, owned}
 use Rattle.policy.specs.Roles.{Part, isPart, parts, blockOf, classOf}
 use Rattle.policy.specs.Rules.{Setting, Rule, Block, Some}
 use Rattle.policy.specs.ThinLaws.{cover-at, at-3}
-use Rattle.policy.specs.Thinning.{written, ruleCost}
+use Rattle.policy.specs.Thinning.{written}
+use Rattle.policy.specs.declared.Weights.{Weights}
 use Rattle.role_record.specs.Cells.{rowCells, cellAt, cellRow, cellOperation, roleCells}
 use Rattle.role_record.specs.CellsLaws.{cell-parts}
 use Rattle.sets.specs.ListLaws.{each-same, each-none, each-fewer, each-rows, any-map}
@@ -278,15 +280,16 @@ module _ (F : Policy) where
     unfolding minedBytes
     bytes-seats = ap (encodeAll 2) lines-seats
 
-    costs-seats : sum (λ g. ruleCost (settingOf F) (ruleOf (settingOf F) (rolesIn F) g)) (minedGroups (settingOf F) (rolesIn F)) ≡ sum (λ g. ruleCost (settingOf F) (seatRule F g)) (seatGroups F)
-    costs-seats =
-        ap (λ (rule : List ℕ → Rule). sum (λ g. ruleCost (settingOf F) (rule g)) (minedGroups (settingOf F) (rolesIn F))) (fun-ext rule-seats)
-        ∙ sym (sum-map (map (seatAt F)) (λ g. ruleCost (settingOf F) (seatRule F g)) (minedGroups (settingOf F) (rolesIn F)))
-        ∙ ap (sum (λ g. ruleCost (settingOf F) (seatRule F g))) groups-seats
+    costs-seats : (weights : Weights) → sum (λ g. ruleCost (settingOf F) weights (ruleOf (settingOf F) (rolesIn F) g)) (minedGroups (settingOf F) (rolesIn F)) ≡ sum (λ g. ruleCost (settingOf F) weights (seatRule F g)) (seatGroups F)
+    costs-seats weights =
+        ap (λ (rule : List ℕ → Rule). sum (λ g. ruleCost (settingOf F) weights (rule g)) (minedGroups (settingOf F) (rolesIn F))) (fun-ext rule-seats)
+        ∙ sym (sum-map (map (seatAt F)) (λ g. ruleCost (settingOf F) weights (seatRule F g)) (minedGroups (settingOf F) (rolesIn F)))
+        ∙ ap (sum (λ g. ruleCost (settingOf F) weights (seatRule F g))) groups-seats
 
     -- the counts that go with it are those of the seats
-    pub counts-seats : minedCounts 2 F ≡ record { size = length (encodeAll 2 (map (seatLines F) (seatGroups F))); parts = length (seatsOf F); rules = length (seatGroups F); merges = seatMerges F; cost = sum (λ g. ruleCost (settingOf F) (seatRule F g)) (seatGroups F) }
+    pub counts-seats : (weights : Weights)
+        → minedCounts 2 F weights ≡ record { size = length (encodeAll 2 (map (seatLines F) (seatGroups F))); parts = length (seatsOf F); rules = length (seatGroups F); merges = seatMerges F; cost = sum (λ g. ruleCost (settingOf F) weights (seatRule F g)) (seatGroups F) }
     unfolding minedCounts
-    counts-seats =
+    counts-seats weights =
         counts-same _ _ _ _ _ _ _ _ _ _ (ap length bytes-seats) count-seats
-        (sym (length-map (minedGroups (settingOf F) (rolesIn F)) (map (seatAt F))) ∙ ap length groups-seats) merges-seats costs-seats
+        (sym (length-map (minedGroups (settingOf F) (rolesIn F)) (map (seatAt F))) ∙ ap length groups-seats) merges-seats (costs-seats weights)

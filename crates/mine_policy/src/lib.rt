@@ -111,7 +111,7 @@ pub fn mine_record<'a>(
         → OfRecord F (now (known .entry)) (now (values .entry)) (now (kinds .entry)) (now (domains .entry))
         (now (attributes .entry)) (now (holders .entry)) (now (permissions .entry)) (sizes .users)
         (sizes .resources) (sizes .operations) (sizes .roles)
-        → Result F (now (out .entry)) (r .mined) (now (out .exit)) × (r .bytes ≡ length (minedBytes 2 F))) ⌝ }
+        → Result F (now (out .entry)) (r .wrote) (now (out .exit)) × (r .bytes ≡ length (minedBytes 2 F))) ⌝ }
 {
     let mut distinct = [0u64; RoleFile::PLACES * RoleFile::MEMBERS];
     let mut having = [0u64; RoleFile::PLACES * RoleFile::MEMBERS];

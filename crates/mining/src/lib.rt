@@ -7,28 +7,43 @@ ghost use Rattle.files.specs.Answer.{told, accepted};
 ghost use Rattle.files.specs.Calls.{Counts, countValues, mineAnswer, mineOutput};
 ghost use Rattle.files.specs.Demand3.{Demand3};
 ghost use Rattle.files.specs.RoleFile.{readRoles};
+ghost use Rattle.policy.specs.Cost.{fourOnes};
 ghost use Rattle.policy.specs.Policy.{Policy, settingOf, rolesIn};
 ghost use Rattle.write_answer.specs.MinedNumbers.{minedNumbers};
 ghost use Rattle.write_answer.specs.Stages.{bytesFor, neededBytes, Outcome};
 use files::refusal;
+use policy::Weights;
 use role_record::Sizes;
 use write_answer::Attempt;
 use write_answer::Mined;
+use write_answer::Wrote;
 
 // Words of scratch that a caller has to lend.
 pub const SCRATCH: usize = 4096;
+
+// 01's weights, four ones.
+pub fn ones() -> Weights
+    ensures { λ r. ⌜ r ≡ fourOnes ⌝ }
+{
+    Weights {
+        users: 1,
+        resources: 1,
+        operations: 1,
+        atoms: 1,
+    }
+}
 
 // Mining with the words of scratch that it needs, whatever they hold.
 fn mine_in(file: &[u8], scratch: &mut [u64], out: &mut [u8]) -> Attempt
     requires { ⌜ length (now scratch) ≡ scratchWords ⌝ }
     ensures { λ r. ⌜
-        ((n : ℕ) → 4096 ≤ n → Outcome (now (file .entry)) n (now (out .entry)) (r .mined) (now (out .exit)))
+        ((n : ℕ) → 4096 ≤ n → Outcome (now (file .entry)) n (now (out .entry)) (r .wrote) (now (out .exit)))
         × (r .bytes ≡ bytesFor (readRoles 2 (now (file .entry)))) ⌝ }
 {
     let l = role_file::read(file);
     if l.code != 0 {
         return Attempt {
-            mined: Mined::Refused(l.code),
+            wrote: Wrote::Nothing(l.code),
             bytes: 0,
         };
     }
@@ -53,24 +68,27 @@ fn mine_in(file: &[u8], scratch: &mut [u64], out: &mut [u8]) -> Attempt
     )
 }
 
-// The answer, the output memory at the end, and the third demand about the bytes there. Scratch may hold anything before, and does after.
-pub fn mine(file: &[u8], scratch: &mut [u64], out: &mut [u8]) -> Mined
+// The answer, with the cost by these weights, the output memory at the end, and the third demand about the bytes there. Scratch may hold anything
+// before, and does after. Nothing is chosen by cost: the weights are looked at once the rules are written.
+pub fn mine(file: &[u8], weights: Weights, scratch: &mut [u64], out: &mut [u8]) -> Mined
     ensures { λ r. ⌜
         (minedNumbers r
         ≡ told countValues
-        (mineAnswer 2 (now (file .entry)) (length (now (scratch .entry))) (length (now (out .entry)))))
+        (mineAnswer 2 (now (file .entry)) weights (length (now (scratch .entry))) (length (now (out .entry)))))
         × (now (out .exit) ≡ mineOutput 2 (now (file .entry)) (length (now (scratch .entry))) (now (out .entry)))
         × ((c : Counts)
-        → mineAnswer 2 (now (file .entry)) (length (now (scratch .entry))) (length (now (out .entry))) ≡ accepted c
+        → mineAnswer 2 (now (file .entry)) weights (length (now (scratch .entry))) (length (now (out .entry)))
+        ≡ accepted c
         → (F : Policy)
         × (readRoles 2 (now (file .entry)) ≡ accepted F)
-        × Demand3 2 (settingOf F) (rolesIn F) (take (c .size) (now (out .exit))) c) ⌝ }
+        × Demand3 2 weights (settingOf F) (rolesIn F) (take (c .size) (now (out .exit))) c) ⌝ }
 {
     if scratch.len() < SCRATCH {
         return Mined::Refused(refusal::SMALL_SCRATCH);
     }
     let a = mine_in(file, &mut scratch[0..2048], out);
-    a.mined
+    let wrote = a.wrote;
+    write_answer::answer(wrote, weights)
 }
 
 // How long the rule file of a role file is, so that output can be found for it; 0 where the role file is refused or scratch is below what

@@ -7,6 +7,7 @@ pub mod CircleSearch
 pub mod Covering
 pub mod Merging
 pub mod Thinning
+pub mod Cost
 pub mod Mined
 pub mod SideLaws
 pub mod RuleLaws
@@ -14,6 +15,7 @@ pub mod CoverLaws
 pub mod TrimLaws
 pub mod StrikeLaws
 pub mod ThinLaws
+pub mod CostLaws
 pub mod MergeLaws
 pub mod OrderLaws
 pub mod WrittenLaws

@@ -1,13 +1,11 @@
--- Thinning a covering rule, and what a rule costs. 01, section "Covering, merging, striking".
+-- Thinning a covering rule. 01, section "Covering, merging, striking".
 -- Assumes nothing.
-use Prim.Native.Nat.{ℕ, _+_}
-use lib.ListN.{length}
+use Prim.Native.Nat.{ℕ}
 use mathlib.Core.Bool.{Bool, cond, _&&_, not}
 use mathlib.Core.List.{List, [], _∷_, _++_, map}
 use Rattle.policy.specs.Covering.{cover, levelOf}
 use Rattle.policy.specs.Rules.{by, Setting, Cond, Rule, Block, grants, sameBlock, conjunct, atom}
-use Rattle.sets.specs.Sets.{size}
-use Rattle.sets.specs.Tests.{any, keep, sum}
+use Rattle.sets.specs.Tests.{any, keep}
 
 -- ---- sets that strictly contain another listed set
 
@@ -48,21 +46,3 @@ module _ (P : Setting) where
   -- "Each group's covering rule at its level is then thinned."
   unfoldable pub written : Block → Rule
   written B = thinned B (cover P B (levelOf P B))
-
-  -- ---- "Cost (000, all weights 1): values in single conjuncts, elements over all sets in set conjuncts, operations, atoms."
-
-  -- the part of a condition in each sum
-  unfoldable pub singleCost : Cond → ℕ
-  singleCost (conjunct w a vs) = cond (P .side w .isSet a) 0 (length vs)
-  singleCost (atom a b) = 0
-
-  unfoldable pub setCost : Cond → ℕ
-  setCost (conjunct w a vs) = cond (P .side w .isSet a) (sum size vs) 0
-  setCost (atom a b) = 0
-
-  unfoldable pub atomCost : Cond → ℕ
-  atomCost (conjunct w a vs) = 0
-  atomCost (atom a b) = 1
-
-  unfoldable pub ruleCost : Rule → ℕ
-  ruleCost ρ = sum singleCost (ρ .conds) + sum setCost (ρ .conds) + size (ρ .ops) + sum atomCost (ρ .conds)

@@ -1,5 +1,5 @@
-// Reads a corpus of cases from standard input and prints for each what mining answers and what it leaves in the memory that was lent for
-// output, a line a case; then the same for files at the limit of length. tests/minecases.py makes the corpus, and an independent
+// Reads a corpus of cases from standard input and prints for each what mining by four ones answers and what it leaves in the memory that was
+// lent for output, a line a case; then the same for files at the limit of length. tests/minecases.py makes the corpus, and an independent
 // implementation the lines that these are held to.
 ghost use mathlib.Core.Path.{_≡_};
 ghost use Prim.Native.Nat.{_+_, min};
@@ -25,7 +25,7 @@ fn print_mined(mined: Mined) {
             test_lines::print_number(b" parts ", parts);
             test_lines::print_number(b" rules ", rules);
             test_lines::print_number(b" merges ", merges);
-            test_lines::print_number(b" cost ", cost);
+            test_lines::print_number(b" cost ", cost as usize);
         }
     }
 }
@@ -34,7 +34,7 @@ fn print_mined(mined: Mined) {
 fn print_line(file: &[u8], seed: usize, scratch: &mut [u64], out: &mut [u8]) {
     test_lines::fill_scratch(scratch, seed);
     test_lines::fill_memory(out, seed);
-    print_mined(mining::mine(file, scratch, out));
+    print_mined(mining::mine(file, mining::ones(), scratch, out));
     test_lines::print_memory(out);
 }
 

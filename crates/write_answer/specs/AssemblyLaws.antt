@@ -2,13 +2,13 @@
 -- Assumes nothing.
 use Prim.Native.Nat.{ℕ, _≤_}
 use lib.ListN.{length, getD}
-use mathlib.Core.List.{List}
+use mathlib.Core.List.{List, [], _∷_}
 use mathlib.Core.Path.{_≡_, refl, sym, ap, _∙_, subst}
 use native.Mathlib.Omega.{arith}
 use Rattle.role_record.specs.Record.{Sized, attributeTable, recordWith, recordOf}
 use Rattle.mine_distinct.specs.InsideValues.{insideTable}
 use Rattle.files.specs.Answer.{accepted}
-use Rattle.files.specs.Calls.{Counts, minedBytes, minedCounts}
+use Rattle.files.specs.Calls.{Counts, countValues, minedBytes, minedCounts}
 use Rattle.files.specs.RoleFile.{readRoles}
 use Rattle.grant_grids.specs.Links.{linkTable}
 use Rattle.mine_matches.specs.Matches.{matchTable, knownPlaces}
@@ -21,14 +21,16 @@ use Rattle.write_lines.specs.Writing.{wrote}
 use Rattle.write_lines.specs.WritingLaws.{length-wrote}
 use Rattle.policy.specs.Policy.{Policy}
 use Rattle.policy.specs.Rules.{user, resource}
+use Rattle.policy.specs.declared.Weights.{Weights}
+use Rattle.write_cost.specs.CostSums.{weighed}
 use Rattle.mine_groups.specs.Scratch.{Merged}
 use Rattle.mine_groups.specs.SeatGroups.{seatMerges}
 use Rattle.role_record.specs.declared.RoleFile.{RoleFile}
 use Rattle.write_measure.specs.declared.Measured.{Measured}
 use Rattle.mine_merge.specs.Steps.{Tables}
-use Rattle.write_answer.specs.declared.Mined.{Mined}
+use Rattle.write_answer.specs.declared.Wrote.{Wrote}
 use Rattle.grant_distinct.specs.Distinct.{distinctTable, havingTable}
-use Rattle.write_answer.specs.declared.Mined.the-variants.{Written}
+use Rattle.write_answer.specs.declared.Wrote.the-variants.{Rules}
 
 -- ---- the record
 
@@ -116,7 +118,7 @@ module _ (F : Policy) (Z : Sized F) (kept distinct having inside kinds permissio
   file-so = rw (w .of-kept, w .of-distinct, w .of-having, w .of-inside, w .of-kinds, w .of-permissions, w .of-operations) (file-means F Z t (w .merged))
 
   pub measured-so : (m : Measured) → m ≡ measuredOf kept distinct having inside kinds permissions operations t
-      → (m .bytes ≡ length (minedBytes 2 F)) × (minedCounts 2 F ≡ record { size = m .bytes; parts = m .parts; rules = m .rules; merges = seatMerges F; cost = m .cost })
+      → (m .bytes ≡ length (minedBytes 2 F)) × ((weights : Weights) → minedCounts 2 F weights ≡ record { size = m .bytes; parts = m .parts; rules = m .rules; merges = seatMerges F; cost = weighed weights (m .sums) })
   measured-so m e =
       measure-means F Z t (w .merged) m (e ∙ rw (w .of-kept, w .of-distinct, w .of-having, w .of-inside, w .of-kinds, w .of-permissions, w .of-operations) refl)
 
@@ -135,11 +137,11 @@ record-sizes F Z f e =
 
 -- the answer once the file is written
 pub answered : (file : List ℕ) (scratch : ℕ) (former : List ℕ) → 4096 ≤ scratch → (F : Policy) → readRoles 2 file ≡ accepted F → (m : Measured) (merges : ℕ)
-    → minedCounts 2 F ≡ record { size = m .bytes; parts = m .parts; rules = m .rules; merges = seatMerges F; cost = m .cost } → merges ≡ seatMerges F → length (minedBytes 2 F) ≤ length former
-    → (bytes out : List ℕ) → bytes ≡ minedBytes 2 F → out ≡ wrote bytes former → Outcome file scratch former (Written (m .bytes) (m .parts) (m .rules) merges (m .cost)) out
+    → ((weights : Weights) → minedCounts 2 F weights ≡ record { size = m .bytes; parts = m .parts; rules = m .rules; merges = seatMerges F; cost = weighed weights (m .sums) }) → merges ≡ seatMerges F → length (minedBytes 2 F) ≤ length former
+    → (bytes out : List ℕ) → bytes ≡ minedBytes 2 F → out ≡ wrote bytes former → Outcome file scratch former (Rules (m .bytes) (m .parts) (m .rules) merges (m .sums)) out
 answered file scratch former h F q m merges e g l bytes out b o =
-    subst (λ (c : Counts). Outcome file scratch former (Written (c .size) (c .parts) (c .rules) (c .merges) (c .cost)) out) (e ∙ ap (λ (k : ℕ). record { size = m .bytes; parts = m .parts; rules = m .rules; merges = k; cost = m .cost }) (sym g))
-    (written file scratch former h F q l out (o ∙ ap (λ (x : List ℕ). wrote x former) b))
+    written file scratch former h F q l out (o ∙ ap (λ (x : List ℕ). wrote x former) b) (Rules (m .bytes) (m .parts) (m .rules) merges (m .sums))
+    (λ weights. ap (λ (k : ℕ). 0 ∷ m .bytes ∷ m .parts ∷ m .rules ∷ k ∷ weighed weights (m .sums) ∷ []) g ∙ ap (λ (c : Counts). 0 ∷ countValues c) (sym (e weights)))
 
 -- writing leaves the output as long as it was
 pub wrote-long : (kept distinct having inside kinds permissions : List ℕ) (operations : ℕ) (t : List ℕ) (m : Measured) → m ≡ measuredOf kept distinct having inside kinds permissions operations t
@@ -149,5 +151,5 @@ wrote-long kept distinct having inside kinds permissions operations t m e former
     ap length w ∙ length-wrote (fileBytes kept distinct having inside kinds permissions operations t) former (omega (arith, p, q))
 
 -- the answer that is told
-pub told-so : (file : List ℕ) (scratch : ℕ) (former : List ℕ) {out : List ℕ} {r s : Mined} → r ≡ s → Outcome file scratch former s out → Outcome file scratch former r out
-told-so file scratch former {out} e o = subst (λ (x : Mined). Outcome file scratch former x out) (sym e) o
+pub told-so : (file : List ℕ) (scratch : ℕ) (former : List ℕ) {out : List ℕ} {r s : Wrote} → r ≡ s → Outcome file scratch former s out → Outcome file scratch former r out
+told-so file scratch former {out} e o = subst (λ (x : Wrote). Outcome file scratch former x out) (sym e) o

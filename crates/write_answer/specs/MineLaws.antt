@@ -5,7 +5,7 @@ use borrow.Author.Tests.{le-leb, lt-leb}
 use lib.Dec.{leb}
 use lib.ListN.{length, drop, take}
 use mathlib.Core.Bool.{Bool, true, false}
-use mathlib.Core.List.{List, _++_}
+use mathlib.Core.List.{List, _∷_, _++_}
 use mathlib.Core.Path.{_≡_, refl, sym, ap, _∙_, subst}
 use Rattle.files.specs.Answer.{Refusal, numberOf, Answer, told, unless, andThen, smallScratch, shortOutput, refused, accepted}
 use Rattle.files.specs.BytesLaws.{Bytes}
@@ -14,11 +14,13 @@ use Rattle.files.specs.Calls.{Counts, countValues, minedBytes, minedCounts, may
 use Rattle.files.specs.Demand3.{Demand3}
 use Rattle.files.specs.RoleFile.{readRoles}
 use Rattle.write_answer.specs.MinedNumbers.{minedNumbers}
-use Rattle.write_answer.specs.Stages.{bytesFor, neededBytes, Outcome}
+use Rattle.write_answer.specs.Stages.{bytesFor, neededBytes, wroteNumbers, Outcome}
 use Rattle.policy.specs.Policy.{Policy, settingOf, rolesIn}
+use Rattle.policy.specs.declared.Weights.{Weights}
 use Rattle.role_file.specs.Reading.{refusal, loadedOf}
 use Rattle.write_answer.specs.declared.Mined.{Mined}
-use Rattle.write_answer.specs.declared.Mined.the-variants.{Refused, Written}
+use Rattle.write_answer.specs.declared.Wrote.{Wrote}
+use Rattle.write_answer.specs.declared.Wrote.the-variants.{Nothing}
 use Rattle.role_file.specs.declared.Loaded.{Loaded}
 
 module _ (file : List ℕ) (scratch : ℕ) (former : List ℕ) where
@@ -30,16 +32,16 @@ module _ (file : List ℕ) (scratch : ℕ) (former : List ℕ) where
   unfolding mineOutput
   output-by a h = ap outputBy h
 
-  refuses : (e : Refusal) → mayMine 2 file scratch (length former) ≡ refused e → Outcome file scratch former (Refused (numberOf e)) former
+  refuses : (e : Refusal) → mayMine 2 file scratch (length former) ≡ refused e → Outcome file scratch former (Nothing (numberOf e)) former
   unfolding mineAnswer
-  refuses e h = (rw h refl, sym (output-by (refused e) h))
+  refuses e h = (λ weights. rw h refl, sym (output-by (refused e) h))
 
   may-small : scratch < 4096 → mayMine 2 file scratch (length former) ≡ refused smallScratch
   unfolding mayMine
   may-small h = ap (λ (b : Bool). unless b smallScratch (andThen (readRoles 2 file) (λ F. unless (leb (length (minedBytes 2 F)) (length former)) shortOutput (accepted F)))) (lt-leb 4096 scratch h)
 
   -- 8
-  pub small : scratch < 4096 → Outcome file scratch former (Refused 8) former
+  pub small : scratch < 4096 → Outcome file scratch former (Nothing 8) former
   small h = refuses smallScratch (may-small h)
 
   module _ (h : 4096 ≤ scratch) where
@@ -48,12 +50,12 @@ module _ (file : List ℕ) (scratch : ℕ) (former : List ℕ) where
     may-read a e = rw (le-leb 4096 scratch h) (ap (λ (r : Answer Policy). andThen r (λ F. unless (leb (length (minedBytes 2 F)) (length former)) shortOutput (accepted F))) e)
 
     -- 1 to 7
-    pub unread : (l : Loaded) → l ≡ loadedOf (readRoles 2 file) → (l .code ≡ 0 → ⊥) → Outcome file scratch former (Refused (l .code)) former
+    pub unread : (l : Loaded) → l ≡ loadedOf (readRoles 2 file) → (l .code ≡ 0 → ⊥) → Outcome file scratch former (Nothing (l .code)) former
     unfolding loadedOf refusal
     unread l e n = go (readRoles 2 file) refl e
       where
-        go : (a : Answer Policy) → readRoles 2 file ≡ a → l ≡ loadedOf a → Outcome file scratch former (Refused (l .code)) former
-        go (refused d) q p = subst (λ (k : ℕ). Outcome file scratch former (Refused k) former) (ap (λ (m : Loaded). m .code) (sym p)) (refuses d (may-read (refused d) q))
+        go : (a : Answer Policy) → readRoles 2 file ≡ a → l ≡ loadedOf a → Outcome file scratch former (Nothing (l .code)) former
+        go (refused d) q p = subst (λ (k : ℕ). Outcome file scratch former (Nothing k) former) (ap (λ (m : Loaded). m .code) (sym p)) (refuses d (may-read (refused d) q))
         go (accepted F) q p = absurd (n (ap (λ (m : Loaded). m .code) p))
 
     module _ (F : Policy) (q : readRoles 2 file ≡ accepted F) where
@@ -61,28 +63,28 @@ module _ (file : List ℕ) (scratch : ℕ) (former : List ℕ) where
       may-room b e = may-read (accepted F) q ∙ ap (λ (x : Bool). unless x shortOutput (accepted F)) e
 
       -- 9
-      pub short : length former < length (minedBytes 2 F) → Outcome file scratch former (Refused 9) former
+      pub short : length former < length (minedBytes 2 F) → Outcome file scratch former (Nothing 9) former
       short l = refuses shortOutput (may-room false (lt-leb (length (minedBytes 2 F)) (length former) l))
 
       -- the file is written
       pub written : length (minedBytes 2 F) ≤ length former → (out : List ℕ) → out ≡ minedBytes 2 F ++ drop (length (minedBytes 2 F)) former
-          → Outcome file scratch former (Written (minedCounts 2 F .size) (minedCounts 2 F .parts) (minedCounts 2 F .rules) (minedCounts 2 F .merges) (minedCounts 2 F .cost)) out
+          → (r : Wrote) → ((weights : Weights) → wroteNumbers weights r ≡ 0 ∷ countValues (minedCounts 2 F weights)) → Outcome file scratch former r out
       unfolding mineAnswer
-      written l out e =
+      written l out e r n =
           let m = may-room true (le-leb (length (minedBytes 2 F)) (length former) l) in
-          (rw m refl, e ∙ sym (output-by (accepted F) m))
+          (λ weights. n weights ∙ sym (ap (λ (a : Answer Policy). told countValues (andThen a (λ F. accepted (minedCounts 2 F weights)))) m), e ∙ sym (output-by (accepted F) m))
 
   -- the third demand, of the first bytes of the output
-  pub demanded : Bytes file → (out : List ℕ) → out ≡ mineOutput 2 file scratch former → (c : Counts) → mineAnswer 2 file scratch (length former) ≡ accepted c
-      → (F : Policy) × (readRoles 2 file ≡ accepted F) × Demand3 2 (settingOf F) (rolesIn F) (take (c .size) out) c
-  demanded b out e c h =
-      subst (λ (o : List ℕ). (F : Policy) × (readRoles 2 file ≡ accepted F) × Demand3 2 (settingOf F) (rolesIn F) (take (c .size) o) c) (sym e) (third-demand 2 file b scratch former c h)
+  pub demanded : Bytes file → (weights : Weights) (out : List ℕ) → out ≡ mineOutput 2 file scratch former → (c : Counts) → mineAnswer 2 file weights scratch (length former) ≡ accepted c
+      → (F : Policy) × (readRoles 2 file ≡ accepted F) × Demand3 2 weights (settingOf F) (rolesIn F) (take (c .size) out) c
+  demanded b weights out e c h =
+      subst (λ (o : List ℕ). (F : Policy) × (readRoles 2 file ≡ accepted F) × Demand3 2 weights (settingOf F) (rolesIn F) (take (c .size) o) c) (sym e) (third-demand 2 file b weights scratch former c h)
 
-  -- all three together
-  pub promised : Bytes file → (r : Mined) (out : List ℕ) → Outcome file scratch former r out
-      → (minedNumbers r ≡ told countValues (mineAnswer 2 file scratch (length former))) × (out ≡ mineOutput 2 file scratch former)
-      × ((c : Counts) → mineAnswer 2 file scratch (length former) ≡ accepted c → (F : Policy) × (readRoles 2 file ≡ accepted F) × Demand3 2 (settingOf F) (rolesIn F) (take (c .size) out) c)
-  promised b r out o = (o .0, o .1, demanded b out (o .1))
+  -- all three together, of what is told of what was written
+  pub promised : Bytes file → (weights : Weights) (r : Mined) (w : Wrote) (out : List ℕ) → minedNumbers r ≡ wroteNumbers weights w → Outcome file scratch former w out
+      → (minedNumbers r ≡ told countValues (mineAnswer 2 file weights scratch (length former))) × (out ≡ mineOutput 2 file scratch former)
+      × ((c : Counts) → mineAnswer 2 file weights scratch (length former) ≡ accepted c → (F : Policy) × (readRoles 2 file ≡ accepted F) × Demand3 2 weights (settingOf F) (rolesIn F) (take (c .size) out) c)
+  promised b weights r w out n o = (n ∙ o .0 weights, o .1, demanded b weights out (o .1))
 
 -- a role file that is refused has no rule file
 pub unread-bytes : (file : List ℕ) (l : Loaded) → l ≡ loadedOf (readRoles 2 file) → (l .code ≡ 0 → ⊥) → 0 ≡ bytesFor (readRoles 2 file)

@@ -4,16 +4,18 @@ use Prim.Native.Nat.{ℕ, _≤_}
 use lib.Dec.{leb}
 use lib.ListN.{length}
 use mathlib.Core.Bool.{cond}
-use mathlib.Core.List.{List}
+use mathlib.Core.List.{List, [], _∷_}
 use mathlib.Core.Path.{_≡_}
 use Rattle.mine_distinct.specs.InsideValues.{distinctIn, havingIn, insideIn}
 use Rattle.files.specs.Answer.{Answer, told, refused, accepted}
 use Rattle.files.specs.Calls.{countValues, minedBytes, mineAnswer, mineOutput}
 use Rattle.files.specs.RoleFile.{readRoles}
 use Rattle.role_record.specs.Record.{recordOf}
-use Rattle.write_answer.specs.MinedNumbers.{minedNumbers}
 use Rattle.policy.specs.Policy.{Policy}
-use Rattle.write_answer.specs.declared.Mined.{Mined}
+use Rattle.policy.specs.declared.Weights.{Weights}
+use Rattle.write_answer.specs.declared.Wrote.{Wrote}
+use Rattle.write_answer.specs.declared.Wrote.the-variants.{Nothing, Rules}
+use Rattle.write_cost.specs.CostSums.{weighed}
 use Rattle.grant_grids.specs.Links.{linksOf}
 use Rattle.mine_groups.specs.Scratch.{Merged}
 use Rattle.mine_matches.specs.Matches.{knownIn, matchesIn}
@@ -72,10 +74,16 @@ pub record WrittenBy (F : Policy) (kept distinct having inside kinds permissions
   pub of-permissions : permissions ≡ recordOf F .permissions
   pub of-operations : operations ≡ recordOf F .operations
 
--- the answer and the output, from the file, the words of scratch and the former output
-abbrev pub Outcome : List ℕ → ℕ → List ℕ → Mined → List ℕ → Type 0
-Outcome file scratch former r out = (minedNumbers r ≡ told countValues (mineAnswer 2 file scratch (length former))) × (out ≡ mineOutput 2 file scratch former)
+-- what is told, by some weights, of what was written: a refusal's number; or 0, length, parts, rules and merges, and what the sums come to
+abbrev pub wroteNumbers : Weights → Wrote → List ℕ
+wroteNumbers weights (Nothing n) = n ∷ []
+wroteNumbers weights (Rules l p r m s) = 0 ∷ l ∷ p ∷ r ∷ m ∷ weighed weights s ∷ []
+
+-- what was written and the output, from the file, the words of scratch and the former output: the answer by whatever weights
+abbrev pub Outcome : List ℕ → ℕ → List ℕ → Wrote → List ℕ → Type 0
+Outcome file scratch former r out =
+    ((weights : Weights) → wroteNumbers weights r ≡ told countValues (mineAnswer 2 file weights scratch (length former))) × (out ≡ mineOutput 2 file scratch former)
 
 -- the same for every file that states a policy
-abbrev pub Result : Policy → List ℕ → Mined → List ℕ → Type 0
+abbrev pub Result : Policy → List ℕ → Wrote → List ℕ → Type 0
 Result F former r out = (file : List ℕ) (n : ℕ) → 4096 ≤ n → readRoles 2 file ≡ accepted F → Outcome file n former r out

@@ -7,17 +7,21 @@ ghost use Rattle.mine_seats.specs.Seats.{scratchWords};
 ghost use Rattle.role_record.specs.Record.{Sized};
 ghost use Rattle.files.specs.Calls.{minedBytes};
 ghost use Rattle.policy.specs.Policy.{Policy};
-ghost use Rattle.write_answer.specs.Stages.{Result, WrittenBy};
+ghost use Rattle.write_answer.specs.MinedNumbers.{minedNumbers};
+ghost use Rattle.write_answer.specs.Stages.{wroteNumbers, Result, WrittenBy};
 ghost use Rattle.mine_groups.specs.SeatGroups.{seatMerges};
-ghost use Rattle.write_answer.specs.declared.Mined.the-variants.{Written};
+ghost use Rattle.write_answer.specs.declared.Wrote.the-variants.{Rules};
 use files::refusal;
+use policy::Weights;
 use role_record::ByPlaceMember;
 use role_record::ByRoleOperation;
 use role_record::BySide;
 use role_record::RoleFile;
+use write_cost::Sums;
 use write_measure::Measured;
 
-// A refusal's number; or the bytes of the rule file, the parts of the role file, the rules and merges made, and the rules' cost.
+// A refusal's number; or the bytes of the rule file, the parts of the role file, the rules and merges made, and the rules' cost by the weights
+// that the call was handed.
 pub enum Mined {
     Refused(usize),
     Written {
@@ -25,13 +29,26 @@ pub enum Mined {
         parts: usize,
         rules: usize,
         merges: usize,
-        cost: usize,
+        cost: u64,
+    },
+}
+
+// What was written, before anything is weighed: nothing, and the refusal's number; or the rules, with what is told of them and what their cost is
+// made of.
+pub enum Wrote {
+    Nothing(usize),
+    Rules {
+        length: usize,
+        parts: usize,
+        rules: usize,
+        merges: usize,
+        sums: Sums,
     },
 }
 
 // What came of mining, and how long the rule file is.
 pub struct Attempt {
-    pub mined: Mined,
+    pub wrote: Wrote,
     pub bytes: usize,
 }
 
@@ -49,20 +66,43 @@ fn lacks_room(room: usize, bytes: usize) -> bool
 }
 
 // The answer where the rules are written.
-fn written(m: Measured, merges: usize) -> Attempt
+fn written(m: Measured, made: usize) -> Attempt
     ensures { λ r. ⌜
-        (r .mined ≡ Written (m .bytes) (m .parts) (m .rules) merges (m .cost)) × (r .bytes ≡ m .bytes) ⌝ }
+        (r .wrote ≡ Rules (m .bytes) (m .parts) (m .rules) made (m .sums)) × (r .bytes ≡ m .bytes) ⌝ }
 {
-    let mined = Mined::Written {
+    let sums = m.sums;
+    let wrote = Wrote::Rules {
         length: m.bytes,
         parts: m.parts,
         rules: m.rules,
-        merges: merges,
-        cost: m.cost,
+        merges: made,
+        sums: sums,
     };
     Attempt {
-        mined: mined,
+        wrote: wrote,
         bytes: m.bytes,
+    }
+}
+
+// The answer that a caller with these weights gets: only here are they looked at.
+pub fn answer(wrote: Wrote, weights: Weights) -> Mined
+    ensures { λ r. ⌜ minedNumbers r ≡ wroteNumbers weights wrote ⌝ }
+{
+    match wrote {
+        Wrote::Nothing(n) => Mined::Refused(n),
+        Wrote::Rules {
+            length,
+            parts,
+            rules,
+            merges,
+            sums,
+        } => Mined::Written {
+            length: length,
+            parts: parts,
+            rules: rules,
+            merges: merges,
+            cost: write_cost::weigh(weights, sums),
+        },
     }
 }
 
@@ -85,7 +125,7 @@ pub fn write_groups<'a>(
         → WrittenBy F (merging .kept) (now (distinct .entry)) (now (having .entry)) (now (inside .entry))
         (now (kinds .entry)) (now (permissions .entry)) operations (now (scratch .entry))
         → merging .made ≡ seatMerges F
-        → Result F (now (out .entry)) (r .mined) (now (out .exit)) × (r .bytes ≡ length (minedBytes 2 F))) ⌝ }
+        → Result F (now (out .entry)) (r .wrote) (now (out .exit)) × (r .bytes ≡ length (minedBytes 2 F))) ⌝ }
 {
     let mut group_roles = [0u64; RoleFile::PARTS];
     write_roles::roles_of_groups(scratch, &mut group_roles);
@@ -102,7 +142,7 @@ pub fn write_groups<'a>(
     );
     if lacks_room(out.len(), m.bytes) {
         return Attempt {
-            mined: Mined::Refused(refusal::SHORT_OUTPUT),
+            wrote: Wrote::Nothing(refusal::SHORT_OUTPUT),
             bytes: m.bytes,
         };
     }

@@ -11,19 +11,23 @@ use Rattle.role_record.specs.Record.{Sized, recordOf}
 use Rattle.files.specs.Calls.{minedBytes, minedCounts}
 use Rattle.files.specs.RuleFile.{encode, encodeAll, opens}
 use Rattle.write_kept.specs.Kept.{keptAt, keptHead, keptTable}
-use Rattle.write_measure.specs.FileTable.{costWith, ruleWith, fileBytes, measuredOf}
+use Rattle.write_measure.specs.FileTable.{sumsWith, sumsAt, ruleWith, fileBytes, measuredOf}
 use Rattle.role_record.specs.RecordLaws.{table-get}
 use Rattle.mine_matches.specs.Matches.{knownIn, matchesIn}
 use Rattle.grant_grids.specs.Links.{linksOf}
+use Rattle.policy.specs.Cost.{ruleCost}
 use Rattle.policy.specs.Covering.{levelOf}
 use Rattle.policy.specs.Merging.{union}
 use Rattle.policy.specs.Policy.{Policy, settingOf}
-use Rattle.policy.specs.Thinning.{ruleCost}
-use Rattle.write_theory.specs.RuleLists.{ruleCostIn}
+use Rattle.policy.specs.declared.Weights.{Weights}
+use Rattle.write_cost.specs.CostSumLaws.{cost-weighed, weighed-if, weighed-all}
+use Rattle.write_cost.specs.CostSums.{ruleSums, noSums, allSums, weighed}
+use Rattle.write_cost.specs.declared.Sums.{Sums}
+use Rattle.write_theory.specs.RuleLists.{ruleSumsIn}
 use Rattle.write_theory.specs.RuleTable.{ruleBytesIn}
-use Rattle.write_theory.specs.WriterLaws.{written-bytes, written-cost}
+use Rattle.write_theory.specs.WriterLaws.{written-bytes, written-sums}
 use Rattle.mine_distinct.specs.InsideValues.{distinctIn, havingIn, insideIn}
-use Rattle.sets.specs.ListLaws.{each-map}
+use Rattle.sets.specs.ListLaws.{each-map, sum-ext}
 use Rattle.sets.specs.Tests.{Is, keep, each, upTo, sum}
 use Rattle.mine_groups.specs.MergedLaws.{heads-each, heads-sum, heads-count, parts-count}
 use Rattle.mine_seats.specs.Seats.{wordsAt, isHeadAt}
@@ -31,6 +35,7 @@ use Rattle.mine_groups.specs.Scratch.{Merged}
 use Rattle.mine_groups.specs.SeatGroupLaws.{bytes-seats, counts-seats}
 use Rattle.mine_groups.specs.SeatGroups.{seatBlock, seatGroups, seatsOf, seatMerges, seatRule, seatLines}
 use Rattle.mine_thin.specs.KeptPlacesLaws.{kept-means}
+use Rattle.mine_theory.specs.Words.FlagLaws.{sum-if}
 use Rattle.mine_theory.specs.Words.Flags.{keptPlaces}
 use Rattle.write_measure.specs.declared.Measured.{Measured}
 
@@ -43,14 +48,6 @@ each-if p f (x ∷ l) = go (p x) (each-if p f l)
     go : (b : Bool) → each (λ i. cond (p i) (f i) []) l ≡ each f (keep p l) → cond b (f x) [] ++ each (λ i. cond (p i) (f i) []) l ≡ each f (cond b (x ∷ keep p l) (keep p l))
     go true e = ap (λ r. f x ++ r) e
     go false e = e
-
-sum-if : (p : ℕ → Bool) (f : ℕ → ℕ) (l : List ℕ) → sum (λ i. cond (p i) (f i) 0) l ≡ sum f (keep p l)
-sum-if p f [] = refl
-sum-if p f (x ∷ l) = go (p x) (sum-if p f l)
-  where
-    go : (b : Bool) → sum (λ i. cond (p i) (f i) 0) l ≡ sum f (keep p l) → cond b (f x) 0 + sum (λ i. cond (p i) (f i) 0) l ≡ sum f (cond b (x ∷ keep p l) (keep p l))
-    go true e = ap (λ (n : ℕ). f x + n) e
-    go false e = let d : 0 + sum (λ i. cond (p i) (f i) 0) l ≡ sum (λ i. cond (p i) (f i) 0) l = omega arith in d ∙ e
 
 module _ (F : Policy) (Z : Sized F) (t : List ℕ) (M : Merged F t) where
   -- the table of what is kept, by the tables of the policy's record
@@ -74,14 +71,14 @@ module _ (F : Policy) (Z : Sized F) (t : List ℕ) (M : Merged F t) where
   abbrev bytesOf : ℕ → List ℕ
   bytesOf i = ruleBytesIn (distinctIn F) (havingIn F) (insideIn F) (recordOf F .kinds) (recordOf F .permissions) (recordOf F .operations) t i (kept i)
 
-  abbrev costOf : ℕ → ℕ
-  costOf i = ruleCostIn (distinctIn F) (havingIn F) (insideIn F) (recordOf F .kinds) t i (kept i)
+  abbrev sumsOf : ℕ → Sums
+  sumsOf i = ruleSumsIn (distinctIn F) (havingIn F) (insideIn F) (recordOf F .kinds) t i (kept i)
 
   rule-so : (i : ℕ) → i < roleCells → Is (M .groups .alive i) → bytesOf i ≡ each (encode 2) (opens ∷ seatLines F (block i))
   rule-so i h a = written-bytes F Z t (M .groups) (M .shown) i h a (kept i) (kept-so i h a)
 
-  cost-so : (i : ℕ) → i < roleCells → Is (M .groups .alive i) → costOf i ≡ ruleCost (settingOf F) (seatRule F (block i))
-  cost-so i h a = written-cost F Z t (M .groups) (M .shown) i h a (kept i) (kept-so i h a)
+  sums-so : (i : ℕ) → i < roleCells → Is (M .groups .alive i) → sumsOf i ≡ ruleSums (settingOf F) (seatRule F (block i))
+  sums-so i h a = written-sums F Z t (M .groups) (M .shown) i h a (kept i) (kept-so i h a)
 
   abbrev tables-bytes : List ℕ
   tables-bytes = fileBytes keptIn (distinctIn F) (havingIn F) (insideIn F) (recordOf F .kinds) (recordOf F .permissions) (recordOf F .operations) t
@@ -101,14 +98,28 @@ module _ (F : Policy) (Z : Sized F) (t : List ℕ) (M : Merged F t) where
   abbrev tables-measured : Measured
   tables-measured = measuredOf keptIn (distinctIn F) (havingIn F) (insideIn F) (recordOf F .kinds) (recordOf F .permissions) (recordOf F .operations) t
 
+  -- what the rules' cost is made of comes to their cost, by whatever weights
+  weighed-groups : (weights : Weights)
+      → weighed weights (allSums (sumsAt keptIn (distinctIn F) (havingIn F) (insideIn F) (recordOf F .kinds) t) (upTo roleCells)) ≡ sum (λ g. ruleCost (settingOf F) weights (seatRule F g)) (seatGroups F)
+  unfolding sumsWith
+  weighed-groups weights =
+      weighed-all weights (λ i. cond (isHeadAt t i) (sumsOf i) noSums) (upTo roleCells)
+      ∙ sum-ext (λ i. weighed weights (cond (isHeadAt t i) (sumsOf i) noSums)) (λ i. cond (isHeadAt t i) (weighed weights (sumsOf i)) 0) (upTo roleCells) (λ i m. weighed-if weights (isHeadAt t i) (sumsOf i))
+      ∙ sum-if (isHeadAt t) (λ i. weighed weights (sumsOf i)) (upTo roleCells)
+      ∙ heads-sum F t M (λ g. ruleCost (settingOf F) weights (seatRule F g)) (λ i. weighed weights (sumsOf i)) (λ i h a. ap (weighed weights) (sums-so i h a) ∙ sym (cost-weighed (settingOf F) weights (seatRule F (block i))))
+
   -- THE LAW: the counts
   pub measure-means : (measured-of : Measured) → measured-of ≡ measuredOf keptIn (distinctIn F) (havingIn F) (insideIn F) (recordOf F .kinds) (recordOf F .permissions) (recordOf F .operations) t
-      → (measured-of .bytes ≡ length (minedBytes 2 F)) × (minedCounts 2 F ≡ record { size = measured-of .bytes; parts = measured-of .parts; rules = measured-of .rules; merges = seatMerges F; cost = measured-of .cost })
-  unfolding measuredOf costWith
+      → (measured-of .bytes ≡ length (minedBytes 2 F))
+      × ((weights : Weights) → minedCounts 2 F weights ≡ record { size = measured-of .bytes; parts = measured-of .parts; rules = measured-of .rules; merges = seatMerges F; cost = weighed weights (measured-of .sums) })
+  unfolding measuredOf
   measure-means m e =
       let sized : m .bytes ≡ length (minedBytes 2 F) = ap (λ (x : Measured). x .bytes) e ∙ ap length file-means in
       let ruled : m .rules ≡ length (seatGroups F) = ap (λ (x : Measured). x .rules) e ∙ heads-count F t M in
       let parted : m .parts ≡ length (seatsOf F) = ap (λ (x : Measured). x .parts) e ∙ parts-count F t M in
-      let costed : m .cost ≡ sum (λ g. ruleCost (settingOf F) (seatRule F g)) (seatGroups F) = ap (λ (x : Measured). x .cost) e ∙ sum-if (isHeadAt t) costOf (upTo roleCells) ∙ heads-sum F t M (λ g. ruleCost (settingOf F) (seatRule F g)) costOf cost-so in
-      let long : length (encodeAll 2 (map (seatLines F) (seatGroups F))) ≡ m .bytes = ap length (sym (bytes-seats F (Z .few) (Z .operable))) ∙ sym sized in
-      (sized, counts-seats F (Z .few) (Z .operable) ∙ rw (long, ← parted, ← ruled, ← costed) refl)
+      let long : length (encodeAll 2 (map (seatLines F) (seatGroups F))) ≡ m .bytes = ap length (sym (bytes-seats F (Z .few) (Z .operable))) ∙ sym sized in (
+        sized,
+        λ weights.
+            let costed : weighed weights (m .sums) ≡ sum (λ g. ruleCost (settingOf F) weights (seatRule F g)) (seatGroups F) = ap (λ (x : Measured). weighed weights (x .sums)) e ∙ weighed-groups weights in
+            counts-seats F (Z .few) (Z .operable) weights ∙ rw (long, ← parted, ← ruled, ← costed) refl,
+      )

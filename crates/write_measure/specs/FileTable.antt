@@ -6,23 +6,25 @@ use lib.ListN.{length, getD}
 use mathlib.Core.Bool.{cond}
 use mathlib.Core.List.{List, [], _∷_, _++_}
 use Rattle.role_record.specs.Cells.{roleCells}
-use Rattle.write_theory.specs.RuleLists.{ruleCostIn}
+use Rattle.write_cost.specs.CostSums.{noSums, allSums}
+use Rattle.write_cost.specs.declared.Sums.{Sums}
+use Rattle.write_theory.specs.RuleLists.{ruleSumsIn}
 use Rattle.write_theory.specs.RuleTable.{ruleBytesIn}
-use Rattle.sets.specs.Tests.{keep, each, upTo, sum}
+use Rattle.sets.specs.Tests.{keep, each, upTo}
 use Rattle.mine_seats.specs.Seats.{isPartAt, isHeadAt}
 use Rattle.write_measure.specs.declared.Measured.{Measured}
 
--- what the rule of a seat's group costs that keeps these places; nothing where the seat is no head
-unfoldable pub costWith : (distinct having inside kinds t : List ℕ) → (head kept : ℕ) → ℕ
-costWith distinct having inside kinds t head kept = cond (isHeadAt t head) (ruleCostIn distinct having inside kinds t head kept) 0
+-- what the cost of the rule of a seat's group is made of that keeps these places; nothing where the seat is no head
+unfoldable pub sumsWith : (distinct having inside kinds t : List ℕ) → (head kept : ℕ) → Sums
+sumsWith distinct having inside kinds t head kept = cond (isHeadAt t head) (ruleSumsIn distinct having inside kinds t head kept) noSums
 
 -- its bytes; none where the seat is no head
 unfoldable pub ruleWith : (distinct having inside kinds permissions : List ℕ) → ℕ → List ℕ → (head kept : ℕ) → List ℕ
 ruleWith distinct having inside kinds permissions operations t head kept = cond (isHeadAt t head) (ruleBytesIn distinct having inside kinds permissions operations t head kept) []
 
 -- both by the table of the places that each rule keeps
-abbrev pub costAt : (kept distinct having inside kinds t : List ℕ) → ℕ → ℕ
-costAt kept distinct having inside kinds t i = costWith distinct having inside kinds t i (getD kept i 0)
+abbrev pub sumsAt : (kept distinct having inside kinds t : List ℕ) → ℕ → Sums
+sumsAt kept distinct having inside kinds t i = sumsWith distinct having inside kinds t i (getD kept i 0)
 
 module _ (kept distinct having inside kinds permissions : List ℕ) (operations : ℕ) (t : List ℕ) where
   abbrev pub ruleAt : ℕ → List ℕ
@@ -37,6 +39,6 @@ module _ (kept distinct having inside kinds permissions : List ℕ) (operations 
   measuredOf = record {
     bytes = length fileBytes;
     rules = length (keep (isHeadAt t) (upTo roleCells));
-    cost = sum (costAt kept distinct having inside kinds t) (upTo roleCells);
+    sums = allSums (sumsAt kept distinct having inside kinds t) (upTo roleCells);
     parts = length (keep (isPartAt t) (upTo roleCells));
   }

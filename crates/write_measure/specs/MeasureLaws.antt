@@ -4,22 +4,23 @@ use Prim.Native.Nat.{ℕ, _+_, _*_, _≤_, _<_}
 use lib.ListN.{length, getD, set, length-append}
 use mathlib.Core.Bool.{Bool, true, false, cond}
 use mathlib.Core.List.{List, [], _∷_, _++_}
-use mathlib.Core.Path.{_≡_, refl, sym, ap, ap₂, _∙_}
+use mathlib.Core.Path.{_≡_, refl, sym, ap, ap₂, _∙_, subst}
 use native.Mathlib.Omega.{arith}
-use Rattle.write_measure.specs.FileTable.{ruleAt, costAt, fileBytes, measuredOf, costWith, ruleWith}
+use Rattle.write_measure.specs.FileTable.{ruleAt, sumsAt, fileBytes, measuredOf, sumsWith, ruleWith}
 use Rattle.write_theory.specs.SectionLaws.{bytes-most}
 use Rattle.write_lines.specs.Writing.{wrote}
 use Rattle.write_lines.specs.WritingLaws.{length-wrote, Runs, runs-end}
 use Rattle.role_record.specs.Cells.{roleCells}
-use Rattle.mine_theory.specs.Lines.RuleLines.{atomSet}
-use Rattle.sets.specs.ListLaws.{each-more, sum-more, keep-more}
-use Rattle.sets.specs.MaskLaws.{size-most}
-use Rattle.sets.specs.Tests.{keep, each, only, upTo, sum}
-use Rattle.mine_seats.specs.Seats.{wordsAt, isPartAt, isHeadAt}
+use Rattle.sets.specs.ListLaws.{each-more, keep-more}
+use Rattle.sets.specs.Tests.{keep, each, only, upTo}
+use Rattle.mine_seats.specs.Seats.{isPartAt, isHeadAt}
 use Rattle.write_measure.specs.declared.Measured.{Measured}
-use Rattle.write_theory.specs.RuleLists.{ruleCostIn}
+use Rattle.write_cost.specs.CostSumLaws.{all-more, all-most}
+use Rattle.write_cost.specs.CostSums.{noSums, added, allSums, AtMost}
+use Rattle.write_cost.specs.declared.Sums.{Sums}
+use Rattle.write_theory.specs.RuleLists.{ruleSumsIn}
 use Rattle.write_theory.specs.RuleTable.{ruleBytesIn}
-use Rattle.write_theory.specs.ListingLaws.{costs-most}
+use Rattle.write_theory.specs.ListingLaws.{sums-most}
 
 -- the last byte behind what was written
 pub end-written : (e o : List ℕ) (x : ℕ) → length (e ++ (x ∷ [])) ≤ length o → set (wrote e o) (length e) x ≡ wrote (e ++ (x ∷ [])) o
@@ -37,31 +38,36 @@ flag-low false = omega arith
 
 -- ---- what one seat can take
 
--- what one rule can cost
-rule-cost-most : (distinct having inside kinds : List ℕ) (t : List ℕ) (head kept : ℕ) → ruleCostIn distinct having inside kinds t head kept ≤ 65536
-unfolding ruleCostIn
-rule-cost-most distinct having inside kinds t head kept =
-    let a = costs-most distinct having inside kinds t head kept 14 in
-    let b = size-most (wordsAt t head .ops) in
-    let c = size-most (atomSet kept) in
-    omega (arith, a, b, c)
-
 module _ (distinct having inside kinds t : List ℕ) (head kept : ℕ) where
-  pub cost-head : isHeadAt t head ≡ true → ruleCostIn distinct having inside kinds t head kept ≡ costWith distinct having inside kinds t head kept
-  unfolding costWith
-  cost-head h = sym (ap (λ (b : Bool). cond b (ruleCostIn distinct having inside kinds t head kept) 0) h)
+  pub sums-head : isHeadAt t head ≡ true → ruleSumsIn distinct having inside kinds t head kept ≡ sumsWith distinct having inside kinds t head kept
+  unfolding sumsWith
+  sums-head h = sym (ap (λ (b : Bool). cond b (ruleSumsIn distinct having inside kinds t head kept) noSums) h)
 
-  pub cost-none : isHeadAt t head ≡ false → 0 ≡ costWith distinct having inside kinds t head kept
-  unfolding costWith
-  cost-none h = sym (ap (λ (b : Bool). cond b (ruleCostIn distinct having inside kinds t head kept) 0) h)
+  pub sums-none : isHeadAt t head ≡ false → noSums ≡ sumsWith distinct having inside kinds t head kept
+  unfolding sumsWith
+  sums-none h = sym (ap (λ (b : Bool). cond b (ruleSumsIn distinct having inside kinds t head kept) noSums) h)
 
-  pub cost-low : costWith distinct having inside kinds t head kept ≤ 65536
-  unfolding costWith
-  cost-low = go (isHeadAt t head)
+  pub sums-low : AtMost 28672 (sumsWith distinct having inside kinds t head kept)
+  unfolding sumsWith
+  sums-low = go (isHeadAt t head)
     where
-      go : (b : Bool) → cond b (ruleCostIn distinct having inside kinds t head kept) 0 ≤ 65536
-      go true = rule-cost-most distinct having inside kinds t head kept
-      go false = omega arith
+      go : (b : Bool) → AtMost 28672 (cond b (ruleSumsIn distinct having inside kinds t head kept) noSums)
+      go true = sums-most distinct having inside kinds t head kept
+      go false = (omega arith, omega arith, omega arith, omega arith)
+
+-- the sums of two fit together: those so far, of at most 512 seats, and those of one more
+pub add-fits : (kept distinct having inside kinds t : List ℕ) (i : ℕ) {a b : Sums} → i < roleCells → a ≡ allSums (sumsAt kept distinct having inside kinds t) (upTo i) → b ≡ sumsAt kept distinct having inside kinds t i
+    → AtMost 2147483647 a × AtMost 2147483647 b
+add-fits kept distinct having inside kinds t i {a} {b} l e f = (
+  subst (AtMost 2147483647) (sym e) (lower (allSums (sumsAt kept distinct having inside kinds t) (upTo i)) (all-most 28672 (sumsAt kept distinct having inside kinds t) (λ j. sums-low distinct having inside kinds t j (getD kept j 0)) i)),
+  subst (AtMost 2147483647) (sym f) (low (sumsAt kept distinct having inside kinds t i) (sums-low distinct having inside kinds t i (getD kept i 0))),
+)
+  where
+    lower : (s : Sums) → AtMost (28672 * i) s → AtMost 2147483647 s
+    lower s h = let u = h .0 in let r = h .1 in let o = h .2 in let m = h .3 in (omega (arith, l, u), omega (arith, l, r), omega (arith, l, o), omega (arith, l, m))
+
+    low : (s : Sums) → AtMost 28672 s → AtMost 2147483647 s
+    low s h = let u = h .0 in let r = h .1 in let o = h .2 in let m = h .3 in (omega (arith, u), omega (arith, r), omega (arith, o), omega (arith, m))
 
 module _ (distinct having inside kinds permissions : List ℕ) (operations : ℕ) (t : List ℕ) (head kept : ℕ) where
   pub seat-head : isHeadAt t head ≡ true → ruleBytesIn distinct having inside kinds permissions operations t head kept ≡ ruleWith distinct having inside kinds permissions operations t head kept
@@ -84,24 +90,24 @@ module _ (kept distinct having inside kinds permissions : List ℕ) (operations 
   abbrev rule : ℕ → List ℕ
   rule = ruleAt kept distinct having inside kinds permissions operations t
 
-  abbrev cost : ℕ → ℕ
-  cost = costAt kept distinct having inside kinds t
+  abbrev made : ℕ → Sums
+  made = sumsAt kept distinct having inside kinds t
 
   -- ---- so many seats
 
-  pub record Counted (bytes rules costs parts i : ℕ) : Type 0 where
+  pub record Counted (bytes rules : ℕ) (sums : Sums) (parts i : ℕ) : Type 0 where
     pub within : i ≤ roleCells
     pub bytes-so : bytes ≡ length (each (ruleAt kept distinct having inside kinds permissions operations t) (upTo i))
     pub bytes-low : bytes ≤ 12288 * i
     pub rules-so : rules ≡ length (keep (isHeadAt t) (upTo i))
     pub rules-low : rules ≤ i
-    pub costs-so : costs ≡ sum (costAt kept distinct having inside kinds t) (upTo i)
-    pub costs-low : costs ≤ 65536 * i
+    pub sums-so : sums ≡ allSums (sumsAt kept distinct having inside kinds t) (upTo i)
     pub parts-so : parts ≡ length (keep (isPartAt t) (upTo i))
     pub parts-low : parts ≤ i
 
-  pub counted-none : Counted 0 0 0 0 0
-  counted-none = record { within = omega arith; bytes-so = refl; bytes-low = omega arith; rules-so = refl; rules-low = omega arith; costs-so = refl; costs-low = omega arith; parts-so = refl; parts-low = omega arith }
+  pub counted-none : (sums : Sums) → sums ≡ noSums → Counted 0 0 sums 0 0
+  unfolding allSums
+  counted-none sums e = record { within = omega arith; bytes-so = refl; bytes-low = omega arith; rules-so = refl; rules-low = omega arith; sums-so = e; parts-so = refl; parts-low = omega arith }
 
   kept-more : (p : ℕ → Bool) (i : ℕ) → length (keep p (upTo (i + 1))) ≡ length (keep p (upTo i)) + cond (p i) 1 0
   kept-more p i = ap length (keep-more p i) ∙ length-append (keep p (upTo i)) (only (p i) i) ∙ ap (λ (k : ℕ). length (keep p (upTo i)) + k) (one (p i))
@@ -110,15 +116,14 @@ module _ (kept distinct having inside kinds permissions : List ℕ) (operations 
       one true = refl
       one false = refl
 
-  pub counted-more : (b r c p i db dr dc dp : ℕ) → Counted b r c p i → i < roleCells → db ≡ length (rule i) → dr ≡ cond (isHeadAt t i) 1 0 → dc ≡ cost i → dp ≡ cond (isPartAt t i) 1 0 → Counted (b + db) (r + dr) (c + dc) (p + dp) (i + 1)
-  counted-more b r c p i db dr dc dp n l e f g h =
+  pub counted-more : (b r : ℕ) (s : Sums) (p i db dr : ℕ) (ds s′ : Sums) (dp : ℕ) → Counted b r s p i → i < roleCells → db ≡ length (rule i) → dr ≡ cond (isHeadAt t i) 1 0 → ds ≡ made i → s′ ≡ added s ds → dp ≡ cond (isPartAt t i) 1 0
+      → Counted (b + db) (r + dr) s′ (p + dp) (i + 1)
+  counted-more b r s p i db dr ds s′ dp n l e f g k h =
       let m = rule-most distinct having inside kinds permissions operations t i (getD kept i 0) in
-      let o = cost-low distinct having inside kinds t i (getD kept i 0) in
       let x = flag-low (isHeadAt t i) in
       let y = flag-low (isPartAt t i) in
       let q = n .bytes-low in
       let u = n .rules-low in
-      let v = n .costs-low in
       let w = n .parts-low in
       record {
         within = omega arith;
@@ -126,24 +131,23 @@ module _ (kept distinct having inside kinds permissions : List ℕ) (operations 
         bytes-low = omega arith;
         rules-so = ap₂ _+_ (n .rules-so) f ∙ sym (kept-more (isHeadAt t) i);
         rules-low = omega arith;
-        costs-so = ap₂ _+_ (n .costs-so) g ∙ sym (sum-more cost i);
-        costs-low = omega arith;
+        sums-so = k ∙ ap₂ added (n .sums-so) g ∙ sym (all-more made i);
         parts-so = ap₂ _+_ (n .parts-so) h ∙ sym (kept-more (isPartAt t) i);
         parts-low = omega arith;
       }
 
-  pub counted-end : (b r c p i : ℕ) → Counted b r c p i → i ≡ roleCells
-      → record { bytes = b + 1; rules = r; cost = c; parts = p } ≡ measuredOf kept distinct having inside kinds permissions operations t
+  pub counted-end : (b r : ℕ) (s : Sums) (p i : ℕ) → Counted b r s p i → i ≡ roleCells
+      → record { bytes = b + 1; rules = r; sums = s; parts = p } ≡ measuredOf kept distinct having inside kinds permissions operations t
   unfolding measuredOf fileBytes
-  counted-end b r c p i n e =
+  counted-end b r s p i n e =
       let long : b + 1 ≡ length (each rule (upTo roleCells) ++ (0x2F ∷ [])) = ap (λ (k : ℕ). k + 1) (n .bytes-so ∙ ap (λ (k : ℕ). length (each rule (upTo k))) e) ∙ sym (length-append (each rule (upTo roleCells)) (0x2F ∷ [])) in
       let ruled : r ≡ length (keep (isHeadAt t) (upTo roleCells)) = n .rules-so ∙ ap (λ (k : ℕ). length (keep (isHeadAt t) (upTo k))) e in
-      let costed : c ≡ sum cost (upTo roleCells) = n .costs-so ∙ ap (λ (k : ℕ). sum cost (upTo k)) e in
+      let summed : s ≡ allSums made (upTo roleCells) = n .sums-so ∙ ap (λ (k : ℕ). allSums made (upTo k)) e in
       let parted : p ≡ length (keep (isPartAt t) (upTo roleCells)) = n .parts-so ∙ ap (λ (k : ℕ). length (keep (isPartAt t) (upTo k))) e in
-      made long ruled costed parted
+      together long ruled summed parted
     where
-      made : {b r c p x y z w : ℕ} → b ≡ x → r ≡ y → c ≡ z → p ≡ w → _≡_ {A = Measured} (record { bytes = b; rules = r; cost = c; parts = p }) (record { bytes = x; rules = y; cost = z; parts = w })
-      made e f g h = rw (e, f, g, h) refl
+      together : {b r p x y w : ℕ} {s z : Sums} → b ≡ x → r ≡ y → s ≡ z → p ≡ w → _≡_ {A = Measured} (record { bytes = b; rules = r; sums = s; parts = p }) (record { bytes = x; rules = y; sums = z; parts = w })
+      together e f g h = rw (e, f, g, h) refl
 
   -- ---- the end of writing
 

@@ -1,28 +1,42 @@
-// How long the rule file is, how many parts and rules it has, and what it costs, without writing it.
+// How long the rule file is, how many parts and rules it has, and what its cost is made of, without writing it.
 ghost use lib.ListN.{length};
 ghost use mathlib.Core.Bool.{cond};
 ghost use mathlib.Core.Path.{_≡_};
 ghost use Prim.Native.Nat.{_≤_, _<_};
-ghost use Rattle.write_measure.specs.FileTable.{measuredOf, costWith, ruleWith};
+ghost use Rattle.write_measure.specs.FileTable.{measuredOf, sumsWith, ruleWith};
 ghost use Rattle.mine_seats.specs.Seats.{scratchWords};
+ghost use Rattle.write_cost.specs.CostSums.{noSums};
 ghost use Rattle.role_record.specs.Cells.{roleCells};
 ghost use Rattle.write_roles.specs.GroupRoles.{rolesFor, rolesTable};
 use role_record::ByPlaceMember;
 use role_record::ByRoleOperation;
 use role_record::BySide;
 use role_record::RoleFile;
-use write_sizes::Size;
+use write_cost::Sums;
+use write_sizes::RuleSize;
 use write_theory::Outline;
 
-// The bytes of a rule file, its rules, their cost, and the parts that they list.
+// The bytes of a rule file, its rules, what their cost is made of, and the parts that they list.
 pub struct Measured {
     pub bytes: usize,
     pub rules: usize,
-    pub cost: usize,
+    pub sums: Sums,
     pub parts: usize,
 }
 
-// How long a rule is and what it costs; nothing where its seat is no head.
+// What no rule has.
+fn no_sums() -> Sums
+    ensures { λ r. ⌜ r ≡ noSums ⌝ }
+{
+    Sums {
+        users: 0,
+        resources: 0,
+        operations: 0,
+        atoms: 0,
+    }
+}
+
+// How long a rule is and what its cost is made of; nothing where its seat is no head.
 fn size_seat<'a>(
     distinct: &'a ByPlaceMember,
     having: &'a ByPlaceMember,
@@ -32,7 +46,7 @@ fn size_seat<'a>(
     operations: usize,
     scratch: &'a [u64],
     rule: Outline,
-) -> Size
+) -> RuleSize
     requires { ⌜
         (operations ≤ 16)
         × (length (now scratch) ≡ scratchWords)
@@ -43,8 +57,8 @@ fn size_seat<'a>(
         ≡ length
         (ruleWith (now (distinct .entry)) (now (having .entry)) (now (inside .entry)) (now (kinds .entry))
         (now (permissions .entry)) operations (now (scratch .entry)) (rule .head) (rule .kept)))
-        × (r .cost
-        ≡ costWith (now (distinct .entry)) (now (having .entry)) (now (inside .entry)) (now (kinds .entry))
+        × (r .sums
+        ≡ sumsWith (now (distinct .entry)) (now (having .entry)) (now (inside .entry)) (now (kinds .entry))
         (now (scratch .entry)) (rule .head) (rule .kept)) ⌝ }
 {
     if mine_seats::is_head(scratch, rule.head) {
@@ -59,7 +73,10 @@ fn size_seat<'a>(
             rule,
         );
     }
-    Size { bytes: 0, cost: 0 }
+    RuleSize {
+        bytes: 0,
+        sums: no_sums(),
+    }
 }
 
 fn one_if(b: bool) -> usize
@@ -93,7 +110,7 @@ pub fn measure<'a>(
 {
     let mut bytes: usize = 0;
     let mut rules: usize = 0;
-    let mut cost: usize = 0;
+    let mut sums = no_sums();
     let mut parts: usize = 0;
     for i in 0..RoleFile::PARTS {
         let rule = Outline {
@@ -112,14 +129,15 @@ pub fn measure<'a>(
             rule,
         );
         bytes += size.bytes;
-        cost += size.cost;
+        let of_rule = size.sums;
+        sums = write_cost::add(sums, of_rule);
         rules += one_if(mine_seats::is_head(scratch, i));
         parts += one_if(mine_seats::is_part(scratch, i));
     }
     Measured {
         bytes: bytes + 1,
         rules: rules,
-        cost: cost,
+        sums: sums,
         parts: parts,
     }
 }

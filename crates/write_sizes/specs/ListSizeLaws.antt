@@ -17,8 +17,8 @@ use Rattle.sets.specs.Tests.{Is, keep, only, upTo, sum}
 use Rattle.sets.specs.TestLaws.{never}
 use Rattle.write_theory.specs.ListingLaws.{place-members, listed-most, cost-most}
 use Rattle.role_record.specs.Places.{setPlace}
-use Rattle.write_theory.specs.RuleLists.{listedAt, placeCostIn}
-use Rattle.write_sizes.specs.Sizes.{linesLong, linesCost, placeLongIn}
+use Rattle.write_theory.specs.RuleLists.{sidePlace, listedAt, placeCostIn, sideCostIn}
+use Rattle.write_sizes.specs.Sizes.{linesLong, linesCost, placeLongIn, sideLongIn}
 
 -- ---- the values at a place
 
@@ -124,41 +124,50 @@ module _ (distinct having inside kinds t : List ℕ) (head kept i : ℕ) where
       go true false l h = omega arith
       go false set l h = omega arith
 
-module _ (distinct having inside kinds t : List ℕ) (head kept : ℕ) where
+module _ (distinct having inside kinds t : List ℕ) (head kept side : ℕ) where
+  -- the bytes of the conjunct number j of the side, and what it costs
+  abbrev long : ℕ → ℕ
+  long j = placeLongIn distinct having inside kinds t head kept (sidePlace side j)
+
+  abbrev costs : ℕ → ℕ
+  costs j = placeCostIn distinct having inside kinds t head kept (sidePlace side j)
+
   -- so many conjuncts
   pub record Conjuncts (bytes cost i : ℕ) : Type 0 where
-    pub within : i ≤ 14
-    pub bytes-so : bytes ≡ sum (placeLongIn distinct having inside kinds t head kept) (upTo i)
+    pub within : i ≤ 7
+    pub bytes-so : bytes ≡ sum (λ j. placeLongIn distinct having inside kinds t head kept (sidePlace side j)) (upTo i)
     pub bytes-low : bytes ≤ 640 * i
-    pub cost-so : cost ≡ sum (placeCostIn distinct having inside kinds t head kept) (upTo i)
+    pub cost-so : cost ≡ sum (λ j. placeCostIn distinct having inside kinds t head kept (sidePlace side j)) (upTo i)
     pub cost-low : cost ≤ 4096 * i
 
   pub conjuncts-none : Conjuncts 0 0 0
   conjuncts-none = record { within = omega arith; bytes-so = refl; bytes-low = omega arith; cost-so = refl; cost-low = omega arith }
 
   -- one more
-  pub conjuncts-more : (bytes cost i b c : ℕ) → Conjuncts bytes cost i → i < 14
-      → (b ≡ placeLongIn distinct having inside kinds t head kept i) × (c ≡ placeCostIn distinct having inside kinds t head kept i) → Conjuncts (bytes + b) (cost + c) (i + 1)
+  pub conjuncts-more : (bytes cost i b c : ℕ) → Conjuncts bytes cost i → i < 7
+      → (b ≡ placeLongIn distinct having inside kinds t head kept (sidePlace side i)) × (c ≡ placeCostIn distinct having inside kinds t head kept (sidePlace side i)) → Conjuncts (bytes + b) (cost + c) (i + 1)
   conjuncts-more bytes cost i b c n l e =
-      let x = long-most distinct having inside kinds t head kept i in
-      let y = cost-most distinct having inside kinds t head kept i in
+      let x = long-most distinct having inside kinds t head kept (sidePlace side i) in
+      let y = cost-most distinct having inside kinds t head kept (sidePlace side i) in
       let p = n .bytes-low in
       let q = n .cost-low in
       let u = e .0 in
       let v = e .1 in
       record {
-        within = turn-within i 14 l;
-        bytes-so = ap₂ _+_ (n .bytes-so) u ∙ sym (sum-more (placeLongIn distinct having inside kinds t head kept) i);
+        within = turn-within i 7 l;
+        bytes-so = ap₂ _+_ (n .bytes-so) u ∙ sym (sum-more long i);
         bytes-low = omega arith;
-        cost-so = ap₂ _+_ (n .cost-so) v ∙ sym (sum-more (placeCostIn distinct having inside kinds t head kept) i);
+        cost-so = ap₂ _+_ (n .cost-so) v ∙ sym (sum-more costs i);
         cost-low = omega arith;
       }
 
   -- all
-  pub conjuncts-end : (bytes cost i : ℕ) → i ≡ 14 → Conjuncts bytes cost i
-      → (bytes ≡ sum (placeLongIn distinct having inside kinds t head kept) (upTo 14)) × (cost ≡ sum (placeCostIn distinct having inside kinds t head kept) (upTo 14))
-  conjuncts-end bytes cost i e n = (n .bytes-so ∙ ap (λ (k : ℕ). sum (placeLongIn distinct having inside kinds t head kept) (upTo k)) e, n .cost-so ∙ ap (λ (k : ℕ). sum (placeCostIn distinct having inside kinds t head kept) (upTo k)) e)
+  pub conjuncts-end : (bytes cost i : ℕ) → i ≡ 7 → Conjuncts bytes cost i
+      → (bytes ≡ sideLongIn distinct having inside kinds t head kept side) × (cost ≡ sideCostIn distinct having inside kinds t head kept side)
+  unfolding sideLongIn sideCostIn
+  conjuncts-end bytes cost i e n = (n .bytes-so ∙ ap (λ (k : ℕ). sum long (upTo k)) e, n .cost-so ∙ ap (λ (k : ℕ). sum costs (upTo k)) e)
 
-  -- the lines of all have at most 8960 bytes
-  pub longs-most : sum (placeLongIn distinct having inside kinds t head kept) (upTo 14) ≤ 8960
-  longs-most = sum-most 640 (placeLongIn distinct having inside kinds t head kept) (upTo 14) (λ i m. long-most distinct having inside kinds t head kept i)
+  -- the lines of all have at most 4480 bytes
+  pub longs-most : sideLongIn distinct having inside kinds t head kept side ≤ 4480
+  unfolding sideLongIn
+  longs-most = sum-most 640 long (upTo 7) (λ j m. long-most distinct having inside kinds t head kept (sidePlace side j))

@@ -11,7 +11,7 @@ use native.Mathlib.Nat.{zero-add}
 use native.Mathlib.Omega.{arith}
 use Rattle.sets.specs.ListLaws.{length-each, sum-ext, sum-each, sum-most, sum-both}
 use Rattle.sets.specs.MemberLaws.{bit-less}
-use Rattle.policy.specs.Rules.{Which, user, resource}
+use Rattle.policy.specs.Rules.{Which, by, user, resource}
 use Rattle.mine_theory.specs.Lines.RuleBytesLaws.{atom-bytes, atom-length, value-length}
 use Rattle.mine_theory.specs.Lines.RuleLines.{valueBytes, partBytes, atomSet, kindPlace}
 use Rattle.mine_seats.specs.Seats.{operationsAt}
@@ -24,7 +24,7 @@ use Rattle.role_record.specs.Cells.{rowCells, roleCells}
 use Rattle.role_record.specs.Places.{placeAttribute, setPlace}
 use Rattle.write_theory.specs.ListingLaws.{listed-none, classes-most}
 use Rattle.write_theory.specs.RuleLists.{listedAt, memberSet, classesAt}
-use Rattle.write_sizes.specs.Sizes.{linesLong, placeLongIn}
+use Rattle.write_sizes.specs.Sizes.{linesLong, placeLongIn, sideLongIn}
 use Rattle.write_theory.specs.RuleTable.{keptAs, placeBytesIn, kindBytesIn, atomBytesAt, atomBytesIn, roleBytesIn, partBytesIn, ruleBytesIn}
 use Rattle.write_roles.specs.GroupRoles.{rolesFor}
 use Rattle.write_sizes.specs.ListSizeLaws.{longs-most}
@@ -143,10 +143,6 @@ module _ (permissions : List ℕ) (operations : ℕ) (t : List ℕ) (head : ℕ)
 
 -- ---- conjuncts
 
--- the places of both sides are the 14
-two-sides : (f : ℕ → ℕ) → sum (λ j. f (kindPlace user j)) (upTo 7) + sum (λ j. f (kindPlace resource j)) (upTo 7) ≡ sum f (upTo 14)
-two-sides f = omega arith
-
 module _ (distinct having inside kinds : List ℕ) (t : List ℕ) (head kept : ℕ) where
   -- a place has lines of one kind, sets or singles
   place-long : (w : Which) (i : ℕ)
@@ -170,8 +166,8 @@ module _ (distinct having inside kinds : List ℕ) (t : List ℕ) (head kept : �
       go false set l m n p q = refl
 
   side-long : (w : Which)
-      → length (kindBytesIn distinct having inside kinds t head kept w false) + length (kindBytesIn distinct having inside kinds t head kept w true) ≡ sum (λ j. placeLongIn distinct having inside kinds t head kept (kindPlace w j)) (upTo 7)
-  unfolding kindBytesIn
+      → length (kindBytesIn distinct having inside kinds t head kept w false) + length (kindBytesIn distinct having inside kinds t head kept w true) ≡ sideLongIn distinct having inside kinds t head kept (by w 0 1)
+  unfolding kindBytesIn sideLongIn
   side-long w =
       ap₂ _+_ (length-each (bytes false) (upTo 7)) (length-each (bytes true) (upTo 7))
       ∙ sum-both (λ j. length (bytes false j)) (λ j. length (bytes true j)) (upTo 7)
@@ -189,25 +185,25 @@ atoms-long kept = sym (ap length (atom-bytes kept)) ∙ atom-length kept
 
 -- ---- the rule
 
-module _ (distinct having inside kinds permissions : List ℕ) (operations : ℕ) (t : List ℕ) (head kept : ℕ) (conjuncts atoms parts : ℕ)
-    (c : conjuncts ≡ sum (placeLongIn distinct having inside kinds t head kept) (upTo 14)) (p : parts ≡ sum (partCount permissions operations t head) (upTo 32)) where
+module _ (distinct having inside kinds permissions : List ℕ) (operations : ℕ) (t : List ℕ) (head kept : ℕ) (users resources atoms parts : ℕ)
+    (u : users ≡ sideLongIn distinct having inside kinds t head kept 0) (r : resources ≡ sideLongIn distinct having inside kinds t head kept 1) (p : parts ≡ sum (partCount permissions operations t head) (upTo 32)) where
   -- it is small
-  pub size-within : (set : ℕ) → atoms ≡ size set → 4 + conjuncts + 3 * atoms + 4 * parts ≤ 12288
+  pub size-within : (set : ℕ) → atoms ≡ size set → 4 + users + resources + 3 * atoms + 4 * parts ≤ 12288
   size-within set a =
-      within c (longs-most distinct having inside kinds t head kept) a (size-most set) p (counts-most permissions operations t head)
+      within u (longs-most distinct having inside kinds t head kept 0) r (longs-most distinct having inside kinds t head kept 1) a (size-most set) p (counts-most permissions operations t head)
     where
-      within : {x y z : ℕ} → conjuncts ≡ x → x ≤ 8960 → atoms ≡ y → y ≤ 64 → parts ≡ z → z ≤ roleCells → 4 + conjuncts + 3 * atoms + 4 * parts ≤ 12288
-      within d e f g h i = omega arith
+      within : {x y z w : ℕ} → users ≡ x → x ≤ 4480 → resources ≡ y → y ≤ 4480 → atoms ≡ z → z ≤ 64 → parts ≡ w → w ≤ roleCells → 4 + users + resources + 3 * atoms + 4 * parts ≤ 12288
+      within b c d e f g h i = omega arith
 
   -- section by section
-  pub size-added : (set : ℕ) → atoms ≡ size set → set ≡ atomSet kept → 4 + conjuncts + 3 * atoms + 4 * parts ≡ length (ruleBytesIn distinct having inside kinds permissions operations t head kept)
+  pub size-added : (set : ℕ) → atoms ≡ size set → set ≡ atomSet kept → 4 + users + resources + 3 * atoms + 4 * parts ≡ length (ruleBytesIn distinct having inside kinds permissions operations t head kept)
   unfolding ruleBytesIn
   size-added set a e =
       go (kindBytesIn distinct having inside kinds t head kept user false) (kindBytesIn distinct having inside kinds t head kept user true) (kindBytesIn distinct having inside kinds t head kept resource false) (kindBytesIn distinct having inside kinds t head kept resource true)
       (operationsAt t head % 256) (operationsAt t head / 256 % 256) (atomBytesIn kept) (partBytesIn permissions operations t head)
-      (side-long distinct having inside kinds t head kept user) (side-long distinct having inside kinds t head kept resource) (c ∙ sym (two-sides (placeLongIn distinct having inside kinds t head kept)))
+      (side-long distinct having inside kinds t head kept user) (side-long distinct having inside kinds t head kept resource) u r
       (atoms-long kept) (a ∙ ap size e) (parts-long permissions operations t head) p
     where
-      go : (i j k l : List ℕ) (x y : ℕ) (e f : List ℕ) {us rs n m : ℕ} → length i + length j ≡ us → length k + length l ≡ rs → conjuncts ≡ us + rs → length e ≡ 3 * n → atoms ≡ n → length f ≡ 4 * m → parts ≡ m
-          → 4 + conjuncts + 3 * atoms + 4 * parts ≡ length (0x21 ∷ (i ++ (j ++ (k ++ (l ++ ((0x26 ∷ x ∷ y ∷ []) ++ (e ++ f)))))))
-      go i j k l x y e f q r s u v w z = simp length-append (omega arith)
+      go : (i j k l : List ℕ) (x y : ℕ) (e f : List ℕ) {us rs n m : ℕ} → length i + length j ≡ us → length k + length l ≡ rs → users ≡ us → resources ≡ rs → length e ≡ 3 * n → atoms ≡ n → length f ≡ 4 * m → parts ≡ m
+          → 4 + users + resources + 3 * atoms + 4 * parts ≡ length (0x21 ∷ (i ++ (j ++ (k ++ (l ++ ((0x26 ∷ x ∷ y ∷ []) ++ (e ++ f)))))))
+      go i j k l x y e f q r s t u v w z = simp length-append (omega arith)

@@ -7,19 +7,26 @@ ghost use Rattle.mine_seats.specs.Seats.{scratchWords};
 ghost use Rattle.role_record.specs.Cells.{roleCells};
 ghost use Rattle.sets.specs.Tests.{upTo, sum};
 ghost use Rattle.write_roles.specs.GroupRoles.{rolesFor};
-ghost use Rattle.write_sizes.specs.Sizes.{linesLong, linesCost, placeLongIn};
-ghost use Rattle.write_theory.specs.RuleLists.{placeCostIn, ruleCostIn, classesAt};
+ghost use Rattle.write_sizes.specs.Sizes.{linesLong, linesCost, placeLongIn, sideLongIn};
+ghost use Rattle.write_theory.specs.RuleLists.{placeCostIn, sideCostIn, ruleSumsIn, classesAt};
 ghost use Rattle.write_theory.specs.RuleTable.{ruleBytesIn};
 use role_record::ByPlaceMember;
 use role_record::ByRoleOperation;
 use role_record::BySide;
 use role_record::RoleFile;
+use write_cost::Sums;
 use write_theory::Outline;
 
-// How many bytes lines have, and what they cost.
-pub struct Size {
+// How many bytes the lines of conjuncts have, and what they cost before they are weighed: their values and elements.
+struct Size {
+    bytes: usize,
+    cost: usize,
+}
+
+// How many bytes a rule has, and what its cost is made of.
+pub struct RuleSize {
     pub bytes: usize,
-    pub cost: usize,
+    pub sums: Sums,
 }
 
 // The size of a conjunct of some members at a place, from the numbers of the values that it lists: a line of a set has 10 bytes and costs
@@ -89,8 +96,8 @@ fn place_size<'a>(
     Size { bytes: 0, cost: 0 }
 }
 
-// The size of the conjuncts.
-fn conjuncts_size<'a>(
+// The size of the conjuncts of a side.
+fn side_size<'a>(
     distinct: &'a ByPlaceMember,
     having: &'a ByPlaceMember,
     inside: &'a ByPlaceMember,
@@ -98,24 +105,22 @@ fn conjuncts_size<'a>(
     scratch: &'a [u64],
     head: usize,
     kept: u64,
+    side: usize,
 ) -> Size
-    requires { ⌜ (length (now scratch) ≡ scratchWords) × (head < roleCells) ⌝ }
+    requires { ⌜ (length (now scratch) ≡ scratchWords) × (head < roleCells) × (side < 2) ⌝ }
     ensures { λ r. ⌜
         (r .bytes
-        ≡ sum
-        (placeLongIn (now (distinct .entry)) (now (having .entry)) (now (inside .entry)) (now (kinds .entry))
-        (now (scratch .entry)) head kept)
-        (upTo 14))
+        ≡ sideLongIn (now (distinct .entry)) (now (having .entry)) (now (inside .entry)) (now (kinds .entry))
+        (now (scratch .entry)) head kept side)
         × (r .cost
-        ≡ sum
-        (placeCostIn (now (distinct .entry)) (now (having .entry)) (now (inside .entry))
-        (now (kinds .entry)) (now (scratch .entry)) head kept)
-        (upTo 14)) ⌝ }
+        ≡ sideCostIn (now (distinct .entry)) (now (having .entry)) (now (inside .entry)) (now (kinds .entry))
+        (now (scratch .entry)) head kept side) ⌝ }
 {
     let mut bytes: usize = 0;
     let mut cost: usize = 0;
-    for i in 0..RoleFile::PLACES {
-        let size = place_size(distinct, having, inside, kinds, scratch, head, kept, i);
+    for j in 0..RoleFile::CONJUNCTS {
+        let place = RoleFile::CONJUNCTS * side + j;
+        let size = place_size(distinct, having, inside, kinds, scratch, head, kept, place);
         bytes += size.bytes;
         cost += size.cost;
     }
@@ -151,8 +156,8 @@ fn count_parts<'a>(
     n
 }
 
-// How many bytes the rule has that write_rule writes, and what it costs. One byte opens the rule, three have its operations; a line of an
-// atom has 3, one of a part 4.
+// How many bytes the rule has that write_rule writes, and what its cost is made of. One byte opens the rule, three have its operations; a
+// line of an atom has 3, one of a part 4.
 pub fn rule_size<'a>(
     distinct: &'a ByPlaceMember,
     having: &'a ByPlaceMember,
@@ -162,7 +167,7 @@ pub fn rule_size<'a>(
     operations: usize,
     scratch: &'a [u64],
     rule: Outline,
-) -> Size
+) -> RuleSize
     requires { ⌜
         (operations ≤ 16) × (length (now scratch) ≡ scratchWords) × (rule .head < roleCells)
         × (rule .roles ≡ rolesFor (now scratch)
@@ -172,24 +177,25 @@ pub fn rule_size<'a>(
         ≡ length
         (ruleBytesIn (now (distinct .entry)) (now (having .entry)) (now (inside .entry)) (now (kinds .entry))
         (now (permissions .entry)) operations (now (scratch .entry)) (rule .head) (rule .kept)))
-        × (r .cost
-        ≡ ruleCostIn (now (distinct .entry)) (now (having .entry)) (now (inside .entry)) (now (kinds .entry))
+        × (r .sums
+        ≡ ruleSumsIn (now (distinct .entry)) (now (having .entry)) (now (inside .entry)) (now (kinds .entry))
         (now (scratch .entry)) (rule .head) (rule .kept)) ⌝ }
 {
-    let conjuncts = conjuncts_size(
-        distinct,
-        having,
-        inside,
-        kinds,
-        scratch,
-        rule.head,
-        rule.kept,
-    );
-    let ops = sets::count(mine_seats::operations_at(scratch, rule.head));
-    let atoms = sets::count(write_places::atoms_kept(rule.kept));
-    let parts = count_parts(permissions, operations, scratch, rule.head, rule.roles);
-    Size {
-        bytes: 4 + conjuncts.bytes + 3 * atoms + 4 * parts,
-        cost: conjuncts.cost + ops + atoms,
+    let head = rule.head;
+    let kept = rule.kept;
+    let users = side_size(distinct, having, inside, kinds, scratch, head, kept, 0);
+    let resources = side_size(distinct, having, inside, kinds, scratch, head, kept, 1);
+    let ops = sets::count(mine_seats::operations_at(scratch, head));
+    let atoms = sets::count(write_places::atoms_kept(kept));
+    let parts = count_parts(permissions, operations, scratch, head, rule.roles);
+    let sums = Sums {
+        users: users.cost as u32,
+        resources: resources.cost as u32,
+        operations: ops as u32,
+        atoms: atoms as u32,
+    };
+    RuleSize {
+        bytes: 4 + users.bytes + resources.bytes + 3 * atoms + 4 * parts,
+        sums: sums,
     }
 }

@@ -6,9 +6,11 @@ use lib.Dec.{ltb}
 use lib.ListN.{length, getD, length-map}
 use mathlib.Core.Bool.{Bool, true, false, cond, _&&_, and-true}
 use mathlib.Core.List.{List, [], map}
-use mathlib.Core.Path.{_≡_, refl, sym, ap, ap₂, _∙_, subst}
+use mathlib.Core.Path.{_≡_, refl, sym, ap, _∙_, subst}
 use native.Mathlib.Omega.{arith}
 use Rattle.mine_distinct.specs.InsideValues.{isListed, listedBy}
+use Rattle.write_cost.specs.CostSumLaws.{sums-same}
+use Rattle.write_cost.specs.CostSums.{AtMost}
 use Rattle.write_lines.specs.Writing.{wrote}
 use Rattle.role_record.specs.Cells.{rowCells, rowStart, cellAt, cellOperation}
 use Rattle.role_record.specs.CellsLaws.{cell-parts}
@@ -26,7 +28,7 @@ use Rattle.sets.specs.Tests.{Is, _isIn_, keep, from, upTo, sum}
 use Rattle.sets.specs.TestLaws.{and-l, and-r, test, keep-in, keep-out, from-in, from-out, upTo-in, map-in, map-out}
 use Rattle.mine_seats.specs.Seats.{operationsAt, restAt, membersAt, headIn, wordsAt, isPartAt}
 use Rattle.mine_theory.specs.Words.Words.{membersOf}
-use Rattle.write_theory.specs.RuleLists.{listedAt, classAt, classAmong, ClassTable, inGroup, memberSet, partsAt, classesAt, placeCostIn, ruleCostIn}
+use Rattle.write_theory.specs.RuleLists.{sidePlace, listedAt, classAt, classAmong, ClassTable, inGroup, memberSet, partsAt, classesAt, placeCostIn, sideCostIn, ruleSumsIn}
 use Rattle.mine_seats.specs.SeatLaws.{users-first, resources-second}
 use Rattle.grant_listed.specs.ValueLaws.{among-nobody}
 use Rattle.grant_listed.specs.Values.{valuesAmong, listedOf}
@@ -161,23 +163,20 @@ module _ (distinct having inside kinds : List ℕ) (t : List ℕ) (head kept i :
       go true false l h = omega arith
       go false set l h = omega arith
 
--- nor do those before a place cost more than that each
-pub costs-most : (distinct having inside kinds : List ℕ) (t : List ℕ) (head kept n : ℕ) → sum (placeCostIn distinct having inside kinds t head kept) (upTo n) ≤ 4096 * n
-costs-most distinct having inside kinds t head kept n =
-    let k = sum-most 4096 (placeCostIn distinct having inside kinds t head kept) (upTo n) (λ i m. cost-most distinct having inside kinds t head kept i) in
-    let e = from-length 0 n in
-    omega arith
+module _ (distinct having inside kinds : List ℕ) (t : List ℕ) (head kept : ℕ) where
+  -- nor do the seven of a side cost more than that each
+  pub side-most : (side : ℕ) → sideCostIn distinct having inside kinds t head kept side ≤ 28672
+  unfolding sideCostIn
+  side-most side = sum-most 4096 (λ j. placeCostIn distinct having inside kinds t head kept (sidePlace side j)) (upTo 7) (λ j m. cost-most distinct having inside kinds t head kept (sidePlace side j))
 
-module _ (distinct having inside kinds : List ℕ) (t : List ℕ) (head kept conjuncts operations atoms set : ℕ) (c : conjuncts ≡ sum (placeCostIn distinct having inside kinds t head kept) (upTo 14)) (o : operations ≡ size (operationsAt t head)) (a : atoms ≡ size set) where
-  -- what a rule costs is small
-  pub cost-within : conjuncts + operations + atoms ≤ 57472
-  cost-within =
-      within conjuncts operations atoms c (costs-most distinct having inside kinds t head kept 14) o (size-most (operationsAt t head)) a (size-most set)
-    where
-      within : (x y z : ℕ) {k l m : ℕ} → x ≡ k → k ≤ 4096 * 14 → y ≡ l → l ≤ 64 → z ≡ m → m ≤ 64 → x + y + z ≤ 57472
-      within x y z d e f g h i = omega arith
+  -- so what a rule's cost is made of is small
+  pub sums-most : AtMost 28672 (ruleSumsIn distinct having inside kinds t head kept)
+  unfolding ruleSumsIn
+  sums-most = let o = size-most (wordsAt t head .ops) in let a = size-most (atomSet kept) in (side-most 0, side-most 1, omega (arith, o), omega (arith, a))
 
-  -- and it is added up
-  pub cost-added : set ≡ atomSet kept → conjuncts + operations + atoms ≡ ruleCostIn distinct having inside kinds t head kept
-  unfolding ruleCostIn
-  cost-added e = ap₂ _+_ (ap₂ _+_ c o) (a ∙ ap size e)
+  -- and it is what was counted
+  pub sums-counted : {users resources operations atoms set : ℕ} → users ≡ sideCostIn distinct having inside kinds t head kept 0 → resources ≡ sideCostIn distinct having inside kinds t head kept 1
+      → operations ≡ size (operationsAt t head) → atoms ≡ size set → set ≡ atomSet kept
+      → record { users = users; resources = resources; operations = operations; atoms = atoms } ≡ ruleSumsIn distinct having inside kinds t head kept
+  unfolding ruleSumsIn
+  sums-counted u r o a e = sums-same u r o (a ∙ ap size e)

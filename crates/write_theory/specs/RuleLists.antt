@@ -1,7 +1,7 @@
 -- What a mined rule lists and what it costs, read off the tables of the policy, a group in scratch memory and the places that
 -- its rule keeps: the form in which code works it out.
 -- Assumes nothing.
-use Prim.Native.Nat.{ℕ, _+_, _<_}
+use Prim.Native.Nat.{ℕ, _+_, _*_, _<_}
 use lib.Dec.{eqb, ltb}
 use lib.ListN.{length, getD}
 use mathlib.Core.Bool.{Bool, cond, _&&_}
@@ -17,8 +17,13 @@ use Rattle.mine_seats.specs.Seats.{restAt, headIn, wordsAt, isPartAt}
 use Rattle.mine_theory.specs.Words.Words.{membersOf}
 use Rattle.role_record.specs.Cells.{rowCells, rowStart, cellAt, cellRow, cellOperation}
 use Rattle.role_record.specs.Places.{placeSide, setPlace}
+use Rattle.write_cost.specs.declared.Sums.{Sums}
 
 -- ---- conjuncts
+
+-- the place of attribute number j of a side, users 0 and resources 1; 255 is number 6
+abbrev pub sidePlace : ℕ → ℕ → ℕ
+sidePlace side j = 7 * side + j
 
 -- the values that the conjunct at a place lists
 unfoldable pub listedAt : (distinct having inside : List ℕ) → List ℕ → ℕ → ℕ → List ℕ
@@ -61,6 +66,10 @@ module _ (distinct having inside kinds : List ℕ) (t : List ℕ) (head kept : �
   placeCostIn i =
       cond (bit kept i) (cond (setPlace kinds i) (sum size (listedAt distinct having inside t head i)) (length (listedAt distinct having inside t head i))) 0
 
-  -- what the rule costs
-  unfoldable pub ruleCostIn : ℕ
-  ruleCostIn = sum placeCostIn (upTo 14) + size (wordsAt t head .ops) + size (atomSet kept)
+  -- what the conjuncts of a side cost
+  unfoldable pub sideCostIn : ℕ → ℕ
+  sideCostIn side = sum (λ j. placeCostIn (sidePlace side j)) (upTo 7)
+
+  -- what the rule's cost is made of
+  unfoldable pub ruleSumsIn : Sums
+  ruleSumsIn = record { users = sideCostIn 0; resources = sideCostIn 1; operations = size (wordsAt t head .ops); atoms = size (atomSet kept) }

@@ -17,17 +17,17 @@ use Rattle.grant_parts.specs.PartTableLaws.{class-shown}
 use Rattle.role_record.specs.Cells.{rowCells, rowStart, cellRow, cellOperation, roleCells}
 use Rattle.role_record.specs.Places.{placeSide, placeAttribute, setPlace}
 use Rattle.role_record.specs.PlacesLaws.{set-means}
-use Rattle.role_record.specs.Record.{Sized, recordOf}
+use Rattle.role_record.specs.Record.{Sized, recordWith, recordOf}
+use Rattle.policy.specs.Cost.{sideCost}
 use Rattle.policy.specs.Covering.{allKnow, levelOf}
 use Rattle.policy.specs.MergeLaws.{Every}
 use Rattle.policy.specs.Merging.{union}
 use Rattle.policy.specs.Policy.{Policy, settingOf, rolesIn}
 use Rattle.policy.specs.PolicyLaws.{lawful}
 use Rattle.policy.specs.Roles.{classOf}
-use Rattle.policy.specs.Rules.{Which, Setting, Block, attrsOf, ownAt, sameBlock, user, resource, conjunct}
-use Rattle.policy.specs.Thinning.{ruleCost}
+use Rattle.policy.specs.Rules.{own, Which, by, Setting, Block, attrsOf, ownAt, sameBlock, user, resource, conjunct}
 use Rattle.mine_theory.specs.Lines.PartLinesLaws.{seats-sorted}
-use Rattle.mine_theory.specs.Lines.RuleBytesLaws.{parts-bytes, placeBytes, rule-bytes, placeCost, rule-cost}
+use Rattle.mine_theory.specs.Lines.RuleBytesLaws.{parts-bytes, placeBytes, rule-bytes, placeCost, rule-side, rule-atoms}
 use Rattle.mine_theory.specs.Lines.RuleLines.{valueBytes, partBytes, atomSet, kindPlace, writtenValues, ruleLines, ofRole, partLinesOf}
 use Rattle.mine_theory.specs.Lines.RuleLinesLaws.{written-conjunct, place-side, place-below}
 use Rattle.sets.specs.ListLaws.{each-ext, sum-ext, sort-same}
@@ -42,9 +42,12 @@ use Rattle.mine_seats.specs.Seats.{wordsAt}
 use Rattle.mine_groups.specs.Scratch.{ShowsGroups}
 use Rattle.mine_groups.specs.SeatGroups.{seatPart, seatBlock, seatRule, seatLines}
 use Rattle.mine_theory.specs.Words.Flags.{hasAt, placesGrant, thinnedAt, thinnedTo, keptPlaces}
+use Rattle.mine_theory.specs.Words.FlagLaws.{written-ops-words}
 use Rattle.mine_theory.specs.Words.WordLaws.{roomy}
+use Rattle.write_cost.specs.CostSumLaws.{sums-same}
+use Rattle.write_cost.specs.CostSums.{ruleSums}
 use Rattle.mine_theory.specs.Words.Words.{Words, membersOf, wordsOf, spans}
-use Rattle.write_theory.specs.RuleLists.{listedAt, classAt, inGroup, partsAt, classesAt, placeCostIn, ruleCostIn}
+use Rattle.write_theory.specs.RuleLists.{listedAt, classAt, inGroup, partsAt, classesAt, placeCostIn, sideCostIn, ruleSumsIn}
 use Rattle.write_theory.specs.RuleTable.{keptAs, placeBytesIn, kindBytesIn, atomBytesAt, atomBytesIn, roleBytesIn, partBytesIn, ruleBytesIn}
 use Rattle.mine_matches.specs.ValueMeansLaws.{valuesIn, least-means, values-place, members-valued}
 use Rattle.grant_listed.specs.Values.{listsLeast, listedOf}
@@ -184,10 +187,17 @@ module _ (F : Policy) (Z : Sized F) where
         go true x y e f = ap₂ (λ (z : Bool) (n : List ℕ). cond z (sum size n) (length n)) e (f refl)
         go false x y e f = refl
 
-    -- THE LAW of what it costs: as much as the group's rule
-    pub written-cost : ruleCostIn (distinctIn F) (havingIn F) (insideIn F) (recordOf F .kinds) t head kept ≡ ruleCost (settingOf F) (seatRule F (s .group head))
-    unfolding ruleCostIn seatRule
-    written-cost =
-        ap₂ (λ (n : ℕ) (W : Words). n + size (W .ops) + size (atomSet kept)) (sum-ext _ _ (upTo 14) (λ i m. cost-written i (upTo-out 14 m))) words
-        ∙ ap (λ (m : ℕ). sum (placeCost (settingOf F) (wordsOf (settingOf F) block) m) (upTo 14) + size (wordsOf (settingOf F) block .ops) + size (atomSet m)) kept-places
-        ∙ sym (rule-cost (settingOf F) (roomy F Z) (lawful F) block (shows .fitting head low alive))
+    side-written : (w : Which) → sideCostIn (distinctIn F) (havingIn F) (insideIn F) (recordOf F .kinds) t head kept (by w 0 1) ≡ sideCost (settingOf F) w (seatRule F (s .group head) .conds)
+    unfolding sideCostIn seatRule
+    side-written w =
+        sum-ext _ _ (upTo 7) (λ j m. cost-written (kindPlace w j) (place-below w j (upTo-out 7 m)))
+        ∙ ap (λ (m : ℕ). sum (λ j. placeCost (settingOf F) (wordsOf (settingOf F) block) m (kindPlace w j)) (upTo 7)) kept-places
+        ∙ sym (rule-side (settingOf F) (roomy F Z) (lawful F) block (shows .fitting head low alive) w)
+
+    -- THE LAW of what it costs: the sums are those of the group's rule
+    pub written-sums : ruleSumsIn (distinctIn F) (havingIn F) (insideIn F) (recordOf F .kinds) t head kept ≡ ruleSums (settingOf F) (seatRule F (s .group head))
+    unfolding ruleSumsIn ruleSums seatRule
+    written-sums =
+        sums-same (side-written user) (side-written resource)
+        (ap (λ (W : Words). size (W .ops)) words ∙ sym (ap size (written-ops-words (settingOf F) block)))
+        (ap (λ (m : ℕ). size (atomSet m)) kept-places ∙ sym (rule-atoms (settingOf F) (roomy F Z) (lawful F) block (shows .fitting head low alive)))

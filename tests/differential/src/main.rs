@@ -7,10 +7,12 @@
 //! damaged, and beside each that is accepted five rule files. Where the two disagree, the case's
 //! seed, the files in hexadecimal and both answers are printed, and the status is 1.
 //!
-//! Files at the limit of length, and circles of every length, are tried on every run.
+//! Files at the limit of length, circles of every length, and a cost of more than 32 bits are tried on
+//! every run.
 
 mod case;
 mod circles;
+mod costs;
 mod parts;
 mod questions;
 mod roles;
@@ -22,7 +24,7 @@ use std::thread::{available_parallelism, scope};
 use tally::Tally;
 
 /// How many of the change requests have landed: the second miner is asked as of then.
-pub const REV: second_miner::revision::Rev = 4;
+pub const REV: second_miner::revision::Rev = 5;
 
 /// Both sides must say the same.
 pub fn same<T: PartialEq + std::fmt::Debug>(what: &str, ours: T, theirs: T) -> Result<(), String> {
@@ -54,6 +56,7 @@ fn compare(seed: u64, count: u64) -> Result<Tally, String> {
     let mut all = Tally::default();
     case::limits(&mut all)?;
     circles::every_length(&mut all)?;
+    costs::wide(&mut all)?;
     let many = available_parallelism().map_or(1, usize::from);
     scope(|scope| {
         let deal = |k| scope.spawn(move || compare_some(seed + k, seed + count, many));

@@ -1,8 +1,8 @@
 //! The calls that take a role file alone: reading it, its circle, the role question, mining.
 
-use crate::{circles, questions, same, tally::Tally, REV};
+use crate::{circles, costs, questions, same, tally::Tally, REV};
+use fichtengarn::Weights;
 use second_miner::mining::{mine_world, Mined};
-use second_miner::rule::ALL_ONES;
 use second_miner::{questions::ask_roles, random::Random, role_file::read_role_file, world::World};
 
 /// Compares all of them. Returns what the second miner makes of an accepted file, and its rules.
@@ -18,24 +18,34 @@ pub fn compare(
     circles::compare(file, tally)?;
     let policy = match theirs {
         Ok(policy) => policy,
-        Err(refusal) => return refused(file, refusal, tally).map(|()| None),
+        Err(refusal) => return refused(file, refusal, random, tally).map(|()| None),
     };
     let world = World::of(policy);
     role_questions(file, &world, random, tally)?;
-    let mined = mine_world(&world, ALL_ONES, &[], REV);
+    let weights = costs::weights(random);
+    let mined = mine_world(&world, costs::theirs(weights), &[], REV);
     let length = mined.bytes.len();
+    mining(file, weights, 4096, length, Ok(&mined), tally)?;
+    // by other weights: the same bytes, the same counts, and another cost
     for (scratch, room) in [(4096, length), (4096, length - 1), (4095, length), (4097, length + 9)]
     {
-        mining(file, scratch, room, Ok(&mined), tally)?;
+        let weights = costs::weights(random);
+        let cost = costs::of_rules(&world, &mined.bytes, weights);
+        mining(file, weights, scratch, room, Ok(&Mined { cost, ..mined.clone() }), tally)?;
     }
     Ok(Some((world, mined.bytes)))
 }
 
-/// A file that is refused is refused by every call.
-fn refused(file: &[u8], refusal: usize, tally: &mut Tally) -> Result<(), String> {
+/// A file that is refused is refused by every call, whatever the weights.
+fn refused(
+    file: &[u8],
+    refusal: usize,
+    random: &mut Random,
+    tally: &mut Tally,
+) -> Result<(), String> {
     role_question(file, questions::FIRST, tally)?;
-    mining(file, 4096, 64, Err(refusal), tally)?;
-    mining(file, 4095, 64, Err(refusal), tally)
+    mining(file, costs::weights(random), 4096, 64, Err(refusal), tally)?;
+    mining(file, costs::weights(random), 4095, 64, Err(refusal), tally)
 }
 
 /// One question, as the second miner's own call answers it.
@@ -81,9 +91,11 @@ fn with_memory<'a>(
     mined.and_then(|mined| if room < mined.bytes.len() { Err(9) } else { Ok(mined) })
 }
 
-/// Mines with this much memory, whatever it holds: the counts, and every byte of the output memory.
+/// Mines by these weights with this much memory, whatever it holds: the counts, and every byte of the
+/// output memory.
 fn mining(
     file: &[u8],
+    weights: Weights,
     scratch: usize,
     room: usize,
     mined: Result<&Mined, usize>,
@@ -94,12 +106,13 @@ fn mining(
     let mut output = former.clone();
     let mut words: Vec<u64> =
         (0..scratch as u64).map(|place| place.wrapping_mul(0x9E37_79B9_7F4A_7C15)).collect();
-    let ours = tally.told(fichtengarn::mine(file, &mut words, &mut output));
+    let ours = tally.told(fichtengarn::mine(file, weights, &mut words, &mut output));
     let theirs = with_memory(mined, scratch, room);
-    let what = format!("mining with {scratch} words of scratch and {room} bytes of output");
-    let ours = ours.map(|mined| [mined.length, mined.parts, mined.rules, mined.merges, mined.cost]);
+    let what = format!("mining by {weights:?} with {scratch} words and {room} bytes");
+    let ours =
+        ours.map(|mined| ([mined.length, mined.parts, mined.rules, mined.merges], mined.cost));
     let counts = |mined: &Mined| {
-        [mined.bytes.len(), mined.parts, mined.rules, mined.merges, mined.cost as usize]
+        ([mined.bytes.len(), mined.parts, mined.rules, mined.merges], mined.cost)
     };
     same(&what, ours, theirs.map(counts))?;
     let mut expected = former;

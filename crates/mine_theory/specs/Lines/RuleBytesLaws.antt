@@ -10,22 +10,23 @@ use mathlib.Core.Path.{_≡_, refl, sym, ap, ap₂, _∙_}
 use native.Mathlib.Omega.{arith}
 use Rattle.files.specs.Bytes.{spread}
 use Rattle.files.specs.RuleFile.{Lines, encode, opens, value, operations, link, part}
+use Rattle.policy.specs.Cost.{isOf, singleCost, setCost, atomCost, sideCost}
 use Rattle.policy.specs.Covering.{fits, levelOf}
 use Rattle.policy.specs.MergeLaws.{Every}
 use Rattle.policy.specs.RuleLaws.{Lawful}
-use Rattle.policy.specs.Rules.{Which, Setting, Cond, Block, user, resource}
-use Rattle.policy.specs.Thinning.{trimCond, written, singleCost, setCost, ruleCost}
+use Rattle.policy.specs.Rules.{Which, by, Setting, Cond, Block, user, resource}
+use Rattle.policy.specs.Thinning.{trimCond, written}
 use Rattle.mine_theory.specs.Lines.PartLinesLaws.{part-lines-sorted}
 use Rattle.mine_theory.specs.Lines.RuleLines.{kindPlace, writtenValues, attributeLines, isKind, kindLines, atomLines, ruleLines, ofRole, partLinesOf, valueBytes, partBytes, atomSet, linkBytes}
-use Rattle.mine_theory.specs.Lines.RuleLinesLaws.{attribute-byte, written-conjunct}
+use Rattle.mine_theory.specs.Lines.RuleLinesLaws.{attribute-byte, written-conjunct, written-atom}
 use Rattle.sets.specs.ListLaws.{each-ext, each-append, each-only, each-cond, length-each, each-each, each-map, sum-ext, sum-kept, sum-both}
 use Rattle.sets.specs.MaskLaws.{size-mask}
 use Rattle.sets.specs.Sets.{bit, size}
 use Rattle.sets.specs.Sorted.{sort}
-use Rattle.sets.specs.TestLaws.{upTo-out}
-use Rattle.sets.specs.Tests.{Is, each, only, upTo, sum}
-use Rattle.mine_theory.specs.Words.FlagLaws.{written-cost}
-use Rattle.mine_theory.specs.Words.Flags.{condAt, keptPlaces, placesCost}
+use Rattle.sets.specs.TestLaws.{from-out, upTo-out}
+use Rattle.sets.specs.Tests.{Is, each, only, from, upTo, sum}
+use Rattle.mine_theory.specs.Words.FlagLaws.{sum-if, conjunct-costs, atom-costs, written-places}
+use Rattle.mine_theory.specs.Words.Flags.{condAt, keptPlaces}
 use Rattle.mine_theory.specs.Words.Words.{Words, Roomy, wordsOf}
 use Rattle.role_record.specs.Cells.{roleCells}
 use Rattle.role_record.specs.Places.{placeSide, placeAttribute}
@@ -166,23 +167,64 @@ module _ (P : Setting) (W : Words) (m : ℕ) where
   unfoldable pub placeCost : ℕ → ℕ
   placeCost i = cond (bit m i) (cond (P .side (placeSide i) .isSet (placeAttribute i)) (sum size (writtenValues P W i)) (length (writtenValues P W i))) 0
 
-  -- the cost of the rule with the conditions at some places
-  pub places-cost : placesCost P W m ≡ sum placeCost (upTo 14) + size (W .ops) + size (atomSet m)
-  unfolding placesCost placeCost singleCost setCost
-  places-cost =
-      ap₂ (λ (x y : ℕ). x + size (W .ops) + y)
-      (sum-both (λ i. cond (bit m i) (singleCost P (trimCond P (condAt P W i))) 0) (λ i. cond (bit m i) (setCost P (trimCond P (condAt P W i))) 0) (upTo 14)
-      ∙ sum-ext (λ i. cond (bit m i) (singleCost P (trimCond P (condAt P W i))) 0 + cond (bit m i) (setCost P (trimCond P (condAt P W i))) 0) placeCost (upTo 14) (λ i k.
-      ap (λ (c : Cond). cond (bit m i) (singleCost P c) 0 + cond (bit m i) (setCost P c) 0) (written-conjunct P W i (upTo-out 14 k))
-      ∙ one (bit m i) (P .side (placeSide i) .isSet (placeAttribute i)) (writtenValues P W i)))
-      (atoms-size m 1 ∙ single (size (atomSet m)))
-    where
-      one : (b set : Bool) (vs : List ℕ) → cond b (cond set 0 (length vs)) 0 + cond b (cond set (sum size vs) 0) 0 ≡ cond b (cond set (sum size vs) (length vs)) 0
-      one true true vs = omega arith
-      one true false vs = omega arith
-      one false set vs = refl
+  -- the conditions at the places of the set, each as it is written
+  abbrev conditions : List Cond
+  conditions = each (λ i. only (bit m i) (trimCond P (condAt P W i))) (upTo 50)
 
--- the cost of a written rule
-pub rule-cost : (P : Setting) → Roomy P → Lawful P → (B : Block) → Is (fits P B 3)
-    → ruleCost P (written P B) ≡ sum (placeCost P (wordsOf P B) (keptPlaces P (wordsOf P B) (levelOf P B))) (upTo 14) + size (wordsOf P B .ops) + size (atomSet (keptPlaces P (wordsOf P B) (levelOf P B)))
-rule-cost P Z L B fit = written-cost P Z L B fit ∙ places-cost P (wordsOf P B) (keptPlaces P (wordsOf P B) (levelOf P B))
+  -- of what stands at a place, what is of a side
+  abbrev ofSide : Which → ℕ → ℕ → ℕ
+  ofSide w i n = by w (by (placeSide i) n 0) (by (placeSide i) 0 n)
+
+  -- the places of a side
+  side-places : (w : Which) (f : ℕ → ℕ) → sum (λ i. ofSide w i (f i)) (upTo 14) ≡ sum (λ j. f (kindPlace w j)) (upTo 7)
+  side-places user f = omega arith
+  side-places resource f = omega arith
+
+  -- what a side's conjuncts cost, place by place
+  side-cost : (w : Which) → sideCost P w conditions ≡ sum (λ j. placeCost (kindPlace w j)) (upTo 7)
+  unfolding sideCost placeCost singleCost setCost
+  side-cost w =
+      ap₂ _+_ (sym (sum-if (isOf w) (singleCost P) conditions)) (sym (sum-if (isOf w) (setCost P) conditions))
+      ∙ sum-both (λ c. cond (isOf w c) (singleCost P c) 0) (λ c. cond (isOf w c) (setCost P c) 0) conditions
+      ∙ conjunct-costs P W costOn m (λ a b. refl)
+      ∙ sum-ext (λ i. cond (bit m i) (costOn (trimCond P (condAt P W i))) 0) (λ i. ofSide w i (placeCost i)) (upTo 14) (λ i k.
+      ap (λ (c : Cond). cond (bit m i) (costOn c) 0) (written-conjunct P W i (upTo-out 14 k))
+      ∙ one w (placeSide i) (bit m i) (P .side (placeSide i) .isSet (placeAttribute i)) (writtenValues P W i))
+      ∙ side-places w placeCost
+    where
+      costOn : Cond → ℕ
+      costOn c = cond (isOf w c) (singleCost P c) 0 + cond (isOf w c) (setCost P c) 0
+
+      own-side : (b set : Bool) (vs : List ℕ) → cond b (cond set 0 (length vs) + cond set (sum size vs) 0) 0 ≡ cond b (cond set (sum size vs) (length vs)) 0
+      own-side true true vs = omega arith
+      own-side true false vs = omega arith
+      own-side false set vs = refl
+
+      other-side : (b : Bool) → cond b (0 + 0) 0 ≡ 0
+      other-side true = refl
+      other-side false = refl
+
+      one : (w s : Which) (b set : Bool) (vs : List ℕ)
+          → cond b (cond (by w (by s true false) (by s false true)) (cond set 0 (length vs)) 0 + cond (by w (by s true false) (by s false true)) (cond set (sum size vs) 0) 0) 0
+          ≡ by w (by s (cond b (cond set (sum size vs) (length vs)) 0) 0) (by s 0 (cond b (cond set (sum size vs) (length vs)) 0))
+      one user user b set vs = own-side b set vs
+      one resource resource b set vs = own-side b set vs
+      one user resource b set vs = other-side b
+      one resource user b set vs = other-side b
+
+  -- and its atoms
+  atoms-cost : sum (atomCost P) conditions ≡ size (atomSet m)
+  unfolding atomCost
+  atoms-cost =
+      atom-costs P W (atomCost P) m (λ w a vs. refl)
+      ∙ sum-ext (λ i. cond (bit m i) (atomCost P (trimCond P (condAt P W i))) 0) (λ i. cond (bit m i) 1 0) (from 14 36) (λ i k. ap (λ (c : Cond). cond (bit m i) (atomCost P c) 0) (written-atom P W i (from-out 14 36 k .0)))
+      ∙ atoms-size m 1
+      ∙ single (size (atomSet m))
+
+-- the cost of a written rule: what its conjuncts of a side cost, and its atoms
+module _ (P : Setting) (Z : Roomy P) (L : Lawful P) (B : Block) (fit : Is (fits P B 3)) where
+  pub rule-side : (w : Which) → sideCost P w (written P B .conds) ≡ sum (λ j. placeCost P (wordsOf P B) (keptPlaces P (wordsOf P B) (levelOf P B)) (kindPlace w j)) (upTo 7)
+  rule-side w = ap (sideCost P w) (written-places P Z L B fit) ∙ side-cost P (wordsOf P B) (keptPlaces P (wordsOf P B) (levelOf P B)) w
+
+  pub rule-atoms : sum (atomCost P) (written P B .conds) ≡ size (atomSet (keptPlaces P (wordsOf P B) (levelOf P B)))
+  rule-atoms = ap (sum (atomCost P)) (written-places P Z L B fit) ∙ atoms-cost P (wordsOf P B) (keptPlaces P (wordsOf P B) (levelOf P B))

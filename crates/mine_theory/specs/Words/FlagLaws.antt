@@ -15,14 +15,14 @@ use Rattle.policy.specs.RuleLaws.{Lawful}
 use Rattle.policy.specs.Rules.{own, Side, Which, by, Setting, Cond, Block, attrsOf, ownAt, holds, grants, sameBlock, user, resource, conjunct, atom}
 use Rattle.policy.specs.SideLaws.{attribute-cases, declared-in, own-in}
 use Rattle.policy.specs.ThinLaws.{holds-trim}
-use Rattle.policy.specs.Thinning.{strike, trimCond, grantsJust, thinned, written, singleCost, setCost, atomCost, ruleCost}
+use Rattle.policy.specs.Thinning.{strike, trimCond, grantsJust, thinned, written}
 use Rattle.policy.specs.WrittenLaws.{written-ops}
-use Rattle.sets.specs.ListLaws.{upTo-more, all-ext, each-ext, each-append, each-each, each-none, each-fewer, sum-append, sum-ext, from-split}
-use Rattle.sets.specs.Sets.{bit, maskOf, size}
+use Rattle.sets.specs.ListLaws.{upTo-more, all-ext, each-ext, each-append, each-each, each-none, each-fewer, sum-append, from-split}
+use Rattle.sets.specs.Sets.{bit, maskOf}
 use Rattle.sets.specs.SetLaws.{bit-mask}
-use Rattle.sets.specs.Tests.{Is, imp, _isIn_, each, only, from, upTo, elem, sum}
+use Rattle.sets.specs.Tests.{Is, imp, _isIn_, keep, each, only, from, upTo, elem, sum}
 use Rattle.sets.specs.TestLaws.{test, fails, same, from-out, upTo-out, elem-in, elem-out}
-use Rattle.mine_theory.specs.Words.Flags.{condAt, hasAt, holdsAt, placesGrant, thinnedAt, thinnedTo, keptPlaces, placesCost}
+use Rattle.mine_theory.specs.Words.Flags.{condAt, hasAt, holdsAt, placesGrant, thinnedAt, thinnedTo, keptPlaces}
 use Rattle.mine_theory.specs.Words.WordLaws.{all-chosen, known-same, values-same, meets-met, member-bit, atom-bit, same-tests, spans-own}
 use Rattle.mine_theory.specs.Words.Words.{Words, membersOf, Roomy, metBy, atomIn, wordsOf, spans}
 use Rattle.role_record.specs.Places.{placeSide, placeAttribute}
@@ -46,6 +46,15 @@ cond-same true n = refl
 cond-same false n = refl
 
 module _ {A : Type 0} where
+  -- over those that pass
+  pub sum-if : (p : A → Bool) (f : A → ℕ) (l : List A) → sum (λ a. cond (p a) (f a) 0) l ≡ sum f (keep p l)
+  sum-if p f [] = refl
+  sum-if p f (x ∷ xs) = go (p x) (sum-if p f xs)
+    where
+      go : (b : Bool) → sum (λ a. cond (p a) (f a) 0) xs ≡ sum f (keep p xs) → cond b (f x) 0 + sum (λ a. cond (p a) (f a) 0) xs ≡ sum f (cond b (x ∷ keep p xs) (keep p xs))
+      go true e = ap (λ (n : ℕ). f x + n) e
+      go false e = zero-add (sum (λ a. cond (p a) (f a) 0) xs) ∙ e
+
   sum-none : (f : A → ℕ) (l : List A) → ((a : A) → a isIn l → f a ≡ 0) → sum f l ≡ 0
   sum-none f [] h = refl
   sum-none f (x ∷ xs) h = ap₂ _+_ (h x (List·Memᴰ·head refl)) (sum-none f xs (λ a m. h a (List·Memᴰ·tail m)))
@@ -187,7 +196,7 @@ module _ (P : Setting) where
   unfolding wordsOf
   written-ops-words B = written-ops P B
 
-  -- the cost of what stands at a place
+  -- what the conditions at the places of a set, each trimmed, add up to
   module _ (W : Words) (f : Cond → ℕ) (m : ℕ) where
     abbrev costAt : ℕ → ℕ
     costAt i = cond (bit m i) (f (trimCond P (condAt P W i))) 0
@@ -195,29 +204,22 @@ module _ (P : Setting) where
     costs-split : sum f (listed (λ i. trimCond P (condAt P W i)) m (upTo 50)) ≡ sum costAt (upTo 14) + sum costAt (from 14 36)
     costs-split = sum-chosen f (bit m) (λ i. trimCond P (condAt P W i)) (upTo 50) ∙ sum-append costAt (upTo 14) (from 14 36)
 
-    -- where atoms cost nothing, or conjuncts do not
-    conjunct-costs : ((a b : ℕ) → f (atom a b) ≡ 0) → sum f (listed (λ i. trimCond P (condAt P W i)) m (upTo 50)) ≡ sum costAt (upTo 14)
+    -- where atoms add nothing, or conjuncts do not
+    pub conjunct-costs : ((a b : ℕ) → f (atom a b) ≡ 0)
+        → sum f (each (λ i. only (bit m i) (trimCond P (condAt P W i))) (upTo 50)) ≡ sum (λ i. cond (bit m i) (f (trimCond P (condAt P W i))) 0) (upTo 14)
     unfolding trimCond
     conjunct-costs z = costs-split ∙ ap (λ (n : ℕ). sum costAt (upTo 14) + n) (sum-none costAt (from 14 36) none) ∙ add-zero (sum costAt (upTo 14))
       where
         none : (i : ℕ) → i isIn from 14 36 → costAt i ≡ 0
         none i k = ap (λ (c : Cond). cond (bit m i) (f (trimCond P c)) 0) (cond-atom W i (from-out 14 36 k .0)) ∙ ap (λ (n : ℕ). cond (bit m i) n 0) (z ((i - 14) / 6) ((i - 14) % 6)) ∙ cond-same (bit m i) 0
 
-    atom-costs : ((w : Which) (a : ℕ) (vs : List ℕ) → f (conjunct w a vs) ≡ 0) → sum f (listed (λ i. trimCond P (condAt P W i)) m (upTo 50)) ≡ sum costAt (from 14 36)
+    pub atom-costs : ((w : Which) (a : ℕ) (vs : List ℕ) → f (conjunct w a vs) ≡ 0)
+        → sum f (each (λ i. only (bit m i) (trimCond P (condAt P W i))) (upTo 50)) ≡ sum (λ i. cond (bit m i) (f (trimCond P (condAt P W i))) 0) (from 14 36)
     unfolding trimCond
     atom-costs z = costs-split ∙ ap (λ (n : ℕ). n + sum costAt (from 14 36)) (sum-none costAt (upTo 14) none) ∙ zero-add (sum costAt (from 14 36))
       where
         none : (i : ℕ) → i isIn upTo 14 → costAt i ≡ 0
         none i k = ap (λ (c : Cond). cond (bit m i) (f (trimCond P c)) 0) (cond-conjunct W i (upTo-out 14 k)) ∙ ap (λ (n : ℕ). cond (bit m i) n 0) (z (placeSide i) (placeAttribute i) _) ∙ cond-same (bit m i) 0
-
-  -- what a rule with the conditions at some places, each trimmed, costs
-  cost-places : (W : Words) (m : ℕ) → ruleCost P (record { ops = W .ops; conds = listed (λ i. trimCond P (condAt P W i)) m (upTo 50) }) ≡ placesCost P W m
-  unfolding ruleCost placesCost singleCost setCost atomCost trimCond
-  cost-places W m =
-      ap₂ _+_
-      (ap₂ (λ (x y : ℕ). x + y + size (W .ops)) (conjunct-costs W (singleCost P) m (λ a b. refl)) (conjunct-costs W (setCost P) m (λ a b. refl)))
-      (atom-costs W (atomCost P) m (λ w a vs. refl)
-      ∙ sum-ext (costAt W (atomCost P) m) (λ i. cond (bit m i) 1 0) (from 14 36) (λ i k. ap (λ (c : Cond). cond (bit m i) (atomCost P (trimCond P c)) 0) (cond-atom W i (from-out 14 36 k .0))))
 
   module _ (Z : Roomy P) where
     side-places : (B : Block) (l : ℕ) (w : Which) → conjuncts P B l w ≡ each (conjunctBy (wordsOf P B) l w) (upTo 6 ++ (own ∷ []))
@@ -346,10 +348,3 @@ module _ (P : Setting) where
             ap (strike stillJust []) (trimmed-places (levelOf P B))
             ∙ strike-places (maskOf 50 (hasAt P (wordsOf P B) (levelOf P B))) 50 0 refl
             ∙ append-nil (listed trimmedAt (keptPlaces P (wordsOf P B) (levelOf P B)) (upTo 50))
-
-        -- the cost of the written rule, place by place
-        pub written-cost : ruleCost P (written P B) ≡ placesCost P (wordsOf P B) (keptPlaces P (wordsOf P B) (levelOf P B))
-        unfolding ruleCost
-        written-cost =
-            ap₂ (λ (f : ℕ) (cs : List Cond). ruleCost P (record { ops = f; conds = cs })) (written-ops-words B) written-places
-            ∙ cost-places (wordsOf P B) (keptPlaces P (wordsOf P B) (levelOf P B))

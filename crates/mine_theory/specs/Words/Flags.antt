@@ -1,13 +1,12 @@
 -- Thinning on flags: the conditions of a covering rule have 50 places, and a set of places says which of them a rule has.
 -- Assumes nothing.
-use Prim.Native.Nat.{ℕ, zero, suc, _+_, _/_, _%_, _-_}
+use Prim.Native.Nat.{ℕ, zero, suc, _/_, _%_, _-_}
 use lib.Dec.{eqb, ltb}
 use mathlib.Core.Bool.{Bool, cond, _&&_, not}
 use Rattle.policy.specs.Covering.{allKnow, valuesOf}
 use Rattle.policy.specs.Rules.{by, Setting, Cond, Block, attrsOf, ownAt, holds, sameBlock, conjunct, atom}
-use Rattle.policy.specs.Thinning.{trimCond, singleCost, setCost}
-use Rattle.sets.specs.Sets.{bit, maskOf, size}
-use Rattle.sets.specs.Tests.{imp, all, upTo, elem, sum}
+use Rattle.sets.specs.Sets.{bit, maskOf}
+use Rattle.sets.specs.Tests.{imp, all, upTo, elem}
 use Rattle.mine_theory.specs.Words.Words.{Words, membersOf, metBy, spans}
 use Rattle.role_record.specs.Places.{placeSide, placeAttribute}
 
@@ -53,11 +52,3 @@ module _ (P : Setting) where
   -- the places of the written rule
   unfoldable pub keptPlaces : Words → ℕ → ℕ
   keptPlaces W l = thinnedTo W (maskOf 50 (hasAt W l)) 50
-
-  -- the cost of the rule with the conditions at the places of a set, each trimmed: conjuncts stand at the first 14, and each atom costs 1
-  unfoldable pub placesCost : Words → ℕ → ℕ
-  placesCost W m =
-      sum (λ i. cond (bit m i) (singleCost P (trimCond P (condAt W i))) 0) (upTo 14)
-      + sum (λ i. cond (bit m i) (setCost P (trimCond P (condAt W i))) 0) (upTo 14)
-      + size (W .ops)
-      + sum (λ i. cond (bit m (14 + i)) 1 0) (upTo 36)

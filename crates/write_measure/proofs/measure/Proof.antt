@@ -3,7 +3,7 @@ use Prim.Native.Nat.{_-_}
 use mathlib.Core.Bool.{Bool, cond}
 use mathlib.Core.Path.{ap, _∙_}
 use native.Mathlib.Omega.{arith}
-use Rattle.write_measure.specs.MeasureLaws.{Counted, counted-none, counted-more, counted-end, rule-most, cost-low, flag-low}
+use Rattle.write_measure.specs.MeasureLaws.{Counted, counted-none, counted-more, counted-end, rule-most, add-fits, flag-low}
 use borrow.Author.Needs.{needs}
 use Rattle.write_measure.proofs.measure.Statement.{statement}
 use lib.ListN.{getD}
@@ -12,18 +12,18 @@ use Rattle.write_roles.specs.GroupRoleLaws.{roles-at}
 use Rattle.write_measure.proofs.measure.Tie as tie
 
 abbrev Inv-loop : tie.InvT-loop
-Inv-loop kept distinct having inside kinds permissions roles operations scratch bytes₀ rules₀ cost₀ parts₀ i₀ bytes rules cost parts i = Counted kept distinct having inside kinds permissions operations scratch bytes rules cost parts i
+Inv-loop kept distinct having inside kinds permissions roles operations scratch bytes₀ rules₀ sums₀ parts₀ i₀ bytes rules sums parts i = Counted kept distinct having inside kinds permissions operations scratch bytes rules sums parts i
 
 abbrev μ-loop : tie.MeasureT-loop
-μ-loop kept distinct having inside kinds permissions roles operations scratch bytes₀ rules₀ cost₀ parts₀ i₀ bytes rules cost parts i = roleCells - i
+μ-loop kept distinct having inside kinds permissions roles operations scratch bytes₀ rules₀ sums₀ parts₀ i₀ bytes rules sums parts i = roleCells - i
 
 loop-holds : tie.Need-loop-holds Inv-loop μ-loop
-loop-holds c = let a = c .before .args in counted-none (a .kept .now) (a .distinct .now) (a .having .now) (a .inside .now) (a .kinds .now) (a .permissions .now) (a .operations) (a .scratch .now)
+loop-holds c = let a = c .before .before .args in counted-none (a .kept .now) (a .distinct .now) (a .having .now) (a .inside .now) (a .kinds .now) (a .permissions .now) (a .operations) (a .scratch .now) (c .no-sums .result) (c .no-sums .ensures)
 
 size-seat-requires : tie.Need-size-seat-requires Inv-loop μ-loop
 size-seat-requires c κs =
     let d = c .before .before in
-    let s = d .before .before .before in
+    let s = d .before .before .before .before in
     let t = d .loop-test .taken in
     (s .pre .0, s .pre .1, t, roles-at (s .args .scratch .now) (s .args .group-roles .now) (d .before .loop .i) t (s .pre .2))
 
@@ -32,28 +32,24 @@ add-bytes c =
     let s = c .before in
     let d = s .before .before .before in
     let l = d .before .loop in
-    let a = d .before .before .before .args in
+    let a = d .before .before .before .before .args in
     let t = d .loop-test .taken in
     let m = rule-most (a .distinct .now) (a .having .now) (a .inside .now) (a .kinds .now) (a .permissions .now) (a .operations) (a .scratch .now) (l .i) (getD (a .kept .now) (l .i) 0) in
     let e = s .size-seat .ensures .0 in
     let k = l .inv .bytes-low in
     omega (arith, m, e, k, t)
 
-add-cost : tie.Need-add-cost Inv-loop μ-loop
-add-cost c =
+add-requires : tie.Need-add-requires Inv-loop μ-loop
+add-requires c κs =
     let s = c .before .before in
     let d = s .before .before .before in
     let l = d .before .loop in
-    let a = d .before .before .before .args in
-    let t = d .loop-test .taken in
-    let m = cost-low (a .distinct .now) (a .having .now) (a .inside .now) (a .kinds .now) (a .scratch .now) (l .i) (getD (a .kept .now) (l .i) 0) in
-    let e = s .size-seat .ensures .1 in
-    let k = l .inv .costs-low in
-    omega (arith, m, e, k, t)
+    let a = d .before .before .before .before .args in
+    add-fits (a .kept .now) (a .distinct .now) (a .having .now) (a .inside .now) (a .kinds .now) (a .scratch .now) (l .i) (d .loop-test .taken) (l .inv .sums-so) (s .size-seat .ensures .1)
 
 add-rules : tie.Need-add-rules Inv-loop μ-loop
 add-rules c =
-    let s = c .before .before .before .before in
+    let s = c .before .before .before .before .before in
     let d = s .before .before .before in
     let l = d .before .loop in
     let t = d .loop-test .taken in
@@ -64,7 +60,7 @@ add-rules c =
 
 add-parts : tie.Need-add-parts Inv-loop μ-loop
 add-parts c =
-    let s = c .before .before .before .before .before .before in
+    let s = c .before .before .before .before .before .before .before in
     let d = s .before .before .before in
     let l = d .before .loop in
     let t = d .loop-test .taken in
@@ -76,14 +72,15 @@ add-parts c =
 loop-again : tie.Need-loop-again Inv-loop μ-loop
 loop-again c =
     let r = c .before .before in
-    let s = r .before .before .before .before in
+    let added = r .before .before in
+    let s = added .before .before .before in
     let d = s .before .before .before in
     let l = d .before .loop in
-    let a = d .before .before .before .args in
-    counted-more (a .kept .now) (a .distinct .now) (a .having .now) (a .inside .now) (a .kinds .now) (a .permissions .now) (a .operations) (a .scratch .now) (l .bytes) (l .rules) (l .cost) (l .parts) (l .i) _ _ _ _ (l .inv) (d .loop-test .taken) (s .size-seat .ensures .0) (r .one-if .ensures ∙ ap (λ (x : Bool). cond x 1 0) (r .before .is-head .ensures)) (s .size-seat .ensures .1) (c .one-if2 .ensures ∙ ap (λ (x : Bool). cond x 1 0) (c .before .is-part .ensures))
+    let a = d .before .before .before .before .args in
+    counted-more (a .kept .now) (a .distinct .now) (a .having .now) (a .inside .now) (a .kinds .now) (a .permissions .now) (a .operations) (a .scratch .now) (l .bytes) (l .rules) (l .sums) (l .parts) (l .i) _ _ _ _ _ (l .inv) (d .loop-test .taken) (s .size-seat .ensures .0) (r .one-if .ensures ∙ ap (λ (x : Bool). cond x 1 0) (r .before .is-head .ensures)) (s .size-seat .ensures .1) (added .add .ensures) (c .one-if2 .ensures ∙ ap (λ (x : Bool). cond x 1 0) (c .before .is-part .ensures))
 
-add-t26 : tie.Need-add-t26 Inv-loop μ-loop
-add-t26 c =
+add-t27 : tie.Need-add-t27 Inv-loop μ-loop
+add-t27 c =
     let k = c .before .loop .inv .bytes-low in
     let i = c .before .loop .inv .within in
     omega (arith, k, i)
@@ -91,10 +88,10 @@ add-t26 c =
 returns : tie.Need-returns Inv-loop μ-loop
 returns c =
     let l = c .before .loop in
-    let a = c .before .before .before .args in
+    let a = c .before .before .before .before .args in
     let w = l .inv .within in
     let e = c .loop-test .left in
-    counted-end (a .kept .now) (a .distinct .now) (a .having .now) (a .inside .now) (a .kinds .now) (a .permissions .now) (a .operations) (a .scratch .now) (l .bytes) (l .rules) (l .cost) (l .parts) (l .i) (l .inv) (omega (arith, w, e))
+    counted-end (a .kept .now) (a .distinct .now) (a .having .now) (a .inside .now) (a .kinds .now) (a .permissions .now) (a .operations) (a .scratch .now) (l .bytes) (l .rules) (l .sums) (l .parts) (l .i) (l .inv) (omega (arith, w, e))
 
 pub measure-spec : {M : Type 1} → statement M
 measure-spec =
@@ -102,6 +99,7 @@ measure-spec =
     (tie.spec
     Inv-loop
     μ-loop
+    (λ c κs. search needs)
     loop-holds
     (λ c. search needs)
     (λ c. search needs)
@@ -109,7 +107,7 @@ measure-spec =
     (λ c. search needs)
     size-seat-requires
     add-bytes
-    add-cost
+    add-requires
     (λ c κs. search needs)
     (λ c κs. search needs)
     add-rules
@@ -119,5 +117,5 @@ measure-spec =
     (λ c. search needs)
     (λ c. search needs)
     loop-again
-    add-t26
+    add-t27
     returns)

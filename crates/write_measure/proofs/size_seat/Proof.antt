@@ -1,7 +1,7 @@
 -- Assumes nothing.
 use lib.ListN.{length}
 use mathlib.Core.Path.{sym, ap, _∙_}
-use Rattle.write_measure.specs.MeasureLaws.{seat-head, seat-none, cost-head, cost-none}
+use Rattle.write_measure.specs.MeasureLaws.{seat-head, seat-none, sums-head, sums-none}
 use borrow.Author.Needs.{needs}
 use Rattle.write_measure.proofs.size_seat.Statement.{statement}
 use Rattle.write_measure.proofs.size_seat.Tie as tie
@@ -17,15 +17,16 @@ returns c =
     let a = h .before .before .before .args in
     let e = sym (h .before .is-head .ensures) ∙ h .if1 .taken in (
       c .rule-size .ensures .0 ∙ ap length (seat-head (a .distinct .now) (a .having .now) (a .inside .now) (a .kinds .now) (a .permissions .now) (a .operations) (a .scratch .now) (a .rule .head) (a .rule .kept) e),
-      c .rule-size .ensures .1 ∙ cost-head (a .distinct .now) (a .having .now) (a .inside .now) (a .kinds .now) (a .scratch .now) (a .rule .head) (a .rule .kept) e,
+      c .rule-size .ensures .1 ∙ sums-head (a .distinct .now) (a .having .now) (a .inside .now) (a .kinds .now) (a .scratch .now) (a .rule .head) (a .rule .kept) e,
     )
 
 returns-2 : tie.Need-returns-2
 returns-2 c =
-    let a = c .before .before .before .args in
-    let e = sym (c .before .is-head .ensures) ∙ c .if1 .left in (
+    let h = c .before in
+    let a = h .before .before .before .args in
+    let e = sym (h .before .is-head .ensures) ∙ h .if1 .left in (
       sym (ap length (seat-none (a .distinct .now) (a .having .now) (a .inside .now) (a .kinds .now) (a .permissions .now) (a .operations) (a .scratch .now) (a .rule .head) (a .rule .kept) e)),
-      cost-none (a .distinct .now) (a .having .now) (a .inside .now) (a .kinds .now) (a .scratch .now) (a .rule .head) (a .rule .kept) e,
+      c .no-sums .ensures ∙ sums-none (a .distinct .now) (a .having .now) (a .inside .now) (a .kinds .now) (a .scratch .now) (a .rule .head) (a .rule .kept) e,
     )
 
 pub size-seat-spec : {M : Type 1} → statement M
@@ -35,4 +36,5 @@ size-seat-spec =
     (λ c κs. search needs)
     rule-size-requires
     returns
+    (λ c κs. search needs)
     returns-2)

@@ -1,0 +1,2 @@
+pub mod CostSums
+pub mod CostSumLaws
