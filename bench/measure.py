@@ -11,6 +11,30 @@ import subprocess
 import sys
 import tempfile
 
+PROGRAMS = os.path.join(os.path.dirname(os.path.abspath(__file__)), "..", "target", "bin")
+
+# What the program load is told to make a role file of the greatest length, 65,535 bytes.
+LONGEST = "37 64 62 16 32"
+
+
+def written(name, program, *words, given=b""):
+    """The file of this name that a program of this repository writes in its working directory."""
+    command = [os.path.abspath(os.path.join(PROGRAMS, program)), *words]
+    with tempfile.TemporaryDirectory() as folder:
+        subprocess.run(command, cwd=folder, input=given, stdout=subprocess.DEVNULL, check=True)
+        with open(os.path.join(folder, name), "rb") as file:
+            return file.read()
+
+
+def load(words):
+    """The role file that the program load makes from a seed and four sizes: anyone can make it again."""
+    return written("roles.out", "load", *words.split())
+
+
+def mined(role_file):
+    """The rule file that the program mine makes of a role file."""
+    return written("rules.out", "mine", given=role_file)
+
 
 def random_numbers(seed):
     """Numbers below a limit, the same on every machine: a linear congruential generator."""

@@ -1,6 +1,6 @@
 /*
- * Fichtengarn for C: reading role files, mining them into attribute rules, and judging, asking and
- * showing rule files. "01" below is the paper that settles what is right.
+ * Fichtengarn for C: reading role files, mining them into attribute rules, judging, asking and
+ * showing rule files, and making role files from a seed. "01" below is the paper that settles what is right.
  *
  *     rt staticlib fichtengarn          proves the library and writes target/staticlib/libfichtengarn.a
  *     cc -Iinclude program.c target/staticlib/libfichtengarn.a
@@ -56,19 +56,21 @@ extern "C" {
 enum {
     FICHTENGARN_ACCEPTED = 0,
 
-    /* of a role file */
+    /* of a role file, and of one that is to be made */
     FICHTENGARN_TOO_LONG = 1,        /* more than 65,535 bytes */
     FICHTENGARN_CUT_OFF = 2,         /* it ends inside operands or before 0F */
     FICHTENGARN_UNKNOWN_COMMAND = 3, /* a byte that is no command */
     FICHTENGARN_OUT_OF_PLACE = 4,    /* a command where it may not stand, or a byte after the end */
     FICHTENGARN_BEYOND = 5,          /* an operand beyond its limit or declared size, a seventh
-                                        attribute; or a question's number beyond the sizes */
+                                        attribute; a question's number beyond the sizes; or a size
+                                        of a file to be made beyond its limit */
     FICHTENGARN_WRONG_KIND = 6,      /* a value of the wrong kind, or one given twice */
     FICHTENGARN_OWN_SENIOR = 7,      /* a role is its own senior */
 
-    /* of the memory lent to mining */
+    /* of lent memory */
     FICHTENGARN_SMALL_SCRATCH = 8, /* less than FICHTENGARN_SCRATCH_WORDS */
-    FICHTENGARN_SHORT_OUTPUT = 9,  /* the rule file, or the circle, is longer than the output */
+    FICHTENGARN_SHORT_OUTPUT = 9,  /* the rule file, the circle, or the role file made, is longer than
+                                      the output */
 
     /* of a rule file */
     FICHTENGARN_RULES_CUT_OFF = 10, /* it ends inside operands or before 2F */
@@ -78,12 +80,15 @@ enum {
                                        domains, no operation, or no part of the role file */
 
     /* of the rule that is to be shown */
-    FICHTENGARN_NO_SUCH_RULE = 14 /* its number is not below the count of rules */
+    FICHTENGARN_NO_SUCH_RULE = 14, /* its number is not below the count of rules */
+
+    /* of a role file that is to be made */
+    FICHTENGARN_ZERO_SEED = 15 /* the seed is 0 */
 };
 
-/* Sizes of the memory that mining is lent. Output is as long as the caller likes. */
+/* Sizes of lent memory, and limits of a role file. Output is as long as the caller likes. */
 enum {
-    FICHTENGARN_MOST_ROLE_BYTES = 65535, /* of a role file */
+    FICHTENGARN_MOST_ROLE_BYTES = 65535, /* of a role file, read or made */
     FICHTENGARN_MOST_ROLES = 32,         /* of a role file, and so of a circle */
     FICHTENGARN_SCRATCH_WORDS = 4096     /* of 64 bits: 32,768 bytes */
 };
@@ -177,6 +182,26 @@ fichtengarn_part fichtengarn_show(const uint8_t *file, size_t file_length,
 size_t fichtengarn_circle(const uint8_t *file, size_t file_length,
                           uint8_t *roles, size_t roles_length,
                           size_t *count);
+
+/*
+ * The load: a role file made from a seed and four sizes, the same on every machine.
+ *
+ * Returns 0, and the first *length bytes of the output are the role file: reading accepts it, with
+ * these sizes. Or returns 15 for seed 0; then 5 if there are more users, resources, operations or
+ * roles than a role file may have (64, 64, 16, 32; 0 is allowed); then 1 if the file would have more
+ * than FICHTENGARN_MOST_ROLE_BYTES; then 9 if it is longer than the output. Output of
+ * FICHTENGARN_MOST_ROLE_BYTES is always enough. Writes the file and *length, and nothing else.
+ *
+ * Draws are the outputs of Marsaglia's generator of 32 bits: x ^= x << 13, x ^= x >> 17, x ^= x << 5,
+ * from x = seed on, the first output being the first draw. The file has 01 and the sizes, and 02 00 00
+ * and 02 01 00, a single attribute a side. Then, a draw each: every user's value, draw mod 8, and every
+ * resource's; for each role, each user is assigned if draw mod 4 is 0, and then for each resource, and
+ * for each operation on it, there is a permission if draw mod 2 is 0; after all roles, for each junior
+ * and each role of a higher number there is a line 07 if draw mod 16 is 0. Stack: 1 KB.
+ */
+size_t fichtengarn_load(uint32_t seed, size_t users, size_t resources, size_t operations, size_t roles,
+                        uint8_t *output, size_t output_length,
+                        size_t *length);
 
 /*
  * The weights of the cost, each 0 to 65,535: every number of the type is one, and none is refused.

@@ -29,6 +29,7 @@ CALLS = [
     ("rule_judge", "judge"),
     ("rule_show", "show"),
     ("role_circle", "circle"),
+    ("load_file", "generate"),
     ("mining", "mine"),
     ("mining", "rule_bytes"),
     ("fichtengarn", None),

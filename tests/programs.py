@@ -1,5 +1,5 @@
 #!/usr/bin/env python3
-"""Use the programs mine, judge, ask, explain, show and circle, rightly and wrongly, and compare all that they print and write.
+"""Use the programs mine, judge, ask, explain, show, circle and load, rightly and wrongly, and compare all that they print and write.
 
     tests/programs.py [FOLDER]      FOLDER has the programs; target/bin if left out
 
@@ -7,7 +7,8 @@ Each use runs in a folder of its own. Standard output, standard error and every 
 byte for byte. Prints one line if all is as it should be; else a message for each use that is not, and the exit status is 1.
 
 The rule files that mine has to write are those of the samples and, for larger ones, checksums; all of them, the lengths at
-refusal 9 and the verdicts are those of the second miner, an implementation by another author.
+refusal 9, the verdicts and the role files that load has to write are those of the second miner, an implementation by another
+author.
 """
 import hashlib
 import os
@@ -25,7 +26,7 @@ from rolefiles import END, EXAMPLE_A, NOBODY, NO_COMMAND, assign, declare, joine
 
 HERE = os.path.dirname(os.path.abspath(__file__))
 SAMPLES = os.path.join(os.path.dirname(HERE), "samples")
-PROGRAMS = ["mine", "judge", "ask", "explain", "show", "circle"]
+PROGRAMS = ["mine", "judge", "ask", "explain", "show", "circle", "load"]
 
 # Where the tests run as root, who may write everything, the programs run as somebody who may not.
 NOBODY_ID = 65534
@@ -46,7 +47,7 @@ MEANING = {
     2: "the role file ends inside operands or before 0F",
     3: "the role file has an unknown command",
     4: "the role file has a byte after its end or a command out of place",
-    5: "an operand of the role file, or a number of the question, is beyond its limit or declared size, or there is a seventh attribute",
+    5: "an operand of the role file, or a number handed in, is beyond its limit or declared size, or there is a seventh attribute",
     6: "the role file has a value of the wrong kind or a value given twice",
     7: "a role is its own senior",
     9: "output is shorter than the rule file",
@@ -55,6 +56,7 @@ MEANING = {
     12: "the rule file has a byte after its end or a command out of order, missing or repeated",
     13: "the rule file has an operand beyond its size or of the wrong kind, an atom across domains, a zero operation set, or a part that the role file does not have",
     14: "the rule file has no rule of this number",
+    15: "the seed is 0",
 }
 
 # Role files that reading refuses, by the number.
@@ -227,6 +229,7 @@ class Checksum:
     """The bytes of this length and checksum."""
 
     def __init__(self, length, checksum):
+        self.length = length
         self.told = f"{length} bytes with checksum {checksum}"
 
     def __eq__(self, held):
@@ -333,24 +336,33 @@ def mine_wrongly():
 
 
 def mine_saving():
-    """Where rules.out comes to stand, or does not."""
-    counts, rules = "parts 2 rules 1 merges 1 cost 2\n", {"rules.out": A_RULES}
-    for umask in [0, 0o022, 0o027, 0o077]:
-        yield mine(EXAMPLE_A, umask=umask, out=counts, after=rules, modes_after={"rules.out": 0o666 & ~umask})
-    linked = "mine: rules.out is a link and stays as it is; no rules are written\n"
-    yield mine(EXAMPLE_A, files={"rules.out": Link("other"), "other": b"former"}, err=linked)
-    yield mine(EXAMPLE_A, files={"rules.out": Link("nowhere")}, err=linked)
-    kept = {"rules.out": b"former"}
-    denied = "Permission denied\n"
-    yield mine(EXAMPLE_A, files=kept, modes={"rules.out": 0o444}, err="mine: cannot write rules.out: " + denied)
-    yield mine(EXAMPLE_A, files=kept, modes={".": 0o555}, err="mine: cannot make a file beside rules.out: " + denied)
-    yield mine(EXAMPLE_A, modes={".": 0o555}, err="mine: cannot make a file beside rules.out: " + denied)
-    yield mine(EXAMPLE_A, files={"rules.out": FOLDER}, err="mine: cannot replace rules.out: Is a directory\n")
-    short = {resource.RLIMIT_FSIZE: 10}
-    yield mine(EXAMPLE_A, files=kept, limits=short, err="mine: cannot write the rules: File too large\n")
+    yield from saving("rules.out", A_RULES, "parts 2 rules 1 merges 1 cost 2\n", "mine", input=EXAMPLE_A)
     full = "mine: cannot print the answer: No space left on device\n"
-    yield mine(EXAMPLE_A, output=os.open("/dev/full", os.O_WRONLY), err=full, after=rules)
     yield mine(END, output=os.open("/dev/full", os.O_WRONLY), err=full + f"mine: {MEANING[4]}\n")
+
+
+def saving(name, written, printed, *use, **given):
+    """Where a program's file of this name comes to stand, or does not."""
+    program = use[0]
+
+    def saved(**other):
+        return Use(*use, **given, **other)
+
+    for umask in [0, 0o022, 0o027, 0o077]:
+        yield saved(umask=umask, out=printed, after={name: written}, modes_after={name: 0o666 & ~umask})
+    linked = f"{program}: {name} is a link and stays as it is; nothing is written\n"
+    yield saved(files={name: Link("other"), "other": b"former"}, err=linked)
+    yield saved(files={name: Link("nowhere")}, err=linked)
+    kept = {name: b"former"}
+    denied = "Permission denied\n"
+    yield saved(files=kept, modes={name: 0o444}, err=f"{program}: cannot write {name}: {denied}")
+    yield saved(files=kept, modes={".": 0o555}, err=f"{program}: cannot make a file beside {name}: {denied}")
+    yield saved(modes={".": 0o555}, err=f"{program}: cannot make a file beside {name}: {denied}")
+    yield saved(files={name: FOLDER}, err=f"{program}: cannot replace {name}: Is a directory\n")
+    short = {resource.RLIMIT_FSIZE: 10}
+    yield saved(files=kept, limits=short, err=f"{program}: cannot write the bytes of {name}: File too large\n")
+    full = f"{program}: cannot print the answer: No space left on device\n"
+    yield saved(output=os.open("/dev/full", os.O_WRONLY), err=full, after={name: written})
 
 
 def mine_small():
@@ -609,6 +621,84 @@ def circle_wrongly():
         yield circling(roles, output=os.open("/dev/full", os.O_WRONLY), err=err)
 
 
+# ---- load
+
+# Two of each, from seed 1; without anything; seniors alone; and, by their checksums, README's, one of 65,535 bytes, the longest
+# there is, and one from the greatest seed.
+LOADS = {
+    "1 2 2 2 2": bytes.fromhex(
+        "01 02 02 02 02 02 00 00 02 01 00 03 00 00 00 01 00 03 00 00 01 01 00 03 01 00 00 05 00 03 01 00 01 07 00 "
+        "05 00 01 06 00 00 00 06 00 00 01 06 00 01 01 06 01 00 00 06 01 00 01 0F"
+    ),
+    "1 0 0 0 0": joined(sizes(0, 0, 0, 0), declare(0, 0), declare(1, 0), END),
+    "136 0 0 0 4": joined(sizes(0, 0, 0, 4), declare(0, 0), declare(1, 0), line(0, 1), line(0, 2), line(1, 3), END),
+    "1 64 60 16 32": Checksum(63583, "6547f379d22ead8e73fe2aa0203fe1402e56727cb571d7f97e7ab6aa7284495a"),
+    "37 64 62 16 32": Checksum(65535, "36e9624aa6441012ea478bdea8a347190d0318a3fbc102259500d7dbd14114ea"),
+    "4294967295 8 8 4 8": Checksum(681, "85941a6edc9a6458cb1b37cce93ce99440516e5bb3eeae234e9257f185566fac"),
+}
+
+
+def loading(words, **other):
+    return Use("load", *words.split(" "), **other)
+
+
+def loaded():
+    for words, file in LOADS.items():
+        length = file.length if isinstance(file, Checksum) else len(file)
+        for former in [{}, {"roles.out": b"former"}]:
+            yield loading(words, files=former, out=f"length {length}\n", after={"roles.out": file})
+    yield loading("01 02 2 0002 2", out="length 59\n", after={"roles.out": LOADS["1 2 2 2 2"]})
+
+
+def load_refusals():
+    """Each refusal prints its line, writes no file and leaves a former one as it was."""
+    refusals = {
+        "0 2 2 2 2": 15,
+        "00 0 0 0 0": 15,
+        # the seed comes first, and sizes before the length
+        "0 65 0 0 0": 15,
+        "1 65 0 0 0": 5,
+        "1 0 65 0 0": 5,
+        "1 0 0 17 0": 5,
+        "1 0 0 0 33": 5,
+        "1 65 64 16 32": 5,
+        "1 256 0 0 0": 5,
+        f"1 0 {2**32} 0 0": 5,
+        f"1 0 0 {2**64} 0": 5,
+        "1 0 0 0 " + "9" * 4096: 5,
+        "1 64 64 16 32": 1,
+        # one byte more than a role file may have
+        "191 64 62 16 32": 1,
+    }
+    for words, n in refusals.items():
+        for former in [{}, {"roles.out": b"former"}]:
+            yield loading(words, files=former, out=refused(n))
+
+
+def load_wrongly():
+    usage = (
+        "usage: load SEED USERS RESOURCES OPERATIONS ROLES, which writes a role file to roles.out in the working directory; "
+        "all are numbers from 0, SEED has 32 bits\n"
+    )
+    for words in ["--help", "1", "1 2 2 2", "1 2 2 2 2 2"]:
+        yield loading(words, err=usage)
+    yield Use("load", err=usage)
+    for seed in [2**32, 2**64, 2**64 + 1, int("9" * 4096)]:
+        shown = str(seed)
+        yield loading(f"{shown} 2 2 2 2", err=f"load: {shown}: SEED is above 4,294,967,295\n" + usage)
+    for place, name in enumerate(["SEED", "USERS", "RESOURCES", "OPERATIONS", "ROLES"]):
+        for text in WRONG_NUMBERS:
+            words = ["1", "2", "2", "2", "2"]
+            words[place] = text
+            yield Use("load", *words, err=no_number("load", text, name) + usage)
+
+
+def load_saving():
+    yield from saving("roles.out", LOADS["1 2 2 2 2"], "length 59\n", "load", *"12222")
+    full = "load: cannot print the answer: No space left on device\n"
+    yield loading("0 2 2 2 2", output=os.open("/dev/full", os.O_WRONLY), err=full)
+
+
 def uses():
     yield from mined()
     yield from mine_refusals()
@@ -637,6 +727,10 @@ def uses():
     yield from circle_refusals()
     yield from file_errors("circle", names=("roles",))
     yield from circle_wrongly()
+    yield from loaded()
+    yield from load_refusals()
+    yield from load_wrongly()
+    yield from load_saving()
 
 
 # ---- running

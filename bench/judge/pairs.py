@@ -2,7 +2,7 @@
 import lzma
 import os
 
-from measure import random_numbers
+from measure import load, mined, random_numbers
 
 HERE = os.path.dirname(os.path.abspath(__file__))
 
@@ -116,6 +116,9 @@ def many_values():
     return rules + END_OF_RULES
 
 
+# What the program load is told to make a role file whose rule file the program mine can hold, of 63,181 bytes.
+WITH_RULES = "1 64 64 16 20"
+
 # Example A of 01, and its rules.
 SMALL_ROLES = bytes.fromhex(
     "01 02 02 01 02 02 00 00 02 01 00 03 00 00 00 05 00 03 00 00 01 07 00"
@@ -130,8 +133,10 @@ def given(role_file, rule_file):
 
 def files():
     """Each role file and the rule file beside it, with the pair's name."""
-    with lzma.open(os.path.join(HERE, "mined.xz")) as mined:
-        yield "mined rules", departments(), mined.read()
+    made = load(WITH_RULES)
+    yield f"load {WITH_RULES}, mined", made, mined(made)
+    with lzma.open(os.path.join(HERE, "mined.xz")) as rules:
+        yield "mined rules", departments(), rules.read()
     everybody = for_everybody()
     yield "many rules", everybody, many_rules()
     yield "many values", everybody, many_values()

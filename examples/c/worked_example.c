@@ -1,7 +1,7 @@
 /*
  * A worked example of include/fichtengarn.h: reads a role file, mines it, reads the rules back,
- * judges them, shows one, asks a question of both, shows the circle of a file that has one, and
- * prints the answers.
+ * judges them, shows one, asks a question of both, shows the circle of a file that has one, makes a
+ * role file from a seed and mines it, and prints the answers.
  *
  *     worked_example FILE
  *
@@ -103,6 +103,19 @@ static size_t mine(size_t file_length, fichtengarn_weights weights, uint64_t cou
     return fichtengarn_mine(file, file_length, weights, scratch, FICHTENGARN_SCRATCH_WORDS, rules, sizeof rules, counts);
 }
 
+/* Makes a role file from a seed, in the place of the one that was read, and mines it. */
+static void load(uint32_t seed)
+{
+    uint64_t counts[5];
+    size_t length;
+
+    if (!told("load", fichtengarn_load(seed, 2, 2, 2, 2, file, sizeof file, &length)))
+        return;
+    printf("length %zu\n", length);
+    if (told("mine", mine(length, ones, counts)))
+        printf("rules %" PRIu64 "\n", counts[FICHTENGARN_RULES]);
+}
+
 static void work(size_t file_length)
 {
     uint64_t counts[5];
@@ -130,6 +143,8 @@ static void work(size_t file_length)
     ask(file_length, rules_length, 0, 1, 0);
     ask(file_length, rules_length, 0, 0, 1);
     circle(circular, sizeof circular);
+    load(0);
+    load(1);
 }
 
 int main(int count, char **words)

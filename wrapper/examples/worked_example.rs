@@ -1,10 +1,10 @@
 //! A worked example of the wrapper, and the same as `examples/c/worked_example.c`: reads a role
 //! file, mines it, reads the rules back, judges them, shows one, asks a question of both, shows the
-//! circle of a file that has one, and prints the answers.
+//! circle of a file that has one, makes a role file from a seed and mines it, and prints the answers.
 //!
 //!     cargo run --example worked_example FILE
 
-use fichtengarn::{Refusal, Triple, Verdict, Weights};
+use fichtengarn::{Refusal, Sizes, Triple, Verdict, Weights};
 
 /// An atom costs as much as a hundred values, an operation as much as seven.
 const WEIGHTS: Weights = Weights { users: 1, resources: 1, operations: 7, atoms: 100 };
@@ -72,6 +72,19 @@ fn circle(file: &[u8]) {
     }
 }
 
+/// Makes a role file from a seed, and mines it.
+fn load(seed: u32) -> Option<()> {
+    let sizes = Sizes { users: 2, resources: 2, operations: 2, roles: 2 };
+    let mut file = [0; fichtengarn::MOST_ROLE_BYTES];
+    let length = told("load", fichtengarn::load(seed, sizes, &mut file))?;
+    println!("length {length}");
+    let mut scratch = [0; fichtengarn::SCRATCH_WORDS];
+    let mut output = [0; 65536];
+    let mined = fichtengarn::mine(&file[..length], Weights::ONES, &mut scratch, &mut output);
+    println!("rules {}", told("mine", mined)?.rules);
+    Some(())
+}
+
 /// Goes on with what each call answers; ends where one is refused.
 fn work(file: &[u8]) -> Option<()> {
     let mut scratch = [0; fichtengarn::SCRATCH_WORDS];
@@ -94,6 +107,8 @@ fn work(file: &[u8]) -> Option<()> {
     ask(file, rules, Triple { user: 0, resource: 1, operation: 0 });
     ask(file, rules, Triple { user: 0, resource: 0, operation: 1 });
     circle(&CIRCULAR);
+    load(0);
+    load(1);
     Some(())
 }
 

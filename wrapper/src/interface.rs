@@ -76,6 +76,17 @@ unsafe extern "C" {
         count: *mut [usize; 1],
     ) -> usize;
 
+    pub fn fichtengarn_load(
+        seed: u32,
+        users: usize,
+        resources: usize,
+        operations: usize,
+        roles: usize,
+        output: *mut u8,
+        output_length: usize,
+        length: *mut [usize; 1],
+    ) -> usize;
+
     pub fn fichtengarn_mine(
         file: *const u8,
         file_length: usize,

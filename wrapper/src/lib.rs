@@ -16,6 +16,9 @@ pub use interface::Weights;
 /// The words of scratch that mining asks for.
 pub const SCRATCH_WORDS: usize = 4096;
 
+/// The most bytes that a role file may have, read or made.
+pub const MOST_ROLE_BYTES: usize = 65535;
+
 /// The most roles that a role file may have.
 pub const MOST_ROLES: usize = 32;
 
@@ -35,8 +38,8 @@ pub enum Refusal {
     UnknownCommand = 3,
     /// A command where it may not stand, or a byte after the end.
     OutOfPlace = 4,
-    /// An operand beyond its limit or declared size, a seventh attribute, or a question's number
-    /// beyond the sizes.
+    /// An operand beyond its limit or declared size, a seventh attribute, a question's number
+    /// beyond the sizes, or a size of a role file to be made beyond its limit.
     Beyond = 5,
     /// A value of the wrong kind, or one given twice.
     WrongKind = 6,
@@ -44,7 +47,7 @@ pub enum Refusal {
     OwnSenior = 7,
     /// Scratch of less than `SCRATCH_WORDS`.
     SmallScratch = 8,
-    /// The rule file, or the circle, is longer than the output.
+    /// The rule file, the circle, or the role file made, is longer than the output.
     ShortOutput = 9,
     /// The rule file ends inside operands or before 2F.
     RulesCutOff = 10,
@@ -57,10 +60,12 @@ pub enum Refusal {
     RulesOperand = 13,
     /// There is no rule of this number.
     NoSuchRule = 14,
+    /// The seed is 0.
+    ZeroSeed = 15,
 }
 
 impl Refusal {
-    const ALL: [Refusal; 14] = [
+    const ALL: [Refusal; 15] = [
         Refusal::TooLong,
         Refusal::CutOff,
         Refusal::UnknownCommand,
@@ -75,6 +80,7 @@ impl Refusal {
         Refusal::RulesOrder,
         Refusal::RulesOperand,
         Refusal::NoSuchRule,
+        Refusal::ZeroSeed,
     ];
 
     /// 01's number.
@@ -89,6 +95,15 @@ pub struct Triple {
     pub user: usize,
     pub resource: usize,
     pub operation: usize,
+}
+
+/// How many there are of each in a role file.
+#[derive(Clone, Copy, PartialEq, Eq, Debug)]
+pub struct Sizes {
+    pub users: usize,
+    pub resources: usize,
+    pub operations: usize,
+    pub roles: usize,
 }
 
 /// The judge's verdicts, 0 to 3.
@@ -234,6 +249,26 @@ pub fn circle(file: &[u8], roles: &mut [u8]) -> Result<usize, Refusal> {
         )
     })?;
     Ok(count[0])
+}
+
+/// Writes a role file of these sizes, made from the seed and the same on every machine, to the front
+/// of the output: its length. Reading accepts it. A refusal leaves the output as it was; output of
+/// `MOST_ROLE_BYTES` is always enough.
+pub fn load(seed: u32, sizes: Sizes, output: &mut [u8]) -> Result<usize, Refusal> {
+    let mut length = [0];
+    told(unsafe {
+        interface::fichtengarn_load(
+            seed,
+            sizes.users,
+            sizes.resources,
+            sizes.operations,
+            sizes.roles,
+            output.as_mut_ptr(),
+            output.len(),
+            &mut length,
+        )
+    })?;
+    Ok(length[0])
 }
 
 /// Writes the rules of a role file to the front of the output, and says what they cost by these

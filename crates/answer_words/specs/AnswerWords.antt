@@ -7,7 +7,7 @@ use lib.ListN.{length, getD, take}
 use mathlib.Core.Bool.{Bool, true, false}
 use mathlib.Core.List.{List, [], _∷_}
 use mathlib.Core.Path.{_≡_}
-use Rattle.files.specs.Answer.{Refusal, tooLong, cutOff, unknownCommand, outOfPlace, beyond, wrongKind, ownSenior, smallScratch, shortOutput, rulesCutOff, rulesUnknown, rulesOrder, rulesOperand, noSuchRule}
+use Rattle.files.specs.Answer.{Refusal, tooLong, cutOff, unknownCommand, outOfPlace, beyond, wrongKind, ownSenior, smallScratch, shortOutput, rulesCutOff, rulesUnknown, rulesOrder, rulesOperand, noSuchRule, zeroSeed}
 use Rattle.files.specs.Calls.{Verdict, differ, strayRule, strayPart, sound}
 
 -- a text as bytes
@@ -28,7 +28,7 @@ causeWords tooLong = "the role file is too long, above 65,535 bytes"
 causeWords cutOff = "the role file ends inside operands or before 0F"
 causeWords unknownCommand = "the role file has an unknown command"
 causeWords outOfPlace = "the role file has a byte after its end or a command out of place"
-causeWords beyond = "an operand of the role file, or a number of the question, is beyond its limit or declared size, or there is a seventh attribute"
+causeWords beyond = "an operand of the role file, or a number handed in, is beyond its limit or declared size, or there is a seventh attribute"
 causeWords wrongKind = "the role file has a value of the wrong kind or a value given twice"
 causeWords ownSenior = "a role is its own senior"
 causeWords smallScratch = "scratch is below 4,096 words of 64 bits"
@@ -38,11 +38,13 @@ causeWords rulesUnknown = "the rule file has an unknown command"
 causeWords rulesOrder = "the rule file has a byte after its end or a command out of order, missing or repeated"
 causeWords rulesOperand = "the rule file has an operand beyond its size or of the wrong kind, an atom across domains, a zero operation set, or a part that the role file does not have"
 causeWords noSuchRule = "the rule file has no rule of this number"
+causeWords zeroSeed = "the seed is 0"
 
 unfoldable pub refusalTable : List String
 refusalTable =
     "no refusal has this number" ∷ causeWords tooLong ∷ causeWords cutOff ∷ causeWords unknownCommand ∷ causeWords outOfPlace ∷ causeWords beyond ∷ causeWords wrongKind ∷ causeWords ownSenior
-    ∷ causeWords smallScratch ∷ causeWords shortOutput ∷ causeWords rulesCutOff ∷ causeWords rulesUnknown ∷ causeWords rulesOrder ∷ causeWords rulesOperand ∷ causeWords noSuchRule ∷ []
+    ∷ causeWords smallScratch ∷ causeWords shortOutput ∷ causeWords rulesCutOff ∷ causeWords rulesUnknown ∷ causeWords rulesOrder ∷ causeWords rulesOperand ∷ causeWords noSuchRule
+    ∷ causeWords zeroSeed ∷ []
 
 -- the words of a refusal by its number
 unfoldable pub refusalWords : ℕ → List ℕ

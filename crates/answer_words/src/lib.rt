@@ -32,7 +32,7 @@ pub fn refusal_words(n: usize, out: &mut [u8]) -> usize
             out,
         ),
         refusal::BEYOND => put(
-            b"an operand of the role file, or a number of the question, is beyond its limit or declared size, or there is a seventh attribute",
+            b"an operand of the role file, or a number handed in, is beyond its limit or declared size, or there is a seventh attribute",
             out,
         ),
         refusal::WRONG_KIND => put(
@@ -53,6 +53,7 @@ pub fn refusal_words(n: usize, out: &mut [u8]) -> usize
             out,
         ),
         refusal::NO_SUCH_RULE => put(b"the rule file has no rule of this number", out),
+        refusal::ZERO_SEED => put(b"the seed is 0", out),
         _ => put(b"no refusal has this number", out),
     }
 }

@@ -4,9 +4,11 @@ ghost use lib.ListN.{length};
 ghost use mathlib.Core.Path.{_≡_};
 ghost use Rattle.answers.specs.Numbers.{returned, stored, readNumbers};
 ghost use Rattle.write_answer.specs.MinedNumbers.{minedNumbers};
+ghost use Rattle.load_file.specs.GeneratedNumbers.{generatedNumbers};
 ghost use Rattle.role_circle.specs.CircledNumbers.{circledNumbers};
 ghost use Rattle.role_question.specs.Reply.{replyNumbers};
 ghost use Rattle.rule_judge.specs.Judgement.{judgementNumbers};
+use load_file::Generated;
 use role_circle::Circled;
 use role_question::Reply;
 use rule_judge::Judgement;
@@ -55,6 +57,22 @@ pub fn store_circled(circled: Circled, count: &mut [usize]) -> usize
         Circled::Refused(n) => n,
         Circled::Listed(n) => {
             count[0] = n;
+            0
+        }
+    }
+}
+
+// How long a role file made from a seed is.
+pub fn store_generated(generated: Generated, count: &mut [usize]) -> usize
+    requires { ⌜ length (now count) ≡ 1 ⌝ }
+    ensures { λ r. ⌜
+        (r ≡ returned (generatedNumbers generated))
+        × (now (count .exit) ≡ stored (generatedNumbers generated) (now (count .entry))) ⌝ }
+{
+    match generated {
+        Generated::Refused(n) => n,
+        Generated::Written(bytes) => {
+            count[0] = bytes;
             0
         }
     }

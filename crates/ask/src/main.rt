@@ -23,6 +23,7 @@ fn question(i: usize) -> Asked
     let Number::Given(user) = programs::number_named(
         b"ask",
         i,
+        digits::MANY,
         b"USER is no number of up to 4,096 digits\n",
     ) else {
         return Asked::Wrong;
@@ -30,6 +31,7 @@ fn question(i: usize) -> Asked
     let Number::Given(resource) = programs::number_named(
         b"ask",
         i + 1,
+        digits::MANY,
         b"RESOURCE is no number of up to 4,096 digits\n",
     ) else {
         return Asked::Wrong;
@@ -37,6 +39,7 @@ fn question(i: usize) -> Asked
     let Number::Given(operation) = programs::number_named(
         b"ask",
         i + 2,
+        digits::MANY,
         b"OPERATION is no number of up to 4,096 digits\n",
     ) else {
         return Asked::Wrong;

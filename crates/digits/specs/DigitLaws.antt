@@ -10,8 +10,7 @@ use mathlib.Core.List.{List, [], _∷_}
 use mathlib.Core.Path.{_≡_, refl}
 use native.Mathlib.Numerals.{add-one}
 use native.Mathlib.Omega.{arith}
-use Rattle.digits.specs.Digits.{readDigits}
-use Rattle.digits.specs.Digits.{most, isWithin, numberIn}
+use Rattle.digits.specs.Digits.{isWithin, readDigits, numberIn}
 use Rattle.digits.specs.declared.Number.the-variants.{Given, Wrong}
 
 pub digit-least : (c : ℕ) → isWithin c 48 57 ≡ true → 48 ≤ c
@@ -21,22 +20,23 @@ digit-least c h = go (leb 48 c) refl h
     go true e k = leb-true 48 c e
     go false e k = let z : _≡_ {A = ℕ} 0 1 = cc in absurd (omega arith)
 
-pub nothing-given : (s : List ℕ) → length s ≡ 0 → Wrong ≡ numberIn s
-unfolding numberIn
-nothing-given [] h = refl
-nothing-given (c ∷ s) h = absurd (omega arith)
+module _ (last : ℕ) where
+  pub nothing-given : (s : List ℕ) → length s ≡ 0 → Wrong ≡ numberIn last s
+  unfolding numberIn
+  nothing-given [] h = refl
+  nothing-given (c ∷ s) h = absurd (omega arith)
 
-pub reading-begins : (s : List ℕ) → (length s ≡ 0 → ⊥) → readDigits 0 s ≡ numberIn s
-unfolding numberIn
-reading-begins [] h = absurd (h refl)
-reading-begins (c ∷ s) h = refl
+  pub reading-begins : (s : List ℕ) → (length s ≡ 0 → ⊥) → readDigits last 0 s ≡ numberIn last s
+  unfolding numberIn
+  reading-begins [] h = absurd (h refl)
+  reading-begins (c ∷ s) h = refl
 
-module _ (s : List ℕ) (n at : ℕ) where
-  pub digit-read : at < length s → isWithin (getD s at 0) 48 57 ≡ true → readDigits n (drop at s) ≡ readDigits (min (10 * n + (getD s at 0 - 48)) most) (drop (at + 1) s)
-  digit-read h d = rw (add-one, drop-cons s at 0, d)
+  module _ (s : List ℕ) (n at : ℕ) where
+    pub digit-read : at < length s → isWithin (getD s at 0) 48 57 ≡ true → readDigits last n (drop at s) ≡ readDigits last (min (10 * n + (getD s at 0 - 48)) (last + 1)) (drop (at + 1) s)
+    digit-read h d = rw (add-one at, drop-cons s at 0, d)
 
-  pub other-read : at < length s → isWithin (getD s at 0) 48 57 ≡ false → readDigits n (drop at s) ≡ Wrong
-  other-read h d = rw (drop-cons s at 0, d)
+    pub other-read : at < length s → isWithin (getD s at 0) 48 57 ≡ false → readDigits last n (drop at s) ≡ Wrong
+    other-read h d = rw (drop-cons s at 0, d)
 
-pub reading-ends : (s : List ℕ) (n at : ℕ) → length s ≤ at → readDigits n (drop at s) ≡ Given n
-reading-ends s n at h = rw (drop-of-length-le s h)
+  pub reading-ends : (s : List ℕ) (n at : ℕ) → length s ≤ at → readDigits last n (drop at s) ≡ Given n
+  reading-ends s n at h = rw (drop-of-length-le s h)

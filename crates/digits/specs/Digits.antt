@@ -7,22 +7,19 @@ use mathlib.Core.List.{List, [], _∷_}
 use Rattle.digits.specs.declared.Number.{Number}
 use Rattle.digits.specs.declared.Number.the-variants.{Given, Wrong}
 
--- a larger number is taken for this one
-abbrev pub most : ℕ
-most = 1000000
-
 abbrev pub isWithin : ℕ → ℕ → ℕ → Bool
 isWithin n low high = leb low n && leb n high
 
--- the number n with these digits behind it; the digits are the bytes 48 to 57
-abbrev pub readDigits : ℕ → List ℕ → Number
-readDigits n [] = Given n
-readDigits n (c ∷ s) = let r = readDigits (min (10 * n + (c - 48)) most) s in cond (isWithin c 48 57) r Wrong
+-- the number n with these digits behind it; the digits are the bytes 48 to 57. A number above the last that is told apart is taken for the one
+-- behind that
+abbrev pub readDigits : (last n : ℕ) → List ℕ → Number
+readDigits last n [] = Given n
+readDigits last n (c ∷ s) = let r = readDigits last (min (10 * n + (c - 48)) (last + 1)) s in cond (isWithin c 48 57) r Wrong
 
 -- one digit or more, and nothing else
-unfoldable pub numberIn : List ℕ → Number
-numberIn [] = Wrong
-numberIn (c ∷ s) = readDigits 0 (c ∷ s)
+unfoldable pub numberIn : (last : ℕ) → List ℕ → Number
+numberIn last [] = Wrong
+numberIn last (c ∷ s) = readDigits last 0 (c ∷ s)
 
 -- a hexadecimal digit: 0 to 9 are the bytes 48 to 57, A to F the bytes 65 to 70
 abbrev pub hexDigit : ℕ → ℕ

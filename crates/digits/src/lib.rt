@@ -1,16 +1,16 @@
 // Numbers in digits: decimal ones are read, hexadecimal ones are written.
 ghost use mathlib.Core.Path.{_≡_};
 ghost use Prim.Native.Nat.{_+_, _-_, _*_, _≤_, _<_, min};
-ghost use Rattle.digits.specs.Digits.{isWithin, numberIn, most, hexDigit};
+ghost use Rattle.digits.specs.Digits.{isWithin, numberIn, hexDigit};
 
 pub enum Number {
     Given(usize),
     Wrong,
 }
 
-// Far beyond every size that a role file can declare, and every count of rules that a program can hold. A larger number is taken for this
-// one, so that any number of digits can be read.
-const MOST: usize = 1000000;
+// Far beyond every size that a role file can declare, and every count of rules that a program can hold: such numbers need not be told
+// apart above this one.
+pub const MANY: u32 = 999999;
 
 // Whether a number lies between two others, or is one of them.
 pub fn within(n: usize, low: usize, high: usize) -> bool
@@ -30,17 +30,19 @@ fn is_digit(c: u8) -> bool
 }
 
 // The number with one digit more behind it.
-fn with_digit(n: usize, c: u8) -> usize
-    requires { ⌜ (n ≤ most) × (48 ≤ c) ⌝ }
-    ensures { λ r. ⌜ r ≡ min (10 * n + (c - 48)) most ⌝ }
+fn with_digit(n: usize, c: u8, last: u32) -> usize
+    requires { ⌜ (n ≤ last + 1) × (48 ≤ c) ⌝ }
+    ensures { λ r. ⌜ r ≡ min (10 * n + (c - 48)) (last + 1) ⌝ }
 {
     let more = 10 * n + (c - 48) as usize;
-    if more < MOST { more } else { MOST }
+    let beyond = last as usize + 1;
+    if more < beyond { more } else { beyond }
 }
 
-// One digit or more, and nothing else.
-pub fn number_in(text: &[u8]) -> Number
-    ensures { λ r. ⌜ r ≡ numberIn (now (text .entry)) ⌝ }
+// One digit or more, and nothing else. Numbers are told apart up to the last: a larger one is taken for the one behind it, so that any
+// number of digits can be read.
+pub fn number_in(text: &[u8], last: u32) -> Number
+    ensures { λ r. ⌜ r ≡ numberIn last (now (text .entry)) ⌝ }
 {
     if text.len() == 0 {
         return Number::Wrong;
@@ -52,7 +54,7 @@ pub fn number_in(text: &[u8]) -> Number
         if !is_digit(c) {
             return Number::Wrong;
         }
-        n = with_digit(n, c);
+        n = with_digit(n, c, last);
         at = at + 1;
     }
     Number::Given(n)

@@ -9,6 +9,7 @@ use mathlib.Core.List.{List, [], _∷_, _++_, map}
 use Rattle.examples.specs.Hex.{noByte, spelt, hex}
 use Rattle.files.specs.Answer.{told}
 use Rattle.files.specs.Calls.{Verdict, countValues, yesNo, verdictNumber, verdictValues, mineAnswer, mineOutput, roleQuestion, readBoth, ruleQuestion, judge, shownPlace, shownPart, shownByte, circleAnswer, circleOutput}
+use Rattle.files.specs.Load.{xorshift, loadAnswer, loadOutput}
 use Rattle.files.specs.RoleFile.{readRoles}
 use Rattle.files.specs.RuleFile.{Lines, valuesIn, ruleIn}
 use Rattle.policy.specs.Cost.{fourOnes}
@@ -83,6 +84,13 @@ circling file room = told (λ (c : List ℕ). c) (circleAnswer 2 file room)
 
 abbrev pub circled : List ℕ → ℕ → List ℕ
 circled file room = circleOutput 2 file (memory room)
+
+-- making a role file of a seed and four sizes with so many bytes of output: its length; and the output after that
+abbrev pub loading : (seed users resources operations roles room : ℕ) → List ℕ
+loading seed u r o k room = told (λ n. n ∷ []) (loadAnswer 2 seed u r o k room)
+
+abbrev pub loadedInto : (seed users resources operations roles room : ℕ) → List ℕ
+loadedInto seed u r o k room = loadOutput 2 seed u r o k (memory room)
 
 -- the test of a user or a resource against each rule of a rule file: the half of the single attributes, that of the sets, and the whole
 abbrev pub halves : Policy → Which → Expression → ℕ → List ℕ
@@ -822,6 +830,31 @@ table =
     ∷ row "weights: both 255s" (weighing 2 30 400 5000 oneOfTwo 23) (0 ∷ 23 ∷ 1 ∷ 1 ∷ 0 ∷ 432 ∷ [])
     -- over the rules as written: two of them
     ∷ row "weights: two rules" (weighing 2 30 400 5000 userDomain 33) (0 ∷ 33 ∷ 2 ∷ 2 ∷ 0 ∷ 864 ∷ [])
+    -- ---- request 6: "seed 1 gives 270369 first"; then the next two outputs
+    ∷ row "load: the first outputs" (xorshift 1 ∷ xorshift 270369 ∷ xorshift 67634689 ∷ []) (270369 ∷ 67634689 ∷ 2647435461 ∷ [])
+    -- "every user's value, draw mod 8; every resource's value, draw mod 8; then for each role, each user ..., then for each resource and, within it, each operation"
+    ∷ row "load: two of each" (loadedInto 1 2 2 2 2 59) (hex "01 02 02 02 02 02 00 00 02 01 00 03 00 00 00 01 00 03 00 00 01 01 00 03 01 00 00 05 00 03 01 00 01 07 00 05 00 01 06 00 00 00 06 00 00 01 06 00 01 01 06 01 00 00 06 01 00 01 0F")
+    ∷ row "load: its length" (loading 1 2 2 2 2 59) (0 ∷ 59 ∷ [])
+    -- "each user assigned if draw mod 4 is 0": of these eight draws some are even and no multiple of 4
+    ∷ row "load: users of two roles" (loadedInto 1 4 0 0 2 42) (hex "01 04 00 00 02 02 00 00 02 01 00 03 00 00 00 01 00 03 00 00 01 01 00 03 00 00 02 05 00 03 00 00 03 07 00 05 00 01 05 01 01 0F")
+    ∷ row "load: three roles, one of them a senior" (loadedInto 20 1 1 1 3 38) (hex "01 01 01 01 03 02 00 00 02 01 00 03 00 00 00 05 00 03 01 00 00 07 00 05 00 00 06 00 00 00 06 02 00 00 07 00 01 0F")
+    -- "for each junior and each higher-numbered senior, juniors outermost"
+    ∷ row "load: seniors alone" (loadedInto 136 0 0 0 4 21) (hex "01 00 00 00 04 02 00 00 02 01 00 07 00 01 07 00 02 07 01 03 0F")
+    ∷ row "load: juniors outermost" (loadedInto 22 0 0 0 4 18) (hex "01 00 00 00 04 02 00 00 02 01 00 07 01 02 07 02 03 0F")
+    -- zero is allowed, of each size
+    ∷ row "load: nothing" (loadedInto 1 0 0 0 0 12) (hex "01 00 00 00 00 02 00 00 02 01 00 0F")
+    -- "15 for seed 0, then 5 for sizes, 1 if the file would pass 65,535 bytes, 9 for short output"
+    ∷ row "load: seed 0 before sizes" (loading 0 99 0 0 0 0) (15 ∷ [])
+    ∷ row "load: 65 users, before short output" (loading 1 65 0 0 0 0) (5 ∷ [])
+    ∷ row "load: 65 resources" (loading 1 0 65 0 0 1000) (5 ∷ [])
+    ∷ row "load: 17 operations" (loading 1 0 0 17 0 1000) (5 ∷ [])
+    ∷ row "load: 33 roles" (loading 1 0 0 0 33 1000) (5 ∷ [])
+    ∷ row "load: 64 users" (loading 1 64 0 0 0 1000) (0 ∷ 396 ∷ [])
+    ∷ row "load: 16 operations, 1 resource and 1 role" (loading 1 0 1 16 1 1000) (0 ∷ 46 ∷ [])
+    ∷ row "load: output of one byte less" (loading 1 0 0 0 0 11) (9 ∷ [])
+    ∷ row "load: output of one byte less, untouched" (loadedInto 1 0 0 0 0 3) (hex "AA AA AA")
+    ∷ row "load: output of more" (loadedInto 1 0 0 0 0 14) (hex "01 00 00 00 00 02 00 00 02 01 00 0F AA AA")
+    ∷ row "load: output beside seed 0" (loadedInto 0 0 0 0 0 2) (hex "AA AA")
     -- ---- the bytes of these rows: what is no digit, half a byte, and two bytes without a blank are no bytes
     ∷ row "hex: digits" (hex "00 09 0A 0F 10 F0 FF") (0 ∷ 9 ∷ 10 ∷ 15 ∷ 16 ∷ 240 ∷ 255 ∷ [])
     ∷ row "hex: no digit" (spelt "0G 0a") (noByte ∷ noByte ∷ [])

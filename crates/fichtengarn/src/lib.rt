@@ -10,14 +10,17 @@ ghost use mathlib.Core.Path.{_≡_};
 ghost use Rattle.files.specs.Answer.{told, accepted};
 ghost use Rattle.files.specs.Calls.{Counts, countValues, yesNo, roleQuestion, readBoth, ruleQuestion, judge, mineAnswer, mineOutput, verdictTold, shownPlace, shownByte, circleAnswer, circleOutput};
 ghost use Rattle.files.specs.Demand3.{Demand3};
+ghost use Rattle.files.specs.Load.{loadAnswer, loadOutput, Readable};
 ghost use Rattle.files.specs.RoleFile.{readRoles, readCommands};
 ghost use Rattle.policy.specs.Circles.{closes, Circle};
 ghost use Rattle.policy.specs.Policy.{Policy, settingOf, rolesIn};
+ghost use Rattle.load_file.specs.GeneratedNumbers.{bytesWritten};
 ghost use Rattle.role_circle.specs.CircledNumbers.{rolesListed};
 ghost use Rattle.sets.specs.Tests.{Is, _isIn_};
 ghost use Rattle.answers.specs.Numbers.{noValues};
 ghost use Rattle.answers.specs.Numbers.{returned, stored, rulesTold};
 use policy::Weights;
+use role_record::Sizes;
 
 // Whether a role file may be read: 0, or 1 to 7.
 #[no_mangle]
@@ -133,6 +136,39 @@ pub extern "C" fn fichtengarn_circle(file: &[u8], roles: &mut [u8], count: &mut 
         × ((l : List ℕ) → Is (closes (F .line) l) → (k : ℕ) → k isIn l → k < F .roles)) ⌝ }
 {
     answers::store_circled(role_circle::circle(file, roles), count)
+}
+
+// A role file made from a seed and four sizes, in the memory for output, and how long it is. The reader accepts it.
+#[no_mangle]
+pub extern "C" fn fichtengarn_load(
+    seed: u32,
+    users: usize,
+    resources: usize,
+    operations: usize,
+    roles: usize,
+    out: &mut [u8],
+    count: &mut [usize; 1],
+) -> usize
+    ensures { λ r. ⌜
+        (r
+        ≡ returned
+        (told bytesWritten (loadAnswer 2 seed users resources operations roles (length (now (out .entry))))))
+        × (now (count .exit)
+        ≡ stored
+        (told bytesWritten (loadAnswer 2 seed users resources operations roles (length (now (out .entry)))))
+        (now (count .entry)))
+        × (now (out .exit) ≡ loadOutput 2 seed users resources operations roles (now (out .entry)))
+        × ((n : ℕ)
+        → loadAnswer 2 seed users resources operations roles (length (now (out .entry))) ≡ accepted n
+        → Readable 2 users resources operations roles (take n (now (out .exit)))) ⌝ }
+{
+    let sizes = Sizes {
+        users,
+        resources,
+        operations,
+        roles,
+    };
+    answers::store_generated(load_file::generate(seed, sizes, out), count)
 }
 
 // Mining: the rule file in the memory for output, and length, parts, rules, merges and the cost by these weights.

@@ -34,6 +34,8 @@ pub data Refusal : Type 0 where
   rulesOperand : Refusal
   -- request 2: "a number not below the count of rules"
   noSuchRule : Refusal
+  -- request 6: "15 for seed 0"
+  zeroSeed : Refusal
 
 -- 01's number of each
 abbrev pub numberOf : Refusal → ℕ
@@ -51,6 +53,7 @@ numberOf rulesUnknown = 11
 numberOf rulesOrder = 12
 numberOf rulesOperand = 13
 numberOf noSuchRule = 14
+numberOf zeroSeed = 15
 
 -- "Every refusal here and below returns only its number."
 pub data Answer (A : Type 0) : Type 0 where

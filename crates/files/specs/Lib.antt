@@ -4,6 +4,7 @@ pub mod RoleFile
 pub mod RuleFile
 pub mod RulePart
 pub mod Calls
+pub mod Load
 pub mod BytesLaws
 pub mod ReadBackLaws
 pub mod LineLaws
@@ -14,3 +15,4 @@ pub mod DemandLaws
 pub mod CallLaws
 pub mod CircleCallLaws
 pub mod RulePartLaws
+pub mod LoadLaws

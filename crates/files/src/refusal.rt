@@ -26,3 +26,5 @@ pub const RULES_ORDER: usize = 12;
 pub const RULES_OPERAND: usize = 13;
 
 pub const NO_SUCH_RULE: usize = 14;
+
+pub const ZERO_SEED: usize = 15;

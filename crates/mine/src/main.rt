@@ -1,12 +1,9 @@
 // Mines the role file on standard input. Writes the rules to rules.out in the working directory and prints the counts and the cost by four ones;
 // on a refusal prints its number, and rules.out stays as it is; standard error has the number's meaning. Where the system does not read or
 // write, a line on standard error says so and rules.out stays as it is too.
-mod save;
-
 ghost use lib.ListN.{length};
 ghost use Rattle.mine.specs.Room.{Fits};
 use files::refusal;
-use save::save;
 use write_answer::Mined;
 
 // Prints the counts and the cost.
@@ -54,7 +51,7 @@ fn finish(mined: Mined, file: &[u8], out: &[u8])
             merges,
             cost,
         } => {
-            if save(&out[0..length]) {
+            if programs::save(b"mine", b"rules.out", &out[0..length]) {
                 programs::end_line(b"mine", print_counts(parts, rules, merges, cost));
             }
         }

@@ -1,9 +1,12 @@
-// What the programs share: reading a file by its name, reading a number, and printing answers with their numbers and their meaning.
+// What the programs share: reading a file by its name, writing one, reading a number, and printing answers with their numbers and their
+// meaning.
 mod argument;
 mod input;
 mod number;
+mod output;
 mod print;
 
+pub use argument::complain_of;
 pub use input::Both;
 pub use input::Input;
 pub use input::read_both;
@@ -12,6 +15,7 @@ pub use input::read_open;
 pub use input::read_rules;
 pub use input::rules_buffer;
 pub use number::number_named;
+pub use output::save;
 pub use print::complain;
 pub use print::complain_refused;
 pub use print::end_line;

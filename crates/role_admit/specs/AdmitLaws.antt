@@ -109,7 +109,7 @@ column-known F side a x hs ha hx =
     ∙ bit-mask 64 (λ y. isSome (F .table (columnSide (6 * side + a)) .value ((6 * side + a) % 6) y)) x hx
     ∙ ap₂ (λ (w : Which) (b : ℕ). isSome (F .table w .value b x)) (column-side side a hs ha) (let e : (6 * side + a) % 6 ≡ a = omega arith in e)
 
-sizes-code : (u r o k : ℕ) → codeOf (takeSizes 2 u r o k) ≡ sizesCode u r o k
+pub sizes-code : (u r o k : ℕ) → codeOf (takeSizes 2 u r o k) ≡ sizesCode u r o k
 unfolding takeSizes sizesCode belowOf
 sizes-code u r o k =
     unless-code (leb u 64 && leb r 64 && leb o 16 && leb k 32) beyond (accepted (blank u r o k))

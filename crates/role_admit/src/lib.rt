@@ -56,7 +56,7 @@ fn later(phase: usize, v: usize) -> usize
 }
 
 // 5 where a size is beyond its limit, else 0.
-fn admit_sizes(users: usize, resources: usize, operations: usize, roles: usize) -> usize
+pub fn admit_sizes(users: usize, resources: usize, operations: usize, roles: usize) -> usize
     ensures { λ r. ⌜ r ≡ sizesCode users resources operations roles ⌝ }
 {
     let v1 = below(roles, RoleFile::ROLES + 1, 0);

@@ -72,6 +72,7 @@ fn main() {
     let Number::Given(n) = programs::number_named(
         b"show",
         3,
+        digits::MANY,
         b"NUMBER is no number of up to 4,096 digits\n",
     ) else {
         usage();

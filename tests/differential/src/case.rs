@@ -1,6 +1,6 @@
 //! The files of a case, all made from its seed.
 
-use crate::{roles, rules, tally::Tally, REV};
+use crate::{loads, roles, rules, tally::Tally, REV};
 use second_miner::{makers, random::Random, world::World};
 
 /// One case in so many is of a profile with files of the largest sizes, which take the second miner
@@ -22,7 +22,7 @@ pub fn seeded(seed: u64, tally: &mut Tally) -> Result<(), String> {
         beside(&file, &mut random, tally)
             .map_err(|what| format!("seed {seed}, profile {profile}\n{what}"))?;
     }
-    Ok(())
+    loads::seeded(&mut random, tally).map_err(|what| format!("seed {seed}\n{what}"))
 }
 
 /// Everything about a role file and, if it is accepted, about rule files beside it.

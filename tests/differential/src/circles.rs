@@ -1,13 +1,7 @@
 //! The call that shows a circle: its list, how many roles it has, and the memory around it.
 
-use crate::{same, tally::Tally, REV};
+use crate::{memory, tally::Tally, REV};
 use second_miner::requests::circle;
-
-/// What stands in lent memory before a call, and on both sides of it.
-const FORMER: u8 = 0xA5;
-
-/// Bytes on each side of the memory that is lent.
-const EDGE: usize = 8;
 
 /// A role file with memory of 0 bytes, of one too few for its circle, of as many, and of more.
 pub fn compare(file: &[u8], tally: &mut Tally) -> Result<(), String> {
@@ -19,15 +13,9 @@ pub fn compare(file: &[u8], tally: &mut Tally) -> Result<(), String> {
 fn with_memory(file: &[u8], room: usize, tally: &mut Tally) -> Result<(), String> {
     tally.circles += 1;
     let theirs = circle(file, room, REV).map_err(usize::from);
-    let mut memory = vec![FORMER; EDGE + room + EDGE];
-    let mut wanted = memory.clone();
-    if let Ok(roles) = &theirs {
-        wanted[EDGE..EDGE + roles.len()].copy_from_slice(roles);
-    }
-    let ours = tally.told(fichtengarn::circle(file, &mut memory[EDGE..EDGE + room]));
-    let what = format!("the circle, in {room} bytes of memory");
-    same(&what, ours, theirs.map(|roles| roles.len()))?;
-    same(&format!("{what}: the memory"), memory, wanted)
+    memory::compare("the circle", room, theirs, |roles| {
+        tally.told(fichtengarn::circle(file, roles))
+    })
 }
 
 /// A circle of every length, with the lines in its order and the other way round, and beside as many

@@ -4,15 +4,18 @@
 //!     tests/differential/run SEED COUNT
 //!
 //! Case n has the seed SEED + n: a role file of one of the second miner's profiles, the same file
-//! damaged, and beside each that is accepted five rule files. Where the two disagree, the case's
-//! seed, the files in hexadecimal and both answers are printed, and the status is 1.
+//! damaged, and beside each that is accepted five rule files; and a role file that both make from a
+//! seed and sizes. Where the two disagree, the case's seed, the files in hexadecimal and both answers
+//! are printed, and the status is 1.
 //!
-//! Files at the limit of length, circles of every length, and a cost of more than 32 bits are tried on
-//! every run.
+//! Files at the limit of length, circles of every length, a cost of more than 32 bits, and loads at the
+//! limits are tried on every run.
 
 mod case;
 mod circles;
 mod costs;
+mod loads;
+mod memory;
 mod parts;
 mod questions;
 mod roles;
@@ -24,7 +27,7 @@ use std::thread::{available_parallelism, scope};
 use tally::Tally;
 
 /// How many of the change requests have landed: the second miner is asked as of then.
-pub const REV: second_miner::revision::Rev = 5;
+pub const REV: second_miner::revision::Rev = 6;
 
 /// Both sides must say the same.
 pub fn same<T: PartialEq + std::fmt::Debug>(what: &str, ours: T, theirs: T) -> Result<(), String> {
@@ -57,6 +60,7 @@ fn compare(seed: u64, count: u64) -> Result<Tally, String> {
     case::limits(&mut all)?;
     circles::every_length(&mut all)?;
     costs::wide(&mut all)?;
+    loads::limits(&mut all)?;
     let many = available_parallelism().map_or(1, usize::from);
     scope(|scope| {
         let deal = |k| scope.spawn(move || compare_some(seed + k, seed + count, many));

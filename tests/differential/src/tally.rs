@@ -10,8 +10,9 @@ pub struct Tally {
     pub questions: usize,
     pub shown: usize,
     pub circles: usize,
-    /// By number: how often the library accepted (0) or refused (1 to 14).
-    answers: [usize; 15],
+    pub loads: usize,
+    /// By number: how often the library accepted (0) or refused (1 to 15).
+    answers: [usize; 16],
     verdicts: [usize; 4],
 }
 
@@ -35,6 +36,7 @@ impl Tally {
         self.questions += other.questions;
         self.shown += other.shown;
         self.circles += other.circles;
+        self.loads += other.loads;
         self.answers.iter_mut().zip(other.answers).for_each(|(sum, often)| *sum += often);
         self.verdicts.iter_mut().zip(other.verdicts).for_each(|(sum, often)| *sum += often);
     }
@@ -50,8 +52,8 @@ impl fmt::Display for Tally {
     fn fmt(&self, f: &mut fmt::Formatter) -> fmt::Result {
         writeln!(
             f,
-            "no disagreement on {} role files, {} rule files, {} minings, {} questions, {} rules shown, {} circles",
-            self.role_files, self.rule_files, self.minings, self.questions, self.shown, self.circles
+            "no disagreement on {} role files, {} rule files, {} minings, {} questions, {} rules shown, {} circles, {} loads",
+            self.role_files, self.rule_files, self.minings, self.questions, self.shown, self.circles, self.loads
         )?;
         writeln!(f, "answers by number {}", met(&self.answers))?;
         write!(f, "verdicts by number {}", met(&self.verdicts))

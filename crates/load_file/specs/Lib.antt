@@ -1,0 +1,2 @@
+pub mod GeneratedNumbers
+pub mod GeneratedLaws

@@ -1,0 +1,2 @@
+pub mod DrawnLines
+pub mod DrawnLineLaws
