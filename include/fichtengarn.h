@@ -41,6 +41,13 @@
  * a user attribute and a resource attribute only if their domains are equal: mining writes no other,
  * and reading refuses another by 13. Conditions on one side alone, commands 22 to 25, do not look at
  * domains.
+ *
+ * A rule file says which shape it was made for. It opens with command 20 and six operands of a byte
+ * each: the users, resources, operations, roles, user attributes and resource attributes of the role
+ * file, as many as it declares, attributes by 02 and 08 together. Mining writes them. Every call that
+ * takes both files refuses operands unlike the role file's by 16, whatever stands behind them; a first
+ * command that is another, and a second 20, by 12. Two role files of one shape are not told apart: that
+ * a rule file fits is for the judge to say.
  */
 #ifndef FICHTENGARN_H
 #define FICHTENGARN_H
@@ -75,7 +82,8 @@ enum {
     /* of a rule file */
     FICHTENGARN_RULES_CUT_OFF = 10, /* it ends inside operands or before 2F */
     FICHTENGARN_RULES_UNKNOWN = 11, /* a byte that is no command */
-    FICHTENGARN_RULES_ORDER = 12,   /* out of order, missing or repeated, or a byte after the end */
+    FICHTENGARN_RULES_ORDER = 12,   /* out of order, missing or repeated, a first command other than
+                                       20, a second 20, or a byte after the end */
     FICHTENGARN_RULES_OPERAND = 13, /* an operand beyond its size or of the wrong kind, an atom across
                                        domains, no operation, or no part of the role file */
 
@@ -83,7 +91,10 @@ enum {
     FICHTENGARN_NO_SUCH_RULE = 14, /* its number is not below the count of rules */
 
     /* of a role file that is to be made */
-    FICHTENGARN_ZERO_SEED = 15 /* the seed is 0 */
+    FICHTENGARN_ZERO_SEED = 15, /* the seed is 0 */
+
+    /* of a rule file beside its role file */
+    FICHTENGARN_WRONG_SHAPE = 16 /* operands of the 20 that are unlike the role file's */
 };
 
 /* Sizes of lent memory, and limits of a role file. Output is as long as the caller likes. */
@@ -99,11 +110,10 @@ enum {
 size_t fichtengarn_read_roles(const uint8_t *file, size_t file_length);
 
 /*
- * May this rule file be read beside this role file? A rule file does not say which role file it
- * was made for, and may be of any length.
+ * May this rule file be read beside this role file? A rule file may be of any length.
  *
- * Returns 0, and *count is how many rules it has; or 1 to 7; then 10 to 13. Writes *count and
- * nothing else. Stack: 140 KB.
+ * Returns 0, and *count is how many rules it has; or 1 to 7; then 10 to 13 or 16, as its commands
+ * come: 16 at the first, 13 at the others. Writes *count and nothing else. Stack: 140 KB.
  */
 size_t fichtengarn_read_rules(const uint8_t *file, size_t file_length,
                               const uint8_t *rules, size_t rules_length,
@@ -122,8 +132,8 @@ size_t fichtengarn_ask_roles(const uint8_t *file, size_t file_length,
 /*
  * The rule question: does some rule grant it?
  *
- * Returns 0, and *answer is 1 for yes or 0 for no; or 1 to 7; then 10 to 13; then 5 if a number is
- * beyond the sizes of the role file. Writes *answer and nothing else. Stack: 140 KB.
+ * Returns 0, and *answer is 1 for yes or 0 for no; or 1 to 7; then 10 to 13 or 16; then 5 if a
+ * number is beyond the sizes of the role file. Writes *answer and nothing else. Stack: 140 KB.
  */
 size_t fichtengarn_ask_rules(const uint8_t *file, size_t file_length,
                              const uint8_t *rules, size_t rules_length,
@@ -144,7 +154,7 @@ enum {
  * The judge: is this rule file right for this role file?
  *
  * Returns 0 and the verdict, the first of 1, 2, 3 that there is cause for, else 0; or 1 to 7; then
- * 10 to 13. Writes the numbers of the verdict; those that it has none for are as they were.
+ * 10 to 13 or 16. Writes the numbers of the verdict; those that it has none for are as they were.
  * Stack: 160 KB, the most of all calls.
  */
 size_t fichtengarn_judge(const uint8_t *file, size_t file_length,
@@ -161,8 +171,8 @@ typedef struct {
  * One rule: which part of the rule file is it? The part is that of the caller's own memory, from the
  * rule's 21 up to the next command 21 or 2F; nothing is copied. Rules are numbered from 0.
  *
- * Stores in *answer 0; or 1 to 7; then 10 to 13, wherever in the rule file their cause stands; then
- * 14 if there is no rule of this number. After a refusal the part is the empty one at the file's
+ * Stores in *answer 0; or 1 to 7; then 10 to 13 or 16, wherever in the rule file their cause stands;
+ * then 14 if there is no rule of this number. After a refusal the part is the empty one at the file's
  * start, {0, 0}. Writes *answer, after a refusal too, and nothing else. Stack: 140 KB.
  */
 fichtengarn_part fichtengarn_show(const uint8_t *file, size_t file_length,
@@ -216,7 +226,7 @@ typedef struct {
 
 /* The numbers that mining stores. */
 enum {
-    FICHTENGARN_LENGTH = 0, /* bytes of the rule file */
+    FICHTENGARN_LENGTH = 0, /* bytes of the rule file, the seven of its 20 among them */
     FICHTENGARN_PARTS = 1,  /* parts of the role file: parts = rules + merges */
     FICHTENGARN_RULES = 2,  /* rules written */
     FICHTENGARN_MERGES = 3, /* merges made */
@@ -233,8 +243,8 @@ enum {
  * The cost is, over all rules written, weights.users times the values and the elements of sets that
  * the rule's conditions on users list, and weights.resources times those of its conditions on
  * resources, the roles and resource numbers of attribute 255 among them; weights.operations times its
- * operations; and weights.atoms times its atoms. It is exact: it never wraps. Nothing is chosen by
- * it: answer, bytes and the other counts are the same with any weights.
+ * operations; and weights.atoms times its atoms. The 20 costs nothing. The cost is exact: it never
+ * wraps. Nothing is chosen by it: answer, bytes and the other counts are the same with any weights.
  *
  * The rule file is read without refusal beside its role file. Its rules grant a triple exactly when
  * the roles do. Every part is listed under exactly one rule, which grants what its parts do. No rule

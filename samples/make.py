@@ -8,9 +8,9 @@ usage: make.py                        NAME.roles for every NAME.txt of this fold
 
 A source makes exactly what it says; or there is a message, FILE:LINE: and what is wrong, no file, and the exit status 1.
 
-In every source '#' begins a comment. A source of a rule file has its bytes in hexadecimal. A source of a role file has one
-statement a line. Users, resources, operations, roles and attributes are named, and numbered from 0 in the order in which
-they are named:
+In every source '#' begins a comment. A source of a rule file has its bytes in hexadecimal, the 20 that opens it among them. A
+source of a role file has one statement a line. Users, resources, operations, roles and attributes are named, and numbered from
+0 in the order in which they are named:
 
     users NAME ...            resources NAME ...        operations NAME ...       roles NAME ...
     user attribute NAME single|set [domain DOMAIN]      resource attribute NAME single|set [domain DOMAIN]

@@ -13,9 +13,9 @@ scratch to lend (two bytes), the bytes of output to lend (three bytes), and the 
 A line of stdout is: what mining answers, and what the memory that was lent for output holds
 afterwards, in hexadecimal or, if it is longer than 48 bytes, by its checksum:
 
-    length 16 parts 2 rules 1 merges 1 cost 2, memory 212601...
+    length 23 parts 2 rules 1 merges 1 cost 2, memory 20020201...
     refused 9, memory 00070e...
-    length 61 parts 3 rules 3 merges 0 cost 7, checksum 2384729384
+    length 68 parts 3 rules 3 merges 0 cost 7, checksum 2384729384
 
 The memory is filled before the call (see memory below), so that a byte written behind the
 rules shows, or one written though the file is refused. All answers are those of the second
@@ -150,8 +150,8 @@ def pairs(users, resources, *grants):
 
 def examples():
     """The role files of 01's section 'Files to try'."""
-    yield from mined(EXAMPLE_A, 0, 1, 14, 15, 16, 17, 40, 65535, 65536)
-    yield from mined(NOBODY, 0, 1, 2, 48, 49)
+    yield from mined(EXAMPLE_A, 0, 1, 6, 7, 8, 15, 16, 21, 22, 23, 24, 40, 65535, 65536)
+    yield from mined(NOBODY, 0, 1, 6, 7, 8, 9, 48, 49)
     yield from mined(b"", 0, 16)
     yield from mined(END, 0, 16)
     for file in [ONE_OF_TWO, INHERITS, TWO_PARTS, ONE_PART, SETS]:
@@ -196,7 +196,7 @@ def refusals():
             yield from mined(file[:-1] + other[at:], 6)
     for words in [0, 1, 2047, 2048, ENOUGH - 1, ENOUGH, ENOUGH + 1, ENOUGH + 64]:
         yield from mined(EXAMPLE_A, 0, SHORT, EXACT, Beyond(3), words=words)
-        yield from mined(NOBODY, 0, 1, words=words)
+        yield from mined(NOBODY, 0, SHORT, EXACT, words=words)
         yield from mined(b"", 0, 7, words=words)
     for file in [FULL, CHAIN_UP, CHAIN_DOWN, ALL_KINDS]:
         yield from mined(file, SHORT, EXACT, words=ENOUGH - 1)
@@ -219,6 +219,25 @@ def sizes_at_limits():
                         ],
                     ]
                     yield from mined(joined(sizes(users, resources, operations, roles), *everything, END))
+
+
+def openings():
+    """The 20 that a rule file opens with: six numbers, each of them another; attributes by 02 and 08 count together."""
+    everything = [assign(5, 2), permit(5, 3, 4), END]
+    for users, resources in [(0, 0), (0, 1), (1, 0), (1, 2), (2, 1), (2, 5), (5, 2), (6, 6)]:
+        for by_08 in [[], [0], [1], [0, 1]]:
+            counts = [users, resources]
+            declared = [declare(side, 0, 9 if side in by_08 else None) * counts[side] for side in [0, 1]]
+            file = joined(sizes(3, 4, 5, 6), *declared, *everything)
+            yield from mined(file, EXACT)
+    # a side's attributes by both, and those of the sides in turn
+    for kinds in [[0, 1], [1, 0], [0, 1, 0], [0, 0, 1, 1, 0, 0]]:
+        for side in [0, 1]:
+            declared = [declare(side, 0, 9 if kind else None) for kind in kinds]
+            yield from mined(joined(sizes(3, 4, 5, 6), *declared, *everything), SHORT, EXACT)
+        both = [declare(side, 1, 9 if kind else None) for kind in kinds for side in [1, 0]]
+        yield from mined(joined(sizes(3, 4, 5, 6), *both, *everything), SHORT, EXACT, Beyond(1))
+        yield from mined(joined(sizes(3, 4, 5, 6), *both, END), SHORT, EXACT)
 
 
 def levels():
@@ -588,6 +607,7 @@ GROUPS = [
     examples,
     refusals,
     sizes_at_limits,
+    openings,
     levels,
     atoms,
     domains,

@@ -22,7 +22,22 @@ import tempfile
 
 # no files beside this one are left
 sys.dont_write_bytecode = True
-from rolefiles import END, EXAMPLE_A, NOBODY, NO_COMMAND, assign, declare, joined, line, members, permit, single, sizes
+from rolefiles import (
+    END,
+    EXAMPLE_A,
+    NOBODY,
+    NO_COMMAND,
+    assign,
+    declare,
+    joined,
+    line,
+    members,
+    opening,
+    permit,
+    single,
+    sizes,
+    with_operand,
+)
 
 HERE = os.path.dirname(os.path.abspath(__file__))
 SAMPLES = os.path.join(os.path.dirname(HERE), "samples")
@@ -41,6 +56,15 @@ def sample(name):
 
 A_RULES = sample("example-a.rules")
 
+
+def rules_beside(roles, text):
+    """The rule file of these bytes in hexadecimal behind the 20 of the role file."""
+    return opening(roles) + bytes.fromhex(text)
+
+
+# Nothing but the end.
+NO_RULES = "2F"
+
 # The words of every refusal.
 MEANING = {
     1: "the role file is too long, above 65,535 bytes",
@@ -57,6 +81,7 @@ MEANING = {
     13: "the rule file has an operand beyond its size or of the wrong kind, an atom across domains, a zero operation set, or a part that the role file does not have",
     14: "the rule file has no rule of this number",
     15: "the seed is 0",
+    16: "the rule file was made for other sizes or numbers of attributes than the role file's",
 }
 
 # Role files that reading refuses, by the number.
@@ -76,18 +101,19 @@ REFUSED_RULES = {
     11: b"\x2e" + A_RULES,
     12: A_RULES + b"\x2f",
     13: A_RULES.replace(bytes.fromhex("27 00 00"), bytes.fromhex("27 00 01")),
+    16: sample("provider.rules"),
 }
 
 # The longest rule file that judge, ask, explain and show can hold, and one that is longer; both are refused by 12.
-HELD_RULES = b"\x2f" * 262143
-LONG_RULES = b"\x2f" * 262144
+HELD_RULES = opening(EXAMPLE_A) + b"\x2f" * (262143 - len(opening(EXAMPLE_A)))
+LONG_RULES = HELD_RULES + b"\x2f"
 
 
 def long_rules(parts, resources, with_atom):
     """A role file that is mined to a long rule file: so many parts of one user each, with so many resources in all.
 
     Each resource has a value of its own, and so many lines has each rule. With two roles more, which become one rule
-    with an atom, the length of the rule file is even.
+    with an atom, the length of the rule file is odd.
     """
     roles = -(-parts // 16)
     spare = (0, 1) if with_atom else ()
@@ -145,10 +171,10 @@ KINDS_PARTS = [
     "21 26 04 00 28 01 04 00",
     "21 24 FF 01 00 26 04 00 28 01 04 00",
 ]
-KINDS_RULES = bytes.fromhex("".join(KINDS_PARTS) + "2F")
+KINDS_RULES = rules_beside(KINDS, "".join(KINDS_PARTS) + "2F")
 
 # The first of its two parts alone.
-ONE_OF_KINDS = bytes.fromhex("21 23 FF 01 00 00 00 00 00 00 00 24 FF 00 00 26 03 00 28 00 03 00 2F")
+ONE_OF_KINDS = rules_beside(KINDS, "21 23 FF 01 00 00 00 00 00 00 00 24 FF 00 00 26 03 00 28 00 03 00 2F")
 
 KINDS_TOLD = """\
 rule 0, level 3: any user may do operations 0, 1 on any resource
@@ -209,10 +235,10 @@ rule 1, level 0: any user may do operation 1 on any resource
 # second part under both rules; and two equal parts of which one stands under no rule.
 A_FIRST = "21 22 00 05 00 24 00 05 00 26 01 00 28 00 01 00"
 A_SECOND = "21 22 00 07 00 24 00 07 00 26 01 00 28 01 01 00"
-STRAY_RULE = bytes.fromhex(A_FIRST + "21 26 01 00 27 00 00 28 01 01 00 2F")
+STRAY_RULE = rules_beside(EXAMPLE_A, A_FIRST + "21 26 01 00 27 00 00 28 01 01 00 2F")
 TWICE_LISTED = A_RULES[:-1] + bytes.fromhex(A_SECOND + "2F")
 EQUAL_PARTS = joined(sizes(1, 1, 1, 2), *[assign(role, 0) + permit(role, 0, 0) for role in (0, 1)], END)
-NOT_LISTED = bytes.fromhex("21 26 01 00 28 00 01 00 2F")
+NOT_LISTED = rules_beside(EQUAL_PARTS, "21 26 01 00 28 00 01 00 2F")
 
 
 # ---- a use of a program
@@ -297,10 +323,11 @@ def mined():
         rules = sample(name + ".rules")
         for former in [{}, {"rules.out": b"former"}]:
             yield mine(sample(name + ".roles"), files=former, out=printed + "\n", after={"rules.out": rules})
-    yield mine(NOBODY, out="parts 0 rules 0 merges 0 cost 0\n", after={"rules.out": b"\x2f"})
+    nothing = {"rules.out": bytes.fromhex("20 00 00 00 00 00 00 2F")}
+    yield mine(NOBODY, out="parts 0 rules 0 merges 0 cost 0\n", after=nothing)
     # as much output as the program lends, and no byte more
-    filled = Checksum(65536, "47413132b74e43b1ede711ca6db7f312fc1226378f67cecaf032759bd693da17")
-    yield mine(long_rules(240, 6120, True), out="parts 242 rules 241 merges 1 cost 6602\n", after={"rules.out": filled})
+    filled = Checksum(65536, "0d29cffcea1c651210f27386d1e241ba2249124bd2f800526324f473be7e3420")
+    yield mine(long_rules(241, 6119, False), out="parts 241 rules 241 merges 0 cost 6601\n", after={"rules.out": filled})
 
 
 def lengthy(length):
@@ -316,9 +343,9 @@ def mine_refusals():
     files += [
         (2, b"", f"mine: {MEANING[2]}\n"),
         (4, END, f"mine: {MEANING[4]}\n"),
-        (9, long_rules(242, 6118, False), lengthy("65537 bytes")),
-        (9, long_rules(512, 12500, False), lengthy("134217 bytes")),
-        (9, longest_rules(), lengthy("1765377 bytes")),
+        (9, long_rules(238, 6123, True), lengthy("65537 bytes")),
+        (9, long_rules(512, 12500, False), lengthy("134224 bytes")),
+        (9, longest_rules(), lengthy("1765384 bytes")),
     ]
     for n, file, err in files:
         for former in [{}, {"rules.out": b"former"}]:
@@ -370,7 +397,7 @@ def mine_small():
     limits = {resource.RLIMIT_STACK: 1 << 19}
     rules = {"rules.out": sample("provider.rules")}
     yield mine(sample("provider.roles"), limits=limits, out="parts 8 rules 4 merges 4 cost 11\n", after=rules)
-    yield mine(longest_rules(), limits=limits, out="refused 9\n", err=lengthy("1765377 bytes"))
+    yield mine(longest_rules(), limits=limits, out="refused 9\n", err=lengthy("1765384 bytes"))
 
 
 # ---- what judge, ask, explain and show have in common
@@ -389,7 +416,11 @@ def file_refusals(program, *arguments):
         yield use(roles, LONG_RULES, out=refused(n))
     for n, rules in REFUSED_RULES.items():
         yield use(EXAMPLE_A, rules, out=refused(n))
-    yield use(EXAMPLE_A, b"", out=refused(10))
+    # the first command: none, cut off, unknown, another than 20; and one with its last operand another
+    shape = opening(EXAMPLE_A)
+    for n, rules in [(10, b""), (10, shape[:-1]), (10, shape), (11, b"\x1f"), (12, A_RULES[len(shape) :])]:
+        yield use(EXAMPLE_A, rules, out=refused(n))
+    yield use(EXAMPLE_A, with_operand(A_RULES, 6, 2), out=refused(16))
     yield use(EXAMPLE_A, HELD_RULES, out=refused(12))
     too_long = f"{program}: rules: the rule file is longer than this program can hold, 262,143 bytes\n"
     yield use(EXAMPLE_A, LONG_RULES, err=too_long)
@@ -448,7 +479,8 @@ def judged():
     differ = "verdict 1: user {}, resource {}, operation {} is granted by roles or rules only: {}\n"
     rule_alone, roles_alone = "a rule grants it, the roles do not", "the roles grant it, no rule does"
     yield both("judge", sample("provider.roles"), sample("provider-wide.rules"), out=differ.format(7, 0, 0, rule_alone))
-    yield both("judge", sample("provider.roles"), b"\x2f", out=differ.format(0, 0, 0, roles_alone))
+    none = rules_beside(sample("provider.roles"), NO_RULES)
+    yield both("judge", sample("provider.roles"), none, out=differ.format(0, 0, 0, roles_alone))
     yield both("judge", KINDS, ONE_OF_KINDS, out=differ.format(1, 1, 2, roles_alone))
     # a rule that ties region to model, because both happened to be 7
     yield both("judge", sample("regions.roles"), sample("regions-tied.rules"), out=refused(13))
@@ -525,7 +557,7 @@ def explained():
     yield both("explain", sample("branches.roles"), sample("branches.rules"), out=BRANCHES_TOLD)
     yield both("explain", sample("regions.roles"), sample("regions.rules"), out=REGIONS_TOLD)
     yield both("explain", sample("regions.roles"), sample("regions-tied.rules"), out=refused(13))
-    yield both("explain", NOBODY, b"\x2f", out="there is no rule: nobody may do anything\n")
+    yield both("explain", NOBODY, rules_beside(NOBODY, NO_RULES), out="there is no rule: nobody may do anything\n")
 
 
 # ---- show
@@ -561,7 +593,7 @@ def show_refusals():
             yield showing(roles, A_RULES, number, out=refused(n))
         for n, rules in REFUSED_RULES.items():
             yield showing(EXAMPLE_A, rules, number, out=refused(n))
-    yield showing(NOBODY, b"\x2f", "0", out=refused(14))
+    yield showing(NOBODY, rules_beside(NOBODY, NO_RULES), "0", out=refused(14))
     yield showing(sample("branches.roles"), sample("branches.rules"), "4", out=refused(14))
     # what stands behind the rule counts too
     yield showing(EXAMPLE_A, A_RULES[:-1] + bytes.fromhex("21 26 01 00 2F"), "0", out=refused(12))

@@ -44,6 +44,20 @@ def joined(*commands):
     return b"".join(commands)
 
 
+def opening(roles):
+    """The 20 that opens a rule file beside this role file: its sizes, and how many attributes of each side 02 and 08 declare.
+
+    Of a role file that is refused it is made as far as there is something to read; what is missing is 0.
+    """
+    counts = [0, 0]
+    lengths = {0x02: 3, 0x08: 4}
+    at = 5
+    while at + 1 < len(roles) and roles[at] in lengths:
+        counts[min(roles[at + 1], 1)] += 1
+        at += lengths[roles[at]]
+    return bytes([0x20, *(roles[1:5] + bytes(4))[:4], *counts])
+
+
 # ---- legal files that several groups use
 
 # Example A of 01.

@@ -21,11 +21,12 @@ judge says of the two files, a comma, and the answer to the rule question:
 All lines are made of the second miner's answers to 'judge' and 'ask-rules', never of those
 of the programs of this repository.
 
-The cases are of three sorts. Most are written out below, a function for each group. Those of
-the last groups are the second miner's: files that it mined (mined), and random role files
-with random rule files beside them, whole and damaged, from fixed seeds (made). Behind the
-lines of the cases stand those of the long files, which the program builds itself (see
-long_files).
+The cases are of three sorts. Most are written out below, a function for each group; what they
+write out is what stands behind the 20 of a rule file, and 'asked' puts the 20 of the role file
+in front of it, but for the groups about the 20 itself. Those of the last groups are the second
+miner's: files that it mined (mined), and random role files with random rule files beside them,
+whole and damaged, from fixed seeds (made). Behind the lines of the cases stand those of the
+long files, which the program builds itself (see long_files).
 """
 import functools
 import os
@@ -55,6 +56,7 @@ from rolefiles import (
     joined,
     line,
     members,
+    opening,
     permit,
     random_numbers,
     single,
@@ -68,12 +70,15 @@ from secondminer import Folder, told
 
 OPEN = bytes([0x21])
 END = bytes([0x2F])
-COMMANDS = [0x21, 0x22, 0x23, 0x24, 0x25, 0x26, 0x27, 0x28, 0x2F]
+COMMANDS = [0x20, 0x21, 0x22, 0x23, 0x24, 0x25, 0x26, 0x27, 0x28, 0x2F]
 UNKNOWN = [byte for byte in range(256) if byte not in COMMANDS]
 # Bytes that are no command: two beside commands, and more with the first and the last.
-NO_COMMANDS = [0x20, 0x29]
-MORE_NO_COMMANDS = [0x00, 0x01, 0x0F, 0x20, 0x29, 0x2A, 0x2B, 0x2E, 0x30, 0xFF]
+NO_COMMANDS = [0x1F, 0x29]
+MORE_NO_COMMANDS = [0x00, 0x01, 0x0F, 0x1F, 0x29, 0x2A, 0x2B, 0x2E, 0x30, 0xFF]
 NO_COMMAND = bytes(NO_COMMANDS[:1])
+
+# The number of bytes of the 20 and its operands.
+OPENING = 7
 
 # The attribute of the roles that a user holds, and of a resource's own number.
 OWN = 255
@@ -122,7 +127,7 @@ def elements(*numbers):
 
 # ---- files that several groups use
 
-# Example A's rules of 01.
+# Example A's rules of 01; these and the rules below stand behind a 20.
 RULES_OF_A = bytes.fromhex("21 26 01 00 27 00 00 28 00 01 00 28 01 01 00 2F")
 
 # A single and a set attribute on each side, with values for user 0 and resource 0. Role 0 has user 0 and
@@ -184,9 +189,14 @@ ANY = (0, 0, 0)
 
 
 def asked(roles, rules, *questions):
-    """The files with each question, or with question 0 0 0."""
+    """These rules behind the 20 of the role file, with each question, or with question 0 0 0."""
+    yield from asked_whole(roles, opening(roles) + rules, *questions)
+
+
+def asked_whole(roles, file, *questions):
+    """The same with a rule file as it is."""
     for question in questions or [ANY]:
-        yield roles, rules, question
+        yield roles, file, question
 
 
 def every(roles):
@@ -234,6 +244,8 @@ def examples():
     ]
     for file in changed:
         yield from asked(file, RULES_OF_A, (0, 0, 0), (1, 1, 0), (0, 1, 0))
+        # with the 20 of A
+        yield from asked_whole(file, opening(EXAMPLE_A) + RULES_OF_A)
     # one value another
     for n in range(4):
         for low, high in [(5, 0), (7, 0), (5, 1), (0, 5)]:
@@ -259,13 +271,141 @@ def examples():
     yield from asked(LARGEST, filed(RULES_OF_LARGEST), (63, 63, 15), (63, 63, 14), (62, 63, 15), (63, 62, 15))
 
 
+# Six numbers, each of them another.
+EVERY_SIZE = joined(
+    sizes(3, 4, 5, 6), declare(0, 0), declare(1, 0), declare(1, 1, 7), assign(5, 2), permit(5, 3, 4), END_OF_ROLES
+)
+RULES_OF_EVERY_SIZE = filed(rule(operations(0b10000), part(5, 0b10000)))
+
+
+def first_command():
+    """The first command: a 20 like the role file's; no byte and cut off are 10, an unknown one 11, another than 20 is 12."""
+    for roles, rules in [
+        (EXAMPLE_A, RULES_OF_A),
+        (BASE, RULES_OF_BASE),
+        (NOBODY, END),
+        (LARGEST, filed(RULES_OF_LARGEST)),
+        (EVERY_SIZE, RULES_OF_EVERY_SIZE),
+    ]:
+        yield from asked(roles, rules)
+        # cut at every byte, before the first one too; the 20 alone is cut off before 2F
+        whole = opening(roles) + rules
+        for length in range(OPENING + 1):
+            yield from asked_whole(roles, whole[:length])
+        # without the 20
+        yield from asked_whole(roles, rules)
+    for byte in UNKNOWN:
+        yield from asked_whole(ONE_OF_TWO, bytes([byte]))
+    for byte in MORE_NO_COMMANDS:
+        # before the 20, and in its place
+        other = bytes([byte])
+        yield from asked_whole(ONE_OF_TWO, joined(other, opening(ONE_OF_TWO), filed(OF_ONE)))
+        yield from asked_whole(ONE_OF_TWO, joined(other, opening(ONE_OF_TWO)[1:], filed(OF_ONE)))
+    for command in [OPEN, *LINES, END]:
+        # cut off at every byte, and whole; before the 20, and in its place
+        for length in range(1, len(command) + 1):
+            yield from asked_whole(BASE, command[:length])
+        yield from asked_whole(BASE, joined(command, opening(BASE), RULES_OF_BASE))
+        yield from asked_whole(BASE, joined(command, RULES_OF_BASE))
+        yield from asked_whole(BASE, joined(command, NO_COMMAND))
+    # out of order comes before beyond, and before what is missing
+    for command in [user_single(9, 9), resource_set(9, 9), operations(0), atom(9, 9), part(9, 9), END + END, OPEN + END]:
+        yield from asked_whole(BASE, command)
+    # the 20 behind a rule, or behind the end
+    yield from asked_whole(BASE, joined(FIRST, opening(BASE), SECOND, END))
+    yield from asked_whole(BASE, joined(RULES_OF_BASE, opening(BASE)))
+
+
+def shapes():
+    """Refusal 16: each operand of the 20 another than the role file's, whatever stands behind it."""
+    for roles, rules in [
+        (EXAMPLE_A, RULES_OF_A),
+        (EVERY_SIZE, RULES_OF_EVERY_SIZE),
+        (NOBODY, END),
+        (LARGEST, filed(RULES_OF_LARGEST)),
+    ]:
+        right = opening(roles)
+        others = bytes([0x20, *[number + 1 for number in right[1:]]])
+        for place in range(1, OPENING):
+            own = right[place]
+            for value in sorted({own - 1, own + 1, own ^ 0x80} - {-1}):
+                yield from asked_whole(roles, with_operand(right, place, value) + rules)
+            for value in sorted({0, 1, 255} - {own}):
+                yield from asked_whole(roles, with_operand(right, place, value) + END)
+            # all of them but this one another, and two of them exchanged
+            yield from asked_whole(roles, with_operand(others, place, own) + END)
+            for second in range(1, place):
+                exchanged = with_operand(with_operand(right, place, right[second]), second, own)
+                yield from asked_whole(roles, exchanged + END)
+    # whatever stands behind it; cut off it is 10
+    right = opening(BASE)
+    for place in range(1, OPENING):
+        wrong = with_operand(right, place, right[place] + 1)
+        for behind in [
+            b"",
+            b"\0",
+            NO_COMMAND,
+            OPEN,
+            END,
+            END + END,
+            SECOND,
+            filed(SECOND),
+            user_single(0, 1)[:2],
+            operations(0),
+            filed(rule(operations(0))),
+            filed(rule(operations(0b1))),
+            right,
+            right[:3],
+        ]:
+            yield from asked_whole(BASE, wrong + behind)
+        for length in range(1, OPENING):
+            yield from asked_whole(BASE, wrong[:length])
+    # attributes by 02 and by 08 count together
+    for side in [0, 1]:
+        for by_02, by_08 in [(0, 1), (0, 6), (1, 0), (1, 1), (1, 5), (2, 3), (3, 3), (4, 1), (5, 1), (6, 0)]:
+            declared = declare(side, 0) * by_02 + declare(side, 1, 9) * by_08
+            roles = joined(sizes(1, 1, 1, 1), declared, assign(0, 0), permit(0, 0, 0), END_OF_ROLES)
+            right = opening(roles)
+            yield from asked(roles, filed(OF_SETS))
+            for count in sorted({by_02, by_08, by_02 + by_08 - 1, by_02 + by_08 + 1, by_02 + 2 * by_08}):
+                yield from asked_whole(roles, with_operand(right, 5 + side, count) + END)
+            # on the other side
+            yield from asked_whole(roles, right[:5] + right[:4:-1] + END)
+
+
+def second_opening():
+    """A second 20 is 12, wherever it stands and whatever it says; cut off it is 10, behind the end 12."""
+    right = opening(ONE_OF_TWO)
+    for second in [right, with_operand(right, 1, 9), with_operand(right, 6, 9), bytes([0x20]) + bytes(6)]:
+        # at once, in a rule, before the end, in its place and behind it
+        for before in [b"", OPEN, OF_ONE[:-4], OF_ONE, filed(OF_ONE)]:
+            yield from asked(ONE_OF_TWO, joined(before, second, END))
+            yield from asked(ONE_OF_TWO, joined(before, second))
+        yield from asked(ONE_OF_TWO, joined(second, filed(OF_ONE)))
+        yield from asked(ONE_OF_TWO, joined(second, second, filed(OF_ONE)))
+        # in place of the next rule's 21
+        yield from asked(ONE_OF_TWO, joined(OF_ONE, second, OF_ONE[1:], END))
+    for length in range(1, OPENING):
+        for before in [b"", OPEN, OF_ONE[:-4], OF_ONE, filed(OF_ONE)]:
+            yield from asked(ONE_OF_TWO, joined(before, right[:length]))
+    right = opening(BASE)
+    for n in range(len(LINES)):
+        yield from asked(BASE, joined(OPEN, *LINES[: n + 1], right, END))
+    # before it the refusals of earlier commands; it comes before those of later ones
+    for bad in [operations(0), atom(9, 9), user_single(7, 7), part(9, 9)]:
+        yield from asked(BASE, joined(OPEN, bad, right))
+        yield from asked(BASE, joined(OPEN, right, bad))
+    yield from asked(BASE, joined(NO_COMMAND, right))
+    yield from asked(BASE, joined(right, NO_COMMAND))
+
+
 def cut():
     """Refusal 10: rule files cut at every byte, and what comes before it."""
     for roles, rules in [(EXAMPLE_A, RULES_OF_A), (BASE, RULES_OF_BASE), (TWO_PARTS, OF_TWO_PARTS)]:
         for length in range(len(rules)):
             yield from asked(roles, rules[:length])
     for command in [OPEN, *LINES]:
-        # cut off as the first command, which it may not be
+        # cut off where no rule is open, where most may not stand
         for length in range(1, len(command) + 1):
             yield from asked(BASE, command[:length])
     # cut off comes before out of order; before that come the refusals of earlier commands
@@ -283,7 +423,7 @@ def unknown():
         yield from asked(ONE_OF_TWO, joined(OPEN, bytes([byte]), bytes(2), END))
     for byte in MORE_NO_COMMANDS:
         other = bytes([byte])
-        # as the first byte, as the last, behind a whole rule, in place of the end and behind it
+        # directly behind the 20, as the last byte, behind a whole rule, in place of the end and behind it
         yield from asked(ONE_OF_TWO, other)
         yield from asked(ONE_OF_TWO, other + bytes(10))
         yield from asked(ONE_OF_TWO, joined(OPEN, other))
@@ -629,21 +769,31 @@ def order_of_refusals():
         filed(rule(operations(0))),  # 13
         filed(rule(operations(0b1), part(0, 0b100))),  # 13
     ]
+    refused_whole = [
+        b"",  # 10
+        opening(ONE_OF_TWO)[:-1],  # 10
+        NO_COMMAND,  # 11
+        END,  # 12
+        with_operand(opening(ONE_OF_TWO), 6, 9),  # 16
+    ]
     beyond = [(255, 0, 0), (0, 255, 0), (0, 0, 255), (255, 255, 255)]
     for roles in refused_roles:
         for rules in [*refused_rules, END, filed(OF_ONE)]:
             yield from asked(roles, rules)
         yield from asked(roles, END, *beyond)
         yield from asked(roles, OPEN, beyond[-1])
+        for file in refused_whole:
+            yield from asked_whole(roles, file, ANY, beyond[-1])
     for rules in refused_rules:
         yield from asked(ONE_OF_TWO, rules, ANY, *beyond)
         yield from asked(BASE, rules, ANY, beyond[-1])
+    for file in refused_whole:
+        yield from asked_whole(ONE_OF_TWO, file, ANY, *beyond)
     # each number at the last good one and beyond, whatever the verdict
-    every_size = joined(sizes(3, 4, 5, 6), assign(5, 2), permit(5, 3, 4), END_OF_ROLES)
-    for rules in [END, filed(rule(operations(0b10000), part(5, 0b10000)))]:
-        yield from asked(every_size, rules, (2, 3, 4), (3, 4, 5))
+    for rules in [END, RULES_OF_EVERY_SIZE]:
+        yield from asked(EVERY_SIZE, rules, (2, 3, 4), (3, 4, 5))
         for user, resource, operation in [(3, 4, 5), (64, 64, 16), (255, 255, 255)]:
-            yield from asked(every_size, rules, (user, 3, 4), (2, resource, 4), (2, 3, operation))
+            yield from asked(EVERY_SIZE, rules, (user, 3, 4), (2, resource, 4), (2, 3, operation))
     for question in [(64, 63, 15), (63, 64, 15), (63, 63, 16), (63, 63, 15)]:
         yield from asked(LARGEST, filed(RULES_OF_LARGEST), question)
     # sizes of 0: any number is beyond
@@ -1092,10 +1242,11 @@ def many():
 def each_byte():
     """Rule files with each byte changed in turn."""
     for roles, rules in [(EXAMPLE_A, RULES_OF_A), (BASE, RULES_OF_BASE)]:
-        for place, byte in enumerate(rules):
+        file = opening(roles) + rules
+        for place, byte in enumerate(file):
             for other in [0x00, (byte + 1) % 256, byte ^ 0x80]:
                 if other != byte:
-                    yield from asked(roles, rules[:place] + bytes([other]) + rules[place + 1 :])
+                    yield from asked_whole(roles, file[:place] + bytes([other]) + file[place + 1 :])
 
 
 # ---- files that the second miner makes
@@ -1107,14 +1258,14 @@ def question_of(roles, below):
     return tuple(below(limit) if below(60) else limit for limit in limits)
 
 
-# The number of bytes that the commands of a rule file take.
+# The number of bytes that the commands behind a 20 take.
 LENGTHS = {0x21: 1, 0x22: 4, 0x23: 10, 0x24: 4, 0x25: 10, 0x26: 3, 0x27: 3, 0x28: 4, 0x2F: 1}
 
 
 def rules_in(file):
     """The rules of a legal rule file, each from its 21 on."""
     rules = []
-    at = 0
+    at = OPENING
     while file[at : at + 1] != END:
         end = at + LENGTHS[file[at]]
         if file[at : at + 1] == OPEN:
@@ -1138,30 +1289,32 @@ def mined(second_miner):
             with open(f"{name}.rules", "rb") as file:
                 mined_of.append(file.read())
     below = random_numbers(7)
-    for roles, rules in zip(roles_of, mined_of):
-        yield from asked(roles, rules, ANY, question_of(roles, below))
-        each = rules_in(rules)
+    for roles, file in zip(roles_of, mined_of):
+        yield from asked_whole(roles, file, ANY, question_of(roles, below))
+        each = rules_in(file)
         if each:
             for changed in [each[1:], each[:-1], each[::-1], each + each[-1:], each[:1] + each]:
                 yield from asked(roles, filed(*changed), question_of(roles, below))
+        # as it is, and with the other's 20
         other = roles_of[below(len(roles_of))]
-        yield from asked(other, rules, question_of(other, below))
+        yield from asked_whole(other, file, question_of(other, below))
+        yield from asked(other, file[OPENING:], question_of(other, below))
 
 
 # Profiles of the second miner's role files, how many to take of each, and how long both files may be together.
 PROFILES = [
     ("tiny", 90, 260),
     ("edge", 12, 300),
-    ("mid", 24, 420),
+    ("mid", 24, 380),
     ("attributes", 6, 1000),
     ("hierarchy", 14, 480),
-    ("parts", 10, 700),
+    ("parts", 10, 620),
     ("duplicates", 14, 330),
-    ("departments", 7, 700),
-    ("projects", 7, 700),
-    ("skills", 7, 700),
+    ("departments", 7, 620),
+    ("projects", 7, 620),
+    ("skills", 7, 620),
     ("positions", 7, 700),
-    ("mixed", 5, 1100),
+    ("mixed", 5, 980),
     ("layers", 7, 750),
     ("circles", 8, 150),
 ]
@@ -1199,19 +1352,22 @@ def made(second_miner):
         for of, seed, name in tried:
             roles, rules, damaged_roles, damaged_rules = found[name]
             # files without any rule say little
-            short = len(rules) < 2 and profile not in ["edge", "circles"]
+            short = len(rules) <= OPENING + 1 and profile not in ["edge", "circles"]
             if of != profile or taken == count or short or len(roles) + len(rules) > longest:
                 continue
             taken += 1
-            yield from asked(roles, rules, question_of(roles, below))
+            yield from asked_whole(roles, rules, question_of(roles, below))
             if taken % 2 == 0:
-                yield from asked(roles, damaged_rules, question_of(roles, below))
+                yield from asked_whole(roles, damaged_rules, question_of(roles, below))
             if taken % 8 == 1:
-                yield from asked(damaged_roles, rules, question_of(roles, below))
+                yield from asked_whole(damaged_roles, rules, question_of(roles, below))
 
 
 GROUPS = [
     examples,
+    first_command,
+    shapes,
+    second_opening,
     cut,
     unknown,
     places,
@@ -1241,15 +1397,15 @@ def long_files():
     """The files that the program builds, each asked 0 0 0, in the order in which it does.
 
     A role file of 65,536 zeros beside a rule file of the same; and beside a role file with one
-    part a rule file of 8,192 rules, 65,537 bytes, whole, without its last byte and with a zero
+    part a rule file of 8,192 rules, 65,544 bytes, whole, without its last byte and with a zero
     behind it.
     """
-    yield from asked(bytes(65536), bytes(65536))
+    yield from asked_whole(bytes(65536), bytes(65536))
     one = joined(sizes(1, 1, 1, 1), assign(0, 0), permit(0, 0, 0), END_OF_ROLES)
-    rules = filed(rule(operations(0b1), part(0, 0b1)) * 8192)
-    assert len(rules) == 65537
-    for file in [rules, rules[:-1], rules + b"\0"]:
-        yield from asked(one, file)
+    file = opening(one) + filed(rule(operations(0b1), part(0, 0b1)) * 8192)
+    assert len(file) == 65544
+    for long_one in [file, file[:-1], file + b"\0"]:
+        yield from asked_whole(one, long_one)
 
 
 # ---- the two files

@@ -672,13 +672,20 @@ def test_folder(folder):
 
 
 def test_samples():
-    """The files of samples/ are what make.py makes of their sources, and example A is 01's."""
+    """The files of samples/ are what make.py makes of their sources, example A is 01's, and every rule file says its role file's shape."""
     expect("samples", run("--check"), (0, "", ""))
     sources = [name for name in os.listdir(SAMPLES) if name.endswith((".txt", ".hex"))]
     for name in sources:
         stem, ending = os.path.splitext(os.path.join(SAMPLES, name))
         expect(f"samples/{name}", make.made(stem + ending), contents(stem + {".txt": ".roles", ".hex": ".rules"}[ending]))
     expect("samples/example-a.roles", contents(os.path.join(SAMPLES, "example-a.roles")), EXAMPLE_A)
+    stems = {ending: [name[: -len(ending)] for name in os.listdir(SAMPLES) if name.endswith(ending)] for ending in (".roles", ".rules")}
+    for stem in stems[".rules"]:
+        # provider-wide.rules is one of provider.roles
+        role_file = max((name for name in stems[".roles"] if stem.startswith(name)), key=len)
+        sizes, attributes, *_ = decoded(contents(os.path.join(SAMPLES, f"{role_file}.roles")))
+        shape = bytes([0x20, *sizes, *map(len, attributes)])
+        expect(f"the 20 of samples/{stem}.rules", contents(os.path.join(SAMPLES, f"{stem}.rules"))[: len(shape)], shape)
 
 
 def test_readme(folder):

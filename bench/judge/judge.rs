@@ -107,10 +107,24 @@ impl<'a> Reading<'a> {
         }
     }
 
+    /// The first command: what stands behind the 20, which has to say the role file's shape.
+    fn opened<'b>(&self, bytes: &'b [u8]) -> Result<&'b [u8], u8> {
+        let [command, operands @ ..] = bytes else { return Err(10) };
+        let width = operand_bytes(*command).ok_or(11)?;
+        if operands.len() < width {
+            return Err(10);
+        }
+        if *command != 0x20 {
+            return Err(12);
+        }
+        let (shape, behind) = operands.split_at(width);
+        if shape == self.file.shape() { Ok(behind) } else { Err(16) }
+    }
+
     /// Reads the rule file, or stops with the number of the refusal.
     pub fn read(&mut self, bytes: &[u8]) -> Result<(), u8> {
         let mut open = None;
-        let mut rest = bytes;
+        let mut rest = self.opened(bytes)?;
         loop {
             match *rest {
                 [0x21, ref behind @ ..] => {
@@ -158,7 +172,8 @@ impl<'a> Reading<'a> {
                     self.close(&open)?;
                     return if behind.is_empty() { Ok(()) } else { Err(12) };
                 }
-                [] | [0x22..=0x28, ..] => return Err(10),
+                [0x20, _, _, _, _, _, _, ..] => return Err(12),
+                [] | [0x20 | 0x22..=0x28, ..] => return Err(10),
                 _ => return Err(11),
             }
         }
@@ -319,6 +334,18 @@ impl<'a> Reading<'a> {
             }
         }
         Judgement::Sound
+    }
+}
+
+/// How many operand bytes a command has.
+fn operand_bytes(command: u8) -> Option<usize> {
+    match command {
+        0x20 => Some(6),
+        0x21 | 0x2F => Some(0),
+        0x22 | 0x24 | 0x28 => Some(3),
+        0x23 | 0x25 => Some(9),
+        0x26 | 0x27 => Some(2),
+        _ => None,
     }
 }
 

@@ -86,6 +86,8 @@ def for_everybody():
 
 # ---- rule files
 
+# The 20 of both role files: their sizes, and six attributes a side.
+SHAPE = bytes([0x20]) + START[1:] + bytes([6, 6])
 OPEN = bytes([0x21])
 END_OF_RULES = bytes([0x2F])
 
@@ -101,12 +103,12 @@ def operations_and_part(role):
 
 
 def many_rules():
-    return b"".join(OPEN + operations_and_part(number % 8) for number in range(8191)) + END_OF_RULES
+    return SHAPE + b"".join(OPEN + operations_and_part(number % 8) for number in range(8191)) + END_OF_RULES
 
 
 def many_values():
     """Everybody meets each rule: the values of eight numbers are among those listed."""
-    rules = b""
+    rules = SHAPE
     for role in range(8):
         rules += OPEN
         for command, count in [(0x22, 400), (0x23, 256), (0x24, 400), (0x25, 256)]:
@@ -124,7 +126,7 @@ SMALL_ROLES = bytes.fromhex(
     "01 02 02 01 02 02 00 00 02 01 00 03 00 00 00 05 00 03 00 00 01 07 00"
     "03 01 00 00 05 00 03 01 00 01 07 00 05 00 00 05 01 01 06 00 00 00 06 01 01 00 0F"
 )
-SMALL_RULES = bytes.fromhex("21 26 01 00 27 00 00 28 00 01 00 28 01 01 00 2F")
+SMALL_RULES = bytes.fromhex("20 02 02 01 02 01 01 21 26 01 00 27 00 00 28 00 01 00 28 01 01 00 2F")
 
 
 def given(role_file, rule_file):

@@ -51,6 +51,13 @@ impl RoleFile {
         }
     }
 
+    /// What the 20 of a rule file beside this role file says: the sizes, and how many attributes each side has.
+    #[allow(dead_code)] // reading role files alone needs none
+    pub fn shape(&self) -> [u8; 6] {
+        let [of_users, of_resources] = self.attributes.map(|count| count as u8);
+        [self.users, self.resources, self.operations, self.roles, of_users, of_resources]
+    }
+
     /// Command 02, which means domain 0, or 08: one attribute more.
     fn declare(&mut self, side: u8, kind: u8, domain: u8) -> Result<(), u8> {
         let side = side as usize;

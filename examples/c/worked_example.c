@@ -1,7 +1,8 @@
 /*
  * A worked example of include/fichtengarn.h: reads a role file, mines it, reads the rules back,
- * judges them, shows one, asks a question of both, shows the circle of a file that has one, makes a
- * role file from a seed and mines it, and prints the answers.
+ * judges them, shows one, asks a question of both, reads the rules beside a file that they were not
+ * made for, shows the circle of a file that has one, makes a role file from a seed and mines it, and
+ * prints the answers.
  *
  *     worked_example FILE
  *
@@ -17,6 +18,9 @@
 static uint8_t file[FICHTENGARN_MOST_ROLE_BYTES + 1];
 static uint8_t rules[65536];
 static uint64_t scratch[FICHTENGARN_SCRATCH_WORDS];
+
+/* A role file of another shape: it has no users, no resources, and so on. */
+static const uint8_t nobody[] = {0x01, 0, 0, 0, 0, 0x0F};
 
 /* Four roles, 1 the junior of 3 and 3 of 1. */
 static const uint8_t circular[] = {0x01, 0, 0, 0, 4, 0x07, 1, 3, 0x07, 3, 1, 0x0F};
@@ -142,6 +146,7 @@ static void work(size_t file_length)
     ask(file_length, rules_length, 0, 0, 0);
     ask(file_length, rules_length, 0, 1, 0);
     ask(file_length, rules_length, 0, 0, 1);
+    told("read rules elsewhere", fichtengarn_read_rules(nobody, sizeof nobody, rules, rules_length, &count));
     circle(circular, sizeof circular);
     load(0);
     load(1);

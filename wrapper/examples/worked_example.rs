@@ -1,6 +1,7 @@
 //! A worked example of the wrapper, and the same as `examples/c/worked_example.c`: reads a role
-//! file, mines it, reads the rules back, judges them, shows one, asks a question of both, shows the
-//! circle of a file that has one, makes a role file from a seed and mines it, and prints the answers.
+//! file, mines it, reads the rules back, judges them, shows one, asks a question of both, reads the
+//! rules beside a file that they were not made for, shows the circle of a file that has one, makes a
+//! role file from a seed and mines it, and prints the answers.
 //!
 //!     cargo run --example worked_example FILE
 
@@ -8,6 +9,9 @@ use fichtengarn::{Refusal, Sizes, Triple, Verdict, Weights};
 
 /// An atom costs as much as a hundred values, an operation as much as seven.
 const WEIGHTS: Weights = Weights { users: 1, resources: 1, operations: 7, atoms: 100 };
+
+/// A role file of another shape: it has no users, no resources, and so on.
+const NOBODY: [u8; 6] = [0x01, 0, 0, 0, 0, 0x0F];
 
 /// Four roles, 1 the junior of 3 and 3 of 1.
 const CIRCULAR: [u8; 12] = [0x01, 0, 0, 0, 4, 0x07, 1, 3, 0x07, 3, 1, 0x0F];
@@ -106,6 +110,7 @@ fn work(file: &[u8]) -> Option<()> {
     ask(file, rules, Triple { user: 0, resource: 0, operation: 0 });
     ask(file, rules, Triple { user: 0, resource: 1, operation: 0 });
     ask(file, rules, Triple { user: 0, resource: 0, operation: 1 });
+    told("read rules elsewhere", fichtengarn::read_rules(&NOBODY, rules));
     circle(&CIRCULAR);
     load(0);
     load(1);

@@ -62,10 +62,13 @@ pub enum Refusal {
     NoSuchRule = 14,
     /// The seed is 0.
     ZeroSeed = 15,
+    /// The rule file was made for a role file of another shape: one of the six operands of its 20 is
+    /// not the role file's.
+    WrongShape = 16,
 }
 
 impl Refusal {
-    const ALL: [Refusal; 15] = [
+    const ALL: [Refusal; 16] = [
         Refusal::TooLong,
         Refusal::CutOff,
         Refusal::UnknownCommand,
@@ -81,6 +84,7 @@ impl Refusal {
         Refusal::RulesOperand,
         Refusal::NoSuchRule,
         Refusal::ZeroSeed,
+        Refusal::WrongShape,
     ];
 
     /// 01's number.
@@ -123,7 +127,7 @@ pub enum Verdict {
 /// What mining says of the rule file that it wrote.
 #[derive(Clone, Copy, PartialEq, Eq, Debug)]
 pub struct Mined {
-    /// Bytes of the rule file: it stands at the front of the output.
+    /// Bytes of the rule file, its 20 among them: it stands at the front of the output.
     pub length: usize,
     /// Parts of the role file: as many as rules and merges together.
     pub parts: usize,
@@ -146,7 +150,10 @@ pub fn read_roles(file: &[u8]) -> Result<(), Refusal> {
     told(unsafe { interface::fichtengarn_read_roles(file.as_ptr(), file.len()) })
 }
 
-/// Whether a rule file may be read beside a role file, and how many rules it has.
+/// Whether a rule file may be read beside a role file, and how many rules it has. It opens with a 20
+/// that says for which shape it was made: users, resources, operations, roles, user attributes and
+/// resource attributes. This call and the others that take both files refuse it beside a role file of
+/// another shape.
 pub fn read_rules(file: &[u8], rules: &[u8]) -> Result<usize, Refusal> {
     let mut count = 0;
     told(unsafe {

@@ -7,7 +7,7 @@ use lib.ListN.{length, getD, take}
 use mathlib.Core.Bool.{Bool, true, false}
 use mathlib.Core.List.{List, [], _∷_}
 use mathlib.Core.Path.{_≡_}
-use Rattle.files.specs.Answer.{Refusal, tooLong, cutOff, unknownCommand, outOfPlace, beyond, wrongKind, ownSenior, smallScratch, shortOutput, rulesCutOff, rulesUnknown, rulesOrder, rulesOperand, noSuchRule, zeroSeed}
+use Rattle.files.specs.Answer.{Refusal, tooLong, cutOff, unknownCommand, outOfPlace, beyond, wrongKind, ownSenior, smallScratch, shortOutput, rulesCutOff, rulesUnknown, rulesOrder, rulesOperand, noSuchRule, zeroSeed, wrongShape}
 use Rattle.files.specs.Calls.{Verdict, differ, strayRule, strayPart, sound}
 
 -- a text as bytes
@@ -39,12 +39,12 @@ causeWords rulesOrder = "the rule file has a byte after its end or a command out
 causeWords rulesOperand = "the rule file has an operand beyond its size or of the wrong kind, an atom across domains, a zero operation set, or a part that the role file does not have"
 causeWords noSuchRule = "the rule file has no rule of this number"
 causeWords zeroSeed = "the seed is 0"
+causeWords wrongShape = "the rule file was made for other sizes or numbers of attributes than the role file's"
 
 unfoldable pub refusalTable : List String
 refusalTable =
     "no refusal has this number" ∷ causeWords tooLong ∷ causeWords cutOff ∷ causeWords unknownCommand ∷ causeWords outOfPlace ∷ causeWords beyond ∷ causeWords wrongKind ∷ causeWords ownSenior
-    ∷ causeWords smallScratch ∷ causeWords shortOutput ∷ causeWords rulesCutOff ∷ causeWords rulesUnknown ∷ causeWords rulesOrder ∷ causeWords rulesOperand ∷ causeWords noSuchRule
-    ∷ causeWords zeroSeed ∷ []
+    ∷ causeWords smallScratch ∷ causeWords shortOutput ∷ causeWords rulesCutOff ∷ causeWords rulesUnknown ∷ causeWords rulesOrder ∷ causeWords rulesOperand ∷ causeWords noSuchRule ∷ causeWords zeroSeed ∷ causeWords wrongShape ∷ []
 
 -- the words of a refusal by its number
 unfoldable pub refusalWords : ℕ → List ℕ

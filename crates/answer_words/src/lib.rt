@@ -54,6 +54,10 @@ pub fn refusal_words(n: usize, out: &mut [u8]) -> usize
         ),
         refusal::NO_SUCH_RULE => put(b"the rule file has no rule of this number", out),
         refusal::ZERO_SEED => put(b"the seed is 0", out),
+        refusal::WRONG_SHAPE => put(
+            b"the rule file was made for other sizes or numbers of attributes than the role file's",
+            out,
+        ),
         _ => put(b"no refusal has this number", out),
     }
 }

@@ -4,6 +4,7 @@
 use Prim.Native.Nat.{ℕ, zero, suc}
 use Prim.Native.String.{String}
 use lib.Dec.{eqb}
+use lib.ListN.{take}
 use mathlib.Core.Bool.{Bool, true, false, _&&_, not}
 use mathlib.Core.List.{List, [], _∷_, _++_, map}
 use Rattle.examples.specs.Hex.{noByte, spelt, hex}
@@ -16,7 +17,7 @@ use Rattle.policy.specs.Cost.{fourOnes}
 use Rattle.policy.specs.Policy.{Policy, settingOf}
 use Rattle.policy.specs.Rules.{Which, Rule, atom, conjunct, ofSection, ruleLevel, user, resource}
 use Rattle.policy.specs.Satisfying.{Expression, satisfiesSingles, satisfiesSets, satisfies}
-use Rattle.sets.specs.Tests.{keep, each}
+use Rattle.sets.specs.Tests.{keep, each, upTo}
 
 -- a row: what it holds, what the definitions say, and what 01 says
 pub record Row : Type 0 where
@@ -308,7 +309,106 @@ bothKinds = hex "01 01 01 01 01 02 00 00 02 00 01 02 00 00 02 01 00 02 01 01 05 
 abbrev pub repeats : List ℕ
 repeats = hex "01 01 01 01 02 05 00 00 05 00 00 07 01 00 07 01 00 06 01 00 00 06 01 00 00 0F"
 
--- ---- rule files
+-- 1 user, 2 resources, 3 operations, 4 roles, 5 user attributes and 6 resource attributes, of both kinds, declared by 02 and by 08 (request 7)
+abbrev pub sixNumbers : List ℕ
+sixNumbers = hex "01 01 02 03 04 02 00 00 08 00 00 01 02 00 01 08 00 01 02 02 00 00 02 01 00 02 01 00 08 01 00 03 02 01 01 02 01 01 08 01 01 04 0F"
+
+-- ---- the shapes of these role files: the 20 that opens a rule file made for each
+
+abbrev pub forA : List ℕ
+forA = hex "20 02 02 01 02 01 01"
+
+abbrev pub forNobody : List ℕ
+forNobody = hex "20 00 00 00 00 00 00"
+
+abbrev pub forOneOfTwo : List ℕ
+forOneOfTwo = hex "20 02 02 01 01 00 00"
+
+abbrev pub forEqualResources : List ℕ
+forEqualResources = hex "20 01 02 02 01 00 00"
+
+abbrev pub forSetOneTwo : List ℕ
+forSetOneTwo = hex "20 01 01 01 01 01 01"
+
+abbrev pub forSetBetween : List ℕ
+forSetBetween = hex "20 01 02 01 01 01 01"
+
+abbrev pub forEmptyOrUnknown : List ℕ
+forEmptyOrUnknown = hex "20 02 02 01 01 01 01"
+
+abbrev pub forKnownEmpty : List ℕ
+forKnownEmpty = hex "20 02 01 01 01 01 00"
+
+abbrev pub forSeniorAndJunior : List ℕ
+forSeniorAndJunior = hex "20 02 02 02 02 00 00"
+
+abbrev pub forNoHolder : List ℕ
+forNoHolder = hex "20 01 01 01 01 00 00"
+
+abbrev pub forAtomOfOne : List ℕ
+forAtomOfOne = hex "20 01 02 01 02 01 01"
+
+abbrev pub forAtomAlone : List ℕ
+forAtomAlone = hex "20 01 02 01 02 01 01"
+
+abbrev pub forAbove63 : List ℕ
+forAbove63 = hex "20 01 02 01 01 01 01"
+
+abbrev pub forFourSums : List ℕ
+forFourSums = hex "20 03 03 04 02 02 02"
+
+abbrev pub forEqualDomains : List ℕ
+forEqualDomains = hex "20 02 02 01 02 01 01"
+
+abbrev pub forUserDomain : List ℕ
+forUserDomain = hex "20 02 02 01 02 01 01"
+
+abbrev pub forResourceDomain : List ℕ
+forResourceDomain = hex "20 02 02 01 02 01 01"
+
+abbrev pub forTwoDomains : List ℕ
+forTwoDomains = hex "20 01 01 01 01 02 01"
+
+abbrev pub forSecondRound : List ℕ
+forSecondRound = hex "20 01 02 02 03 00 00"
+
+abbrev pub forFirstPair : List ℕ
+forFirstPair = hex "20 03 02 01 04 00 00"
+
+abbrev pub forClassesAsNumbers : List ℕ
+forClassesAsNumbers = hex "20 01 02 03 02 00 00"
+
+abbrev pub forHalfOfA : List ℕ
+forHalfOfA = hex "20 02 02 01 01 01 01"
+
+abbrev pub forNumbersBeforeKinds : List ℕ
+forNumbersBeforeKinds = hex "20 02 01 01 01 02 00"
+
+abbrev pub forAtomsInOrder : List ℕ
+forAtomsInOrder = hex "20 01 02 01 01 02 02"
+
+abbrev pub forMoreRoles : List ℕ
+forMoreRoles = hex "20 03 01 01 02 00 00"
+
+abbrev pub forThreeRights : List ℕ
+forThreeRights = hex "20 02 02 02 02 00 00"
+
+abbrev pub forTwoOperations : List ℕ
+forTwoOperations = hex "20 01 01 02 02 00 00"
+
+abbrev pub forTwins : List ℕ
+forTwins = hex "20 01 01 01 02 00 00"
+
+abbrev pub forSingleAndSet : List ℕ
+forSingleAndSet = hex "20 01 01 01 01 01 01"
+
+abbrev pub forBothKinds : List ℕ
+forBothKinds = hex "20 01 01 01 01 03 02"
+
+abbrev pub forBothHalves : List ℕ
+forBothHalves = hex "20 04 04 01 02 02 02"
+
+-- ---- rule files, behind their 20
 
 -- the rules of A
 abbrev pub rulesA : List ℕ
@@ -468,63 +568,63 @@ asks255 = hex "21 23 FF 01 00 00 00 00 00 00 00 24 FF 00 00 26 01 00 28 00 01 00
 abbrev pub table : List Row
 table =
     -- ---- A
-    -- "parts 2 rules 1 merges 1 cost 2"; "Output of 15 bytes: 9; of 16: accepted."
-    row "A: 16 bytes, 2 parts, 1 rule, 1 merge, cost 2" (mining fileA 4096 16) (0 ∷ 16 ∷ 2 ∷ 1 ∷ 1 ∷ 2 ∷ [])
-    ∷ row "A: output of 15 bytes" (mining fileA 4096 15) (9 ∷ [])
-    -- "Rules: 21 26 01 00 27 00 00 28 00 01 00 28 01 01 00 2F."; on a refusal "Output is untouched."
-    ∷ row "A: its rules" (output fileA 16) rulesA
-    ∷ row "A: bytes behind the rules stay" (output fileA 20) (rulesA ++ memory 4)
-    ∷ row "A: output of 15 bytes is untouched" (output fileA 15) (memory 15)
+    -- "parts 2 rules 1 merges 1 cost 2"; with request 7 "example A is 23 bytes long": output of 22 bytes 9, of 23 accepted
+    row "A: 23 bytes, 2 parts, 1 rule, 1 merge, cost 2" (mining fileA 4096 23) (0 ∷ 23 ∷ 2 ∷ 1 ∷ 1 ∷ 2 ∷ [])
+    ∷ row "A: output of 22 bytes" (mining fileA 4096 22) (9 ∷ [])
+    -- "Rules: 21 26 01 00 27 00 00 28 00 01 00 28 01 01 00 2F.", behind the 20; on a refusal "Output is untouched."
+    ∷ row "A: its rules" (output fileA 23) (forA ++ rulesA)
+    ∷ row "A: bytes behind the rules stay" (output fileA 27) (forA ++ rulesA ++ memory 4)
+    ∷ row "A: output of 22 bytes is untouched" (output fileA 22) (memory 22)
     -- "8 scratch below 4,096 words of 64 bits; then 1 to 7; then 9 output shorter than the rule file"
     ∷ row "A: scratch of 4,095 words" (mining fileA 4095 16) (8 ∷ [])
     ∷ row "8 before 2" (mining [] 4095 0) (8 ∷ [])
     ∷ row "8 before 1" (mining (memory 65536) 4095 0) (8 ∷ [])
     ∷ row "7 before 9" (mining roleTwice 4096 0) (7 ∷ [])
     -- "Demand 3 speaks of the mined bytes ... read like any rule file beside their role file": sound, and of level 0
-    ∷ row "A: its rules are sound" (judging fileA (output fileA 16)) (0 ∷ 0 ∷ [])
-    ∷ row "A: its rule has level 0" (levels fileA (output fileA 16)) (0 ∷ 0 ∷ [])
+    ∷ row "A: its rules are sound" (judging fileA (output fileA 23)) (0 ∷ 0 ∷ [])
+    ∷ row "A: its rule has level 0" (levels fileA (output fileA 23)) (0 ∷ 0 ∷ [])
     -- ---- the smallest files
-    -- "01 00 00 00 00 0F: rules 2F, length 1, all counts and the cost 0"
-    ∷ row "nobody: length 1, all counts 0" (mining nobody 4096 1) (0 ∷ 1 ∷ 0 ∷ 0 ∷ 0 ∷ 0 ∷ [])
-    ∷ row "nobody: rules 2F" (output nobody 1) noRules
+    -- "01 00 00 00 00 0F: rules 2F, length 1, all counts and the cost 0", the seven bytes of the 20 not counted
+    ∷ row "nobody: length 8, all counts 0" (mining nobody 4096 8) (0 ∷ 8 ∷ 0 ∷ 0 ∷ 0 ∷ 0 ∷ [])
+    ∷ row "nobody: rules 2F" (output nobody 8) (forNobody ++ noRules)
     -- "Empty file: 2."; "0F: 4."
     ∷ row "empty role file" (reading []) (2 ∷ [])
     ∷ row "0F alone" (reading (hex "0F")) (4 ∷ [])
     -- ---- levels and cost
     -- "No attributes, two users, two resources, one operation, role 0 with user 0 and resource 0: level 3, cost 3."
-    ∷ row "one of two users and resources: level 3" (levels oneOfTwo (output oneOfTwo 23)) (0 ∷ 3 ∷ [])
-    ∷ row "one of two users and resources: cost 3" (mining oneOfTwo 4096 23) (0 ∷ 23 ∷ 1 ∷ 1 ∷ 0 ∷ 3 ∷ [])
+    ∷ row "one of two users and resources: level 3" (levels oneOfTwo (output oneOfTwo 30)) (0 ∷ 3 ∷ [])
+    ∷ row "one of two users and resources: cost 3" (mining oneOfTwo 4096 30) (0 ∷ 30 ∷ 1 ∷ 1 ∷ 0 ∷ 3 ∷ [])
     -- "values in single conjuncts", on each side
-    ∷ row "cost: values of a user conjunct" (mining userValues 4096 17) (0 ∷ 17 ∷ 1 ∷ 1 ∷ 0 ∷ 3 ∷ [])
-    ∷ row "cost: values of a resource conjunct" (mining resourceValues 4096 17) (0 ∷ 17 ∷ 1 ∷ 1 ∷ 0 ∷ 3 ∷ [])
+    ∷ row "cost: values of a user conjunct" (mining userValues 4096 24) (0 ∷ 24 ∷ 1 ∷ 1 ∷ 0 ∷ 3 ∷ [])
+    ∷ row "cost: values of a resource conjunct" (mining resourceValues 4096 24) (0 ∷ 24 ∷ 1 ∷ 1 ∷ 0 ∷ 3 ∷ [])
     -- "elements over all sets in set conjuncts", on each side: two and one, and one operation
-    ∷ row "cost: elements of user sets" (mining userSets 4096 29) (0 ∷ 29 ∷ 1 ∷ 1 ∷ 0 ∷ 4 ∷ [])
-    ∷ row "cost: elements of resource sets" (mining resourceSets 4096 29) (0 ∷ 29 ∷ 1 ∷ 1 ∷ 0 ∷ 4 ∷ [])
+    ∷ row "cost: elements of user sets" (mining userSets 4096 36) (0 ∷ 36 ∷ 1 ∷ 1 ∷ 0 ∷ 4 ∷ [])
+    ∷ row "cost: elements of resource sets" (mining resourceSets 4096 36) (0 ∷ 36 ∷ 1 ∷ 1 ∷ 0 ∷ 4 ∷ [])
     -- ---- holders
     -- "User 0 in role 0 without permissions, senior to role 1: user 0 has role 1's permissions."
     ∷ row "a senior without permissions has its junior's" (roleAnswer inherits 0 0 0) (0 ∷ 1 ∷ [])
-    ∷ row "the junior's part is held by the senior's user" (mining inherits 4096 9) (0 ∷ 9 ∷ 1 ∷ 1 ∷ 0 ∷ 1 ∷ [])
+    ∷ row "the junior's part is held by the senior's user" (mining inherits 4096 16) (0 ∷ 16 ∷ 1 ∷ 1 ∷ 0 ∷ 1 ∷ [])
     -- "07 junior role, senior role": with the two exchanged user 0 has none
     ∷ row "a junior has none of its senior's" (roleAnswer inheritsNot 0 0 0) (0 ∷ 0 ∷ [])
     -- "A role's seniors are all roles reached by one or more 07 steps."
     ∷ row "seniors by two 07 steps" (roleAnswer (hex "01 01 01 01 03 05 00 00 07 02 01 07 01 00 06 02 00 00 0F") 0 0 0) (0 ∷ 1 ∷ [])
     -- "each class of a role with a holder is a part"
-    ∷ row "no holder, no part" (mining noHolder 4096 1) (0 ∷ 1 ∷ 0 ∷ 0 ∷ 0 ∷ 0 ∷ [])
+    ∷ row "no holder, no part" (mining noHolder 4096 8) (0 ∷ 8 ∷ 0 ∷ 0 ∷ 0 ∷ 0 ∷ [])
     -- ---- parts
     -- "One role with a holder, resource 0 under operations 0 and 1, resource 1 under 1: two parts."; "Equal resources: one."
-    ∷ row "unequal resources: two parts" (mining unequalResources 4096 21) (0 ∷ 21 ∷ 2 ∷ 2 ∷ 0 ∷ 3 ∷ [])
-    ∷ row "equal resources: one part" (mining equalResources 4096 9) (0 ∷ 9 ∷ 1 ∷ 1 ∷ 0 ∷ 2 ∷ [])
+    ∷ row "unequal resources: two parts" (mining unequalResources 4096 28) (0 ∷ 28 ∷ 2 ∷ 2 ∷ 0 ∷ 3 ∷ [])
+    ∷ row "equal resources: one part" (mining equalResources 4096 16) (0 ∷ 16 ∷ 1 ∷ 1 ∷ 0 ∷ 2 ∷ [])
     -- ---- sets
     -- "User set {1, 2} meets conjunct {{1}}; a resource set {1, 2} does not."
-    ∷ row "user set {1, 2} meets {{1}}" (ruleAnswer setOneTwo userSetOne 0 0 0) (0 ∷ 1 ∷ [])
-    ∷ row "resource set {1, 2} does not meet {{1}}" (ruleAnswer setOneTwo resourceSetOne 0 0 0) (0 ∷ 0 ∷ [])
-    ∷ row "resource set {1, 2} meets {{1, 2}}" (ruleAnswer setOneTwo resourceSetOneTwo 0 0 0) (0 ∷ 1 ∷ [])
+    ∷ row "user set {1, 2} meets {{1}}" (ruleAnswer setOneTwo (forSetOneTwo ++ userSetOne) 0 0 0) (0 ∷ 1 ∷ [])
+    ∷ row "resource set {1, 2} does not meet {{1}}" (ruleAnswer setOneTwo (forSetOneTwo ++ resourceSetOne) 0 0 0) (0 ∷ 0 ∷ [])
+    ∷ row "resource set {1, 2} meets {{1, 2}}" (ruleAnswer setOneTwo (forSetOneTwo ++ resourceSetOneTwo) 0 0 0) (0 ∷ 1 ∷ [])
     -- "set contains set": the user's set the resource's, not the other way round
-    ∷ row "user set {1, 2} contains resource set {1}" (ruleAnswer setBetween atomRule 0 0 0) (0 ∷ 1 ∷ [])
-    ∷ row "user set {1, 2} does not contain resource set {1, 2, 3}" (ruleAnswer setBetween atomRule 0 1 0) (0 ∷ 0 ∷ [])
+    ∷ row "user set {1, 2} contains resource set {1}" (ruleAnswer setBetween (forSetBetween ++ atomRule) 0 0 0) (0 ∷ 1 ∷ [])
+    ∷ row "user set {1, 2} does not contain resource set {1, 2, 3}" (ruleAnswer setBetween (forSetBetween ++ atomRule) 0 1 0) (0 ∷ 0 ∷ [])
     -- "set contains single (a value above 63 never is contained)"
-    ∷ row "a full user set contains 63" (ruleAnswer above63 atomRule 0 0 0) (0 ∷ 1 ∷ [])
-    ∷ row "a full user set does not contain 64" (ruleAnswer above63 atomRule 0 1 0) (0 ∷ 0 ∷ [])
+    ∷ row "a full user set contains 63" (ruleAnswer above63 (forAbove63 ++ atomRule) 0 0 0) (0 ∷ 1 ∷ [])
+    ∷ row "a full user set does not contain 64" (ruleAnswer above63 (forAbove63 ++ atomRule) 0 1 0) (0 ∷ 0 ∷ [])
     -- ---- circles and limits
     -- "07 with one role twice: 7."
     ∷ row "07 with one role twice" (reading roleTwice) (7 ∷ [])
@@ -540,58 +640,58 @@ table =
     ∷ row "32 roles, and no 0F" (reading (hex "01 00 00 00 20")) (2 ∷ [])
     -- ---- "Tempting: taking an unknown set for the empty one"
     -- "An unknown value satisfies no conjunct and no atom."
-    ∷ row "user conjunct {{}}: a user with the empty set" (ruleAnswer emptyOrUnknown userSetEmpty 0 0 0) (0 ∷ 1 ∷ [])
-    ∷ row "user conjunct {{}}: a user with an unknown set" (ruleAnswer emptyOrUnknown userSetEmpty 1 0 0) (0 ∷ 0 ∷ [])
-    ∷ row "resource conjunct {{}}: a resource with the empty set" (ruleAnswer emptyOrUnknown resourceSetEmpty 0 0 0) (0 ∷ 1 ∷ [])
-    ∷ row "resource conjunct {{}}: a resource with an unknown set" (ruleAnswer emptyOrUnknown resourceSetEmpty 0 1 0) (0 ∷ 0 ∷ [])
-    ∷ row "atom: both sets empty" (ruleAnswer emptyOrUnknown atomRule 0 0 0) (0 ∷ 1 ∷ [])
-    ∷ row "atom: the user's set unknown" (ruleAnswer emptyOrUnknown atomRule 1 0 0) (0 ∷ 0 ∷ [])
-    ∷ row "atom: the resource's set unknown" (ruleAnswer emptyOrUnknown atomRule 0 1 0) (0 ∷ 0 ∷ [])
+    ∷ row "user conjunct {{}}: a user with the empty set" (ruleAnswer emptyOrUnknown (forEmptyOrUnknown ++ userSetEmpty) 0 0 0) (0 ∷ 1 ∷ [])
+    ∷ row "user conjunct {{}}: a user with an unknown set" (ruleAnswer emptyOrUnknown (forEmptyOrUnknown ++ userSetEmpty) 1 0 0) (0 ∷ 0 ∷ [])
+    ∷ row "resource conjunct {{}}: a resource with the empty set" (ruleAnswer emptyOrUnknown (forEmptyOrUnknown ++ resourceSetEmpty) 0 0 0) (0 ∷ 1 ∷ [])
+    ∷ row "resource conjunct {{}}: a resource with an unknown set" (ruleAnswer emptyOrUnknown (forEmptyOrUnknown ++ resourceSetEmpty) 0 1 0) (0 ∷ 0 ∷ [])
+    ∷ row "atom: both sets empty" (ruleAnswer emptyOrUnknown (forEmptyOrUnknown ++ atomRule) 0 0 0) (0 ∷ 1 ∷ [])
+    ∷ row "atom: the user's set unknown" (ruleAnswer emptyOrUnknown (forEmptyOrUnknown ++ atomRule) 1 0 0) (0 ∷ 0 ∷ [])
+    ∷ row "atom: the resource's set unknown" (ruleAnswer emptyOrUnknown (forEmptyOrUnknown ++ atomRule) 0 1 0) (0 ∷ 0 ∷ [])
     -- "the empty set is a known value": the conjunct {{}} keeps user 1 out, and costs nothing
-    ∷ row "the empty set is mined as a conjunct" (output knownEmpty 19) userSetEmpty
-    ∷ row "the empty set costs nothing" (mining knownEmpty 4096 19) (0 ∷ 19 ∷ 1 ∷ 1 ∷ 0 ∷ 1 ∷ [])
+    ∷ row "the empty set is mined as a conjunct" (output knownEmpty 26) (forKnownEmpty ++ userSetEmpty)
+    ∷ row "the empty set costs nothing" (mining knownEmpty 4096 26) (0 ∷ 26 ∷ 1 ∷ 1 ∷ 0 ∷ 1 ∷ [])
     -- ---- "adding inherited permissions to a block"
     -- "inherited permissions never enter a block": two parts, not three
-    ∷ row "senior and junior: two parts" (mining seniorAndJunior 4096 35) (0 ∷ 35 ∷ 2 ∷ 2 ∷ 0 ∷ 6 ∷ [])
+    ∷ row "senior and junior: two parts" (mining seniorAndJunior 4096 42) (0 ∷ 42 ∷ 2 ∷ 2 ∷ 0 ∷ 6 ∷ [])
     -- "no part of that file": a rule may list the operation under the junior role only
-    ∷ row "the junior's operation is no part of the senior" (judging seniorAndJunior operation1OfRole0) (13 ∷ [])
-    ∷ row "the junior's operation is a part of the junior" (ruleAnswer seniorAndJunior operation1OfRole1 0 0 1) (0 ∷ 1 ∷ [])
+    ∷ row "the junior's operation is no part of the senior" (judging seniorAndJunior (forSeniorAndJunior ++ operation1OfRole0)) (13 ∷ [])
+    ∷ row "the junior's operation is a part of the junior" (ruleAnswer seniorAndJunior (forSeniorAndJunior ++ operation1OfRole1) 0 0 1) (0 ∷ 1 ∷ [])
     -- ---- "keeping an atom in a merge because one of two groups had it"
     -- "each atom true of every user and resource that share a triple of B": role 0 alone has one, both together none
-    ∷ row "one role alone is mined with the atom" (output atomAlone 12) atomRule
-    ∷ row "two roles merged are mined without it" (output atomOfOne 13) twoParts
-    ∷ row "two roles merged: one rule, cost 1" (mining atomOfOne 4096 13) (0 ∷ 13 ∷ 2 ∷ 1 ∷ 1 ∷ 1 ∷ [])
-    ∷ row "two roles merged: sound" (judging atomOfOne (output atomOfOne 13)) (0 ∷ 0 ∷ [])
+    ∷ row "one role alone is mined with the atom" (output atomAlone 19) (forAtomAlone ++ atomRule)
+    ∷ row "two roles merged are mined without it" (output atomOfOne 20) (forAtomOfOne ++ twoParts)
+    ∷ row "two roles merged: one rule, cost 1" (mining atomOfOne 4096 20) (0 ∷ 20 ∷ 2 ∷ 1 ∷ 1 ∷ 1 ∷ [])
+    ∷ row "two roles merged: sound" (judging atomOfOne (output atomOfOne 20)) (0 ∷ 0 ∷ [])
     -- with the atom kept, resource 1 is lost
-    ∷ row "two roles merged with the atom kept: resource 1 is lost" (judging atomOfOne rulesA) (0 ∷ 1 ∷ 0 ∷ 1 ∷ 0 ∷ [])
+    ∷ row "two roles merged with the atom kept: resource 1 is lost" (judging atomOfOne (forAtomOfOne ++ rulesA)) (0 ∷ 1 ∷ 0 ∷ 1 ∷ 0 ∷ [])
     -- ---- merging
     -- "the search then begins afresh": part 1 merges with neither part 0 nor part 2, but with both together; one round leaves two rules
-    ∷ row "search begun afresh: 2 merges" (mining secondRound 4096 17) (0 ∷ 17 ∷ 3 ∷ 1 ∷ 2 ∷ 2 ∷ [])
-    ∷ row "search begun afresh: one rule for three parts" (output secondRound 17) threeParts
+    ∷ row "search begun afresh: 2 merges" (mining secondRound 4096 24) (0 ∷ 24 ∷ 3 ∷ 1 ∷ 2 ∷ 2 ∷ [])
+    ∷ row "search begun afresh: one rule for three parts" (output secondRound 24) (forSecondRound ++ threeParts)
     -- "The first pair, earlier group first, then the other": parts 0 and 1, not 0 and 2 or 1 and 3
-    ∷ row "first pair: parts 0 and 1" (output firstPair 67) firstTwoParts
-    ∷ row "first pair: 1 merge" (mining firstPair 4096 67) (0 ∷ 67 ∷ 4 ∷ 3 ∷ 1 ∷ 9 ∷ [])
-    ∷ row "first pair: levels 1, 3, 3" (levels firstPair (output firstPair 67)) (0 ∷ 1 ∷ 3 ∷ 3 ∷ [])
+    ∷ row "first pair: parts 0 and 1" (output firstPair 74) (forFirstPair ++ firstTwoParts)
+    ∷ row "first pair: 1 merge" (mining firstPair 4096 74) (0 ∷ 74 ∷ 4 ∷ 3 ∷ 1 ∷ 9 ∷ [])
+    ∷ row "first pair: levels 1, 3, 3" (levels firstPair (output firstPair 74)) (0 ∷ 1 ∷ 3 ∷ 3 ∷ [])
     -- "whose union fits a level no higher than the higher of the two": both are of level 0, their union of 1
-    ∷ row "levels 0 and 0, union 1: no merge" (mining levelsApart 4096 25) (0 ∷ 25 ∷ 2 ∷ 2 ∷ 0 ∷ 4 ∷ [])
+    ∷ row "levels 0 and 0, union 1: no merge" (mining levelsApart 4096 32) (0 ∷ 32 ∷ 2 ∷ 2 ∷ 0 ∷ 4 ∷ [])
     -- of levels 0 and 1, their union of 1
-    ∷ row "levels 0 and 1, union 1: a merge" (mining higherOfTwo 4096 33) (0 ∷ 33 ∷ 2 ∷ 1 ∷ 1 ∷ 3 ∷ [])
+    ∷ row "levels 0 and 1, union 1: a merge" (mining higherOfTwo 4096 40) (0 ∷ 40 ∷ 2 ∷ 1 ∷ 1 ∷ 3 ∷ [])
     -- of levels 1 and 2; their union fits 1, but not 2
-    ∷ row "levels 1 and 2, union 1: a merge" (mining oneBelowTwo 4096 23) (0 ∷ 23 ∷ 2 ∷ 1 ∷ 1 ∷ 2 ∷ [])
-    ∷ row "levels 1 and 2, union 1: the rule has level 1" (levels oneBelowTwo (output oneBelowTwo 23)) (0 ∷ 1 ∷ [])
+    ∷ row "levels 1 and 2, union 1: a merge" (mining oneBelowTwo 4096 30) (0 ∷ 30 ∷ 2 ∷ 1 ∷ 1 ∷ 2 ∷ [])
+    ∷ row "levels 1 and 2, union 1: the rule has level 1" (levels oneBelowTwo (output oneBelowTwo 30)) (0 ∷ 1 ∷ [])
     -- "commands ascend strictly by command byte, then operands as numbers": class {1} is 2, class {0, 2} is 5
-    ∷ row "classes are written ascending as numbers" (output classesAsNumbers 17) ascendingClasses
+    ∷ row "classes are written ascending as numbers" (output classesAsNumbers 24) (forClassesAsNumbers ++ ascendingClasses)
     -- "Parts are ordered by role, then lowest operation.": class {0, 2} is part 0
-    ∷ row "parts are ordered by lowest operation" (judging classesAsNumbers notFirstPart) (0 ∷ 3 ∷ 0 ∷ [])
+    ∷ row "parts are ordered by lowest operation" (judging classesAsNumbers (forClassesAsNumbers ++ notFirstPart)) (0 ∷ 3 ∷ 0 ∷ [])
     -- ---- striking
     -- "conjuncts, users' first, ... and then atoms": any one of the three could go, and it is the user conjunct
-    ∷ row "struck first: a user conjunct" (output halfOfA 16) resourceAndAtom
+    ∷ row "struck first: a user conjunct" (output halfOfA 23) (forHalfOfA ++ resourceAndAtom)
     -- "each side by attribute number": the set of attribute 0 goes before the value of attribute 1
-    ∷ row "struck first: attribute 0 of two" (output numbersBeforeKinds 13) valueOfSecond
+    ∷ row "struck first: attribute 0 of two" (output numbersBeforeKinds 20) (forNumbersBeforeKinds ++ valueOfSecond)
     -- "atoms by user and resource attribute": 0 and 1 before 1 and 0
-    ∷ row "struck first: atom 0 1 of two" (output atomsInOrder 12) lastAtom
+    ∷ row "struck first: atom 0 1 of two" (output atomsInOrder 19) (forAtomsInOrder ++ lastAtom)
     -- "each set that strictly contains another listed set goes": {0, 1} beside {0}
-    ∷ row "a set that contains another goes" (output moreRoles 19) smallestRoles
+    ∷ row "a set that contains another goes" (output moreRoles 26) (forMoreRoles ++ smallestRoles)
     -- ---- the questions
     -- "whether the roles grant a given triple, yes or no: 1 to 7, then 5 for a number beyond the sizes"
     ∷ row "role question: yes" (roleAnswer fileA 1 1 0) (0 ∷ 1 ∷ [])
@@ -599,26 +699,26 @@ table =
     ∷ row "role question: a user beyond" (roleAnswer fileA 2 0 0) (5 ∷ [])
     ∷ row "role question: 7 before 5" (roleAnswer roleTwice 2 0 0) (7 ∷ [])
     -- "whether some rule grants it: 1 to 7; then the rule file by command ...; then 5"
-    ∷ row "rule question: yes" (ruleAnswer fileA rulesA 1 1 0) (0 ∷ 1 ∷ [])
-    ∷ row "rule question: no" (ruleAnswer fileA rulesA 0 1 0) (0 ∷ 0 ∷ [])
-    ∷ row "rule question: a resource beyond" (ruleAnswer fileA rulesA 0 2 0) (5 ∷ [])
+    ∷ row "rule question: yes" (ruleAnswer fileA (forA ++ rulesA) 1 1 0) (0 ∷ 1 ∷ [])
+    ∷ row "rule question: no" (ruleAnswer fileA (forA ++ rulesA) 0 1 0) (0 ∷ 0 ∷ [])
+    ∷ row "rule question: a resource beyond" (ruleAnswer fileA (forA ++ rulesA) 0 2 0) (5 ∷ [])
     ∷ row "rule question: 10 before 5" (ruleAnswer fileA [] 0 2 0) (10 ∷ [])
     ∷ row "rule question: 7 before 10" (ruleAnswer roleTwice [] 0 2 0) (7 ∷ [])
     -- ---- the judge
     -- "1 and the first triple, by user, then resource, then operation, where roles and rules differ"
-    ∷ row "verdict 1: user 0 before user 1, resource 0 before 1" (judging threeRights noRules) (0 ∷ 1 ∷ 0 ∷ 0 ∷ 1 ∷ [])
-    ∷ row "verdict 1: rules grant less" (judging threeRights operation1OfRole0) (0 ∷ 1 ∷ 0 ∷ 1 ∷ 0 ∷ [])
-    ∷ row "verdict 1: rules grant more" (judging oneOfTwo anybody) (0 ∷ 1 ∷ 0 ∷ 1 ∷ 0 ∷ [])
+    ∷ row "verdict 1: user 0 before user 1, resource 0 before 1" (judging threeRights (forThreeRights ++ noRules)) (0 ∷ 1 ∷ 0 ∷ 0 ∷ 1 ∷ [])
+    ∷ row "verdict 1: rules grant less" (judging threeRights (forThreeRights ++ operation1OfRole0)) (0 ∷ 1 ∷ 0 ∷ 1 ∷ 0 ∷ [])
+    ∷ row "verdict 1: rules grant more" (judging oneOfTwo (forOneOfTwo ++ anybody)) (0 ∷ 1 ∷ 0 ∷ 1 ∷ 0 ∷ [])
     -- 1 before 2 and 3, which this rule file has too
-    ∷ row "verdict 1 before 2 and 3" (judging twoOperations wrongOperation) (0 ∷ 1 ∷ 0 ∷ 0 ∷ 1 ∷ [])
+    ∷ row "verdict 1 before 2 and 3" (judging twoOperations (forTwoOperations ++ wrongOperation)) (0 ∷ 1 ∷ 0 ∷ 0 ∷ 1 ∷ [])
     -- "else 2 and the first rule, numbered from 0, that grants other than its parts"
-    ∷ row "verdict 2: rule 0" (judging twoOperations firstTooWide) (0 ∷ 2 ∷ 0 ∷ [])
-    ∷ row "verdict 2: rule 1" (judging twoOperations secondTooWide) (0 ∷ 2 ∷ 1 ∷ [])
+    ∷ row "verdict 2: rule 0" (judging twoOperations (forTwoOperations ++ firstTooWide)) (0 ∷ 2 ∷ 0 ∷ [])
+    ∷ row "verdict 2: rule 1" (judging twoOperations (forTwoOperations ++ secondTooWide)) (0 ∷ 2 ∷ 1 ∷ [])
     -- "else 3 and the first part, numbered from 0 in the order of parts, under no rule or several"
-    ∷ row "verdict 3: a part under no rule" (judging twins anybody) (0 ∷ 3 ∷ 1 ∷ [])
-    ∷ row "verdict 3: a part under two rules" (judging twoOperations listedTwice) (0 ∷ 3 ∷ 1 ∷ [])
+    ∷ row "verdict 3: a part under no rule" (judging twins (forTwins ++ anybody)) (0 ∷ 3 ∷ 1 ∷ [])
+    ∷ row "verdict 3: a part under two rules" (judging twoOperations (forTwoOperations ++ listedTwice)) (0 ∷ 3 ∷ 1 ∷ [])
     -- "else 0"
-    ∷ row "verdict 0" (judging twoOperations eachItsOwn) (0 ∷ 0 ∷ [])
+    ∷ row "verdict 0" (judging twoOperations (forTwoOperations ++ eachItsOwn)) (0 ∷ 0 ∷ [])
     -- ---- refusals of a role file, by command
     -- "1 too long. Then by command"
     ∷ row "65,536 bytes" (reading (memory 65536)) (1 ∷ [])
@@ -668,72 +768,72 @@ table =
     ∷ row "07: a junior beyond" (reading (hex "01 01 02 03 04 07 04 00 0F")) (5 ∷ [])
     ∷ row "07: a senior beyond" (reading (hex "01 01 02 03 04 07 00 04 0F")) (5 ∷ [])
     -- "Repeats of 05, 06, 07 change nothing."
-    ∷ row "each 05, 06 and 07 twice" (mining repeats 4096 9) (0 ∷ 9 ∷ 1 ∷ 1 ∷ 0 ∷ 1 ∷ [])
+    ∷ row "each 05, 06 and 07 twice" (mining repeats 4096 16) (0 ∷ 16 ∷ 1 ∷ 1 ∷ 0 ∷ 1 ∷ [])
     -- ---- refusals of a rule file beside A, by command
     -- "10 cut off (also before 2F), 12 out of order"
     ∷ row "empty rule file" (judging fileA []) (10 ∷ [])
-    ∷ row "10 before 12: 22 first, and cut off" (judging fileA (hex "22 00")) (10 ∷ [])
-    ∷ row "22 first" (judging fileA (hex "22 00 05 00")) (12 ∷ [])
+    ∷ row "10 before 12: 22 first, and cut off" (judging fileA (forA ++ hex "22 00")) (10 ∷ [])
+    ∷ row "22 first" (judging fileA (forA ++ hex "22 00 05 00")) (12 ∷ [])
     -- "12 a byte after the end, 11 unknown"
-    ∷ row "12 before 11: an unknown byte after the end" (judging fileA (hex "2F 30")) (12 ∷ [])
-    ∷ row "an unknown command in a rule file" (judging fileA (hex "30")) (11 ∷ [])
+    ∷ row "12 before 11: an unknown byte after the end" (judging fileA (forA ++ hex "2F 30")) (12 ∷ [])
+    ∷ row "an unknown command in a rule file" (judging fileA (forA ++ hex "30")) (11 ∷ [])
     -- "missing (seen at the next 21 or 2F)": at the end of the bytes it is 10
-    ∷ row "10 before 12: no 28, and no 2F" (judging fileA (hex "21 26 01 00")) (10 ∷ [])
-    ∷ row "no 28 at 2F" (judging fileA (hex "21 26 01 00 2F")) (12 ∷ [])
-    ∷ row "no 26 at the next 21" (judging fileA (hex "21 28 00 01 00 21")) (12 ∷ [])
+    ∷ row "10 before 12: no 28, and no 2F" (judging fileA (forA ++ hex "21 26 01 00")) (10 ∷ [])
+    ∷ row "no 28 at 2F" (judging fileA (forA ++ hex "21 26 01 00 2F")) (12 ∷ [])
+    ∷ row "no 26 at the next 21" (judging fileA (forA ++ hex "21 28 00 01 00 21")) (12 ∷ [])
     -- "12 ... repeated, 13 an operand beyond its size, ... a zero operation set"; both before what is missing
-    ∷ row "12 before 13: a second 26, with an operation beyond" (judging fileA (hex "21 26 01 00 26 03 00 2F")) (12 ∷ [])
-    ∷ row "26: an operation beyond" (judging fileA (hex "21 26 03 00 2F")) (13 ∷ [])
-    ∷ row "26: no operation" (judging fileA (hex "21 26 00 00 2F")) (13 ∷ [])
+    ∷ row "12 before 13: a second 26, with an operation beyond" (judging fileA (forA ++ hex "21 26 01 00 26 03 00 2F")) (12 ∷ [])
+    ∷ row "26: an operation beyond" (judging fileA (forA ++ hex "21 26 03 00 2F")) (13 ∷ [])
+    ∷ row "26: no operation" (judging fileA (forA ++ hex "21 26 00 00 2F")) (13 ∷ [])
     -- "ascend strictly": equal lines twice
-    ∷ row "22: a value twice" (judging fileA (hex "21 22 00 05 00 22 00 05 00 26 01 00 28 00 01 00 2F")) (12 ∷ [])
-    ∷ row "27: an atom twice" (judging fileA (hex "21 26 01 00 27 00 00 27 00 00 28 00 01 00 2F")) (12 ∷ [])
-    ∷ row "28: a part twice" (judging fileA (hex "21 26 01 00 28 00 01 00 28 00 01 00 2F")) (12 ∷ [])
+    ∷ row "22: a value twice" (judging fileA (forA ++ hex "21 22 00 05 00 22 00 05 00 26 01 00 28 00 01 00 2F")) (12 ∷ [])
+    ∷ row "27: an atom twice" (judging fileA (forA ++ hex "21 26 01 00 27 00 00 27 00 00 28 00 01 00 2F")) (12 ∷ [])
+    ∷ row "28: a part twice" (judging fileA (forA ++ hex "21 26 01 00 28 00 01 00 28 00 01 00 2F")) (12 ∷ [])
     -- "operands as numbers": 255 stands before 256
-    ∷ row "22: 255 before 256" (ruleAnswer fileA (hex "21 22 00 FF 00 22 00 00 01 26 01 00 28 00 01 00 2F") 0 0 0) (0 ∷ 0 ∷ [])
-    ∷ row "22: 256 before 255" (judging fileA (hex "21 22 00 00 01 22 00 FF 00 26 01 00 28 00 01 00 2F")) (12 ∷ [])
+    ∷ row "22: 255 before 256" (ruleAnswer fileA (forA ++ hex "21 22 00 FF 00 22 00 00 01 26 01 00 28 00 01 00 2F") 0 0 0) (0 ∷ 0 ∷ [])
+    ∷ row "22: 256 before 255" (judging fileA (forA ++ hex "21 22 00 00 01 22 00 FF 00 26 01 00 28 00 01 00 2F")) (12 ∷ [])
     -- "255 stands only in 23, with roles as elements, and in 24, with a resource number."
-    ∷ row "22: 255" (judging fileA (hex "21 22 FF 00 00 26 01 00 28 00 01 00 2F")) (13 ∷ [])
-    ∷ row "23: 255, no role" (ruleAnswer fileA (hex "21 23 FF 00 00 00 00 00 00 00 00 26 01 00 28 00 01 00 2F") 0 0 0) (0 ∷ 1 ∷ [])
-    ∷ row "23: 255, role 2 of two" (judging fileA (hex "21 23 FF 04 00 00 00 00 00 00 00 26 01 00 28 00 01 00 2F")) (13 ∷ [])
-    ∷ row "24: 255, resource 2 of two" (judging fileA (hex "21 24 FF 02 00 26 01 00 28 00 01 00 2F")) (13 ∷ [])
-    ∷ row "25: 255" (judging fileA (hex "21 25 FF 01 00 00 00 00 00 00 00 26 01 00 28 00 01 00 2F")) (13 ∷ [])
+    ∷ row "22: 255" (judging fileA (forA ++ hex "21 22 FF 00 00 26 01 00 28 00 01 00 2F")) (13 ∷ [])
+    ∷ row "23: 255, no role" (ruleAnswer fileA (forA ++ hex "21 23 FF 00 00 00 00 00 00 00 00 26 01 00 28 00 01 00 2F") 0 0 0) (0 ∷ 1 ∷ [])
+    ∷ row "23: 255, role 2 of two" (judging fileA (forA ++ hex "21 23 FF 04 00 00 00 00 00 00 00 26 01 00 28 00 01 00 2F")) (13 ∷ [])
+    ∷ row "24: 255, resource 2 of two" (judging fileA (forA ++ hex "21 24 FF 02 00 26 01 00 28 00 01 00 2F")) (13 ∷ [])
+    ∷ row "25: 255" (judging fileA (forA ++ hex "21 25 FF 01 00 00 00 00 00 00 00 26 01 00 28 00 01 00 2F")) (13 ∷ [])
     -- "Neither stands in an atom."
-    ∷ row "27: 255 of users" (judging fileA (hex "21 26 01 00 27 FF 00 28 00 01 00 2F")) (13 ∷ [])
-    ∷ row "27: 255 of resources" (judging fileA (hex "21 26 01 00 27 00 FF 28 00 01 00 2F")) (13 ∷ [])
+    ∷ row "27: 255 of users" (judging fileA (forA ++ hex "21 26 01 00 27 FF 00 28 00 01 00 2F")) (13 ∷ [])
+    ∷ row "27: 255 of resources" (judging fileA (forA ++ hex "21 26 01 00 27 00 FF 28 00 01 00 2F")) (13 ∷ [])
     -- "no part of that file": half a class; a role without a holder; a role beyond
-    ∷ row "28: half a class" (judging equalResources anybody) (13 ∷ [])
-    ∷ row "28: a role without a holder" (judging noHolder anybody) (13 ∷ [])
-    ∷ row "28: a role beyond" (judging fileA (hex "21 26 01 00 28 02 01 00 2F")) (13 ∷ [])
+    ∷ row "28: half a class" (judging equalResources (forEqualResources ++ anybody)) (13 ∷ [])
+    ∷ row "28: a role without a holder" (judging noHolder (forNoHolder ++ anybody)) (13 ∷ [])
+    ∷ row "28: a role beyond" (judging fileA (forA ++ hex "21 26 01 00 28 02 01 00 2F")) (13 ∷ [])
     -- ---- kinds and attributes in a rule file
-    ∷ row "22 to 25 and 27: attributes of the right kind" (ruleAnswer bothKinds everyKind 0 0 0) (0 ∷ 0 ∷ [])
+    ∷ row "22 to 25 and 27: attributes of the right kind" (ruleAnswer bothKinds (forBothKinds ++ everyKind) 0 0 0) (0 ∷ 0 ∷ [])
     -- "of the wrong kind (an atom of a single user attribute and a set resource attribute too)"
-    ∷ row "22: a set" (judging bothKinds (hex "21 22 01 05 00 26 01 00 28 00 01 00 2F")) (13 ∷ [])
-    ∷ row "23: a single" (judging bothKinds (hex "21 23 00 05 00 00 00 00 00 00 00 26 01 00 28 00 01 00 2F")) (13 ∷ [])
-    ∷ row "24: a set" (judging bothKinds (hex "21 24 01 05 00 26 01 00 28 00 01 00 2F")) (13 ∷ [])
-    ∷ row "25: a single" (judging bothKinds (hex "21 25 00 05 00 00 00 00 00 00 00 26 01 00 28 00 01 00 2F")) (13 ∷ [])
-    ∷ row "27: a single of users and a set of resources" (judging singleAndSet atomRule) (13 ∷ [])
+    ∷ row "22: a set" (judging bothKinds (forBothKinds ++ hex "21 22 01 05 00 26 01 00 28 00 01 00 2F")) (13 ∷ [])
+    ∷ row "23: a single" (judging bothKinds (forBothKinds ++ hex "21 23 00 05 00 00 00 00 00 00 00 26 01 00 28 00 01 00 2F")) (13 ∷ [])
+    ∷ row "24: a set" (judging bothKinds (forBothKinds ++ hex "21 24 01 05 00 26 01 00 28 00 01 00 2F")) (13 ∷ [])
+    ∷ row "25: a single" (judging bothKinds (forBothKinds ++ hex "21 25 00 05 00 00 00 00 00 00 00 26 01 00 28 00 01 00 2F")) (13 ∷ [])
+    ∷ row "27: a single of users and a set of resources" (judging singleAndSet (forSingleAndSet ++ atomRule)) (13 ∷ [])
     -- "13 an operand beyond its size": resources have no attribute 2, users no attribute 3
-    ∷ row "22: an undeclared attribute" (judging bothKinds (hex "21 22 03 05 00 26 01 00 28 00 01 00 2F")) (13 ∷ [])
-    ∷ row "23: an undeclared attribute" (judging bothKinds (hex "21 23 03 05 00 00 00 00 00 00 00 26 01 00 28 00 01 00 2F")) (13 ∷ [])
-    ∷ row "24: an undeclared attribute" (judging bothKinds (hex "21 24 02 05 00 26 01 00 28 00 01 00 2F")) (13 ∷ [])
-    ∷ row "25: an undeclared attribute" (judging bothKinds (hex "21 25 02 05 00 00 00 00 00 00 00 26 01 00 28 00 01 00 2F")) (13 ∷ [])
-    ∷ row "27: an undeclared user attribute" (judging bothKinds (hex "21 26 01 00 27 03 00 28 00 01 00 2F")) (13 ∷ [])
-    ∷ row "27: an undeclared resource attribute" (judging bothKinds (hex "21 26 01 00 27 00 02 28 00 01 00 2F")) (13 ∷ [])
+    ∷ row "22: an undeclared attribute" (judging bothKinds (forBothKinds ++ hex "21 22 03 05 00 26 01 00 28 00 01 00 2F")) (13 ∷ [])
+    ∷ row "23: an undeclared attribute" (judging bothKinds (forBothKinds ++ hex "21 23 03 05 00 00 00 00 00 00 00 26 01 00 28 00 01 00 2F")) (13 ∷ [])
+    ∷ row "24: an undeclared attribute" (judging bothKinds (forBothKinds ++ hex "21 24 02 05 00 26 01 00 28 00 01 00 2F")) (13 ∷ [])
+    ∷ row "25: an undeclared attribute" (judging bothKinds (forBothKinds ++ hex "21 25 02 05 00 00 00 00 00 00 00 26 01 00 28 00 01 00 2F")) (13 ∷ [])
+    ∷ row "27: an undeclared user attribute" (judging bothKinds (forBothKinds ++ hex "21 26 01 00 27 03 00 28 00 01 00 2F")) (13 ∷ [])
+    ∷ row "27: an undeclared resource attribute" (judging bothKinds (forBothKinds ++ hex "21 26 01 00 27 00 02 28 00 01 00 2F")) (13 ∷ [])
     -- ---- request 1: "An atom joins two attributes only if their domains are equal"
-    ∷ row "equal domains: the length and counts of A" (mining equalDomains 4096 16) (0 ∷ 16 ∷ 2 ∷ 1 ∷ 1 ∷ 2 ∷ [])
-    ∷ row "equal domains: the rules of A" (output equalDomains 17) (hex "21 26 01 00 27 00 00 28 00 01 00 28 01 01 00 2F AA")
-    ∷ row "another domain of users: no atom, no merge" (mining userDomain 4096 33) (0 ∷ 33 ∷ 2 ∷ 2 ∷ 0 ∷ 6 ∷ [])
-    ∷ row "another domain of users: two rules by values" (output userDomain 33) (rulesByValues)
-    ∷ row "another domain of resources: no atom, no merge" (mining resourceDomain 4096 33) (0 ∷ 33 ∷ 2 ∷ 2 ∷ 0 ∷ 6 ∷ [])
-    ∷ row "another domain of resources: two rules by values" (output resourceDomain 33) (rulesByValues)
+    ∷ row "equal domains: the length and counts of A" (mining equalDomains 4096 23) (0 ∷ 23 ∷ 2 ∷ 1 ∷ 1 ∷ 2 ∷ [])
+    ∷ row "equal domains: the rules of A" (output equalDomains 24) (forEqualDomains ++ hex "21 26 01 00 27 00 00 28 00 01 00 28 01 01 00 2F AA")
+    ∷ row "another domain of users: no atom, no merge" (mining userDomain 4096 40) (0 ∷ 40 ∷ 2 ∷ 2 ∷ 0 ∷ 6 ∷ [])
+    ∷ row "another domain of users: two rules by values" (output userDomain 40) (forUserDomain ++ rulesByValues)
+    ∷ row "another domain of resources: no atom, no merge" (mining resourceDomain 4096 40) (0 ∷ 40 ∷ 2 ∷ 2 ∷ 0 ∷ 6 ∷ [])
+    ∷ row "another domain of resources: two rules by values" (output resourceDomain 40) (forResourceDomain ++ rulesByValues)
     -- "another atom is 13"; conjuncts do not look at domains
-    ∷ row "27: equal domains" (judging equalDomains rulesA) (0 ∷ 0 ∷ [])
-    ∷ row "27: another domain of users" (judging userDomain rulesA) (13 ∷ [])
-    ∷ row "27: another domain of resources" (judging resourceDomain rulesA) (13 ∷ [])
-    ∷ row "values of two domains" (judging userDomain rulesByValues) (0 ∷ 0 ∷ [])
-    ∷ row "two domains of one side: the atom of the second" (judging twoDomains (hex "21 26 01 00 27 01 00 28 00 01 00 2F")) (0 ∷ 0 ∷ [])
-    ∷ row "two domains of one side: the atom of the first" (judging twoDomains (hex "21 26 01 00 27 00 00 28 00 01 00 2F")) (13 ∷ [])
+    ∷ row "27: equal domains" (judging equalDomains (forEqualDomains ++ rulesA)) (0 ∷ 0 ∷ [])
+    ∷ row "27: another domain of users" (judging userDomain (forUserDomain ++ rulesA)) (13 ∷ [])
+    ∷ row "27: another domain of resources" (judging resourceDomain (forResourceDomain ++ rulesA)) (13 ∷ [])
+    ∷ row "values of two domains" (judging userDomain (forUserDomain ++ rulesByValues)) (0 ∷ 0 ∷ [])
+    ∷ row "two domains of one side: the atom of the second" (judging twoDomains (forTwoDomains ++ hex "21 26 01 00 27 01 00 28 00 01 00 2F")) (0 ∷ 0 ∷ [])
+    ∷ row "two domains of one side: the atom of the first" (judging twoDomains (forTwoDomains ++ hex "21 26 01 00 27 00 00 28 00 01 00 2F")) (13 ∷ [])
     -- "rules with atoms across domains no longer count", and no others
     ∷ row "a rule of the section: an atom of equal domains" (ofFile equalDomains valueAndAtom) (0 ∷ 1 ∷ [])
     ∷ row "no rule of the section: an atom across domains" (ofFile userDomain valueAndAtom) (0 ∷ 0 ∷ [])
@@ -749,18 +849,18 @@ table =
     ∷ row "six 08 of users" (reading (hex "01 00 00 00 00 08 00 00 01 08 00 00 02 08 00 00 03 08 00 00 04 08 00 00 05 08 00 00 06 0F")) (0 ∷ 0 ∷ 0 ∷ 0 ∷ 0 ∷ [])
     ∷ row "a seventh attribute: 02 behind six 08" (reading (hex "01 00 00 00 00 08 00 00 01 08 00 00 02 08 00 00 03 08 00 00 04 08 00 00 05 08 00 00 06 02 00 00 0F")) (5 ∷ [])
     -- ---- request 2: "hands back that part of the rule file itself, from its 21 up to the next command 21 or 2F"
-    ∷ row "show: rule 0 of A" (showing fileA rulesA 0) (0 ∷ hex "21 26 01 00 27 00 00 28 00 01 00 28 01 01 00")
-    ∷ row "show: a 21 among operands" (showing fileA marksAmongOperands 0) (0 ∷ hex "21 22 00 21 21 26 01 00 28 00 01 00")
-    ∷ row "show: a 2F among operands" (showing fileA marksAmongOperands 1) (0 ∷ hex "21 22 00 2F 2F 26 01 00 28 01 01 00")
-    ∷ row "show: where rule 1 stands" (placing fileA marksAmongOperands 1) (12 ∷ 24 ∷ [])
+    ∷ row "show: rule 0 of A" (showing fileA (forA ++ rulesA) 0) (0 ∷ hex "21 26 01 00 27 00 00 28 00 01 00 28 01 01 00")
+    ∷ row "show: a 21 among operands" (showing fileA (forA ++ marksAmongOperands) 0) (0 ∷ hex "21 22 00 21 21 26 01 00 28 00 01 00")
+    ∷ row "show: a 2F among operands" (showing fileA (forA ++ marksAmongOperands) 1) (0 ∷ hex "21 22 00 2F 2F 26 01 00 28 01 01 00")
+    ∷ row "show: where rule 1 stands" (placing fileA (forA ++ marksAmongOperands) 1) (19 ∷ 31 ∷ [])
     -- "14 for a number not below the count of rules"; "then the part handed back is the empty one at the file's start"
-    ∷ row "show: A has no rule 1" (showing fileA rulesA 1) (14 ∷ [])
-    ∷ row "show: no rule at all" (showing fileA noRules 0) (14 ∷ [])
-    ∷ row "show: a number far beyond" (showing fileA rulesA 18446744073709551615) (14 ∷ [])
-    ∷ row "show: after a refusal the empty part at the start" (placing fileA marksAmongOperands 2) (0 ∷ 0 ∷ [])
+    ∷ row "show: A has no rule 1" (showing fileA (forA ++ rulesA) 1) (14 ∷ [])
+    ∷ row "show: no rule at all" (showing fileA (forA ++ noRules) 0) (14 ∷ [])
+    ∷ row "show: a number far beyond" (showing fileA (forA ++ rulesA) 18446744073709551615) (14 ∷ [])
+    ∷ row "show: after a refusal the empty part at the start" (placing fileA (forA ++ marksAmongOperands) 2) (0 ∷ 0 ∷ [])
     -- "after the rule file's own refusals", also of what stands behind rule n
-    ∷ row "show: a broken rule behind rule 0" (showing fileA brokenBehind 0) (12 ∷ [])
-    ∷ row "show: 12 before 14" (showing fileA brokenBehind 7) (12 ∷ [])
+    ∷ row "show: a broken rule behind rule 0" (showing fileA (forA ++ brokenBehind) 0) (12 ∷ [])
+    ∷ row "show: 12 before 14" (showing fileA (forA ++ brokenBehind) 7) (12 ∷ [])
     ∷ row "show: 10 before 14" (showing fileA [] 0) (10 ∷ [])
     ∷ row "show: 7 before 10" (showing roleTwice [] 0) (7 ∷ [])
     -- ---- request 3: "the fewest roles that already make a circle", one byte a role
@@ -787,49 +887,49 @@ table =
     ∷ row "circle: memory beside another refusal" (circled (hex "01 00 00 00 01 07 00 00 0F 00") 2) (hex "AA AA")
     ∷ row "circle: memory beside an accepted file" (circled fileA 2) (hex "AA AA")
     -- ---- request 4: "satisfaction for all single attributes first and for set attributes after", "and the whole is yes exactly when both are"
-    ∷ row "satisfies: a user, both halves" (satisfying bothHalves asksBoth user 0) (0 ∷ 1 ∷ 1 ∷ 1 ∷ [])
-    ∷ row "satisfies: a user, the single met and the set not" (satisfying bothHalves asksBoth user 1) (0 ∷ 1 ∷ 0 ∷ 0 ∷ [])
-    ∷ row "satisfies: a user, the set met and the single not" (satisfying bothHalves asksBoth user 2) (0 ∷ 0 ∷ 1 ∷ 0 ∷ [])
-    ∷ row "satisfies: a user of whom nothing is known" (satisfying bothHalves asksBoth user 3) (0 ∷ 0 ∷ 0 ∷ 0 ∷ [])
-    ∷ row "satisfies: a resource, both halves" (satisfying bothHalves asksBoth resource 0) (0 ∷ 1 ∷ 1 ∷ 1 ∷ [])
-    ∷ row "satisfies: a resource, the single met and the set not" (satisfying bothHalves asksBoth resource 1) (0 ∷ 1 ∷ 0 ∷ 0 ∷ [])
-    ∷ row "satisfies: a resource, the set met and the single not" (satisfying bothHalves asksBoth resource 2) (0 ∷ 0 ∷ 1 ∷ 0 ∷ [])
-    ∷ row "satisfies: a resource of which nothing is known" (satisfying bothHalves asksBoth resource 3) (0 ∷ 0 ∷ 0 ∷ 0 ∷ [])
+    ∷ row "satisfies: a user, both halves" (satisfying bothHalves (forBothHalves ++ asksBoth) user 0) (0 ∷ 1 ∷ 1 ∷ 1 ∷ [])
+    ∷ row "satisfies: a user, the single met and the set not" (satisfying bothHalves (forBothHalves ++ asksBoth) user 1) (0 ∷ 1 ∷ 0 ∷ 0 ∷ [])
+    ∷ row "satisfies: a user, the set met and the single not" (satisfying bothHalves (forBothHalves ++ asksBoth) user 2) (0 ∷ 0 ∷ 1 ∷ 0 ∷ [])
+    ∷ row "satisfies: a user of whom nothing is known" (satisfying bothHalves (forBothHalves ++ asksBoth) user 3) (0 ∷ 0 ∷ 0 ∷ 0 ∷ [])
+    ∷ row "satisfies: a resource, both halves" (satisfying bothHalves (forBothHalves ++ asksBoth) resource 0) (0 ∷ 1 ∷ 1 ∷ 1 ∷ [])
+    ∷ row "satisfies: a resource, the single met and the set not" (satisfying bothHalves (forBothHalves ++ asksBoth) resource 1) (0 ∷ 1 ∷ 0 ∷ 0 ∷ [])
+    ∷ row "satisfies: a resource, the set met and the single not" (satisfying bothHalves (forBothHalves ++ asksBoth) resource 2) (0 ∷ 0 ∷ 1 ∷ 0 ∷ [])
+    ∷ row "satisfies: a resource of which nothing is known" (satisfying bothHalves (forBothHalves ++ asksBoth) resource 3) (0 ∷ 0 ∷ 0 ∷ 0 ∷ [])
     -- "∃v ∈ e(a)", and e(a) = ⊤
-    ∷ row "satisfies: one of two values and of two sets" (satisfying bothHalves asksOneOfTwo user 1) (0 ∷ 1 ∷ 1 ∷ 1 ∷ [])
-    ∷ row "satisfies: no conjunct" (satisfying bothHalves anybody user 3) (0 ∷ 1 ∷ 1 ∷ 1 ∷ [])
+    ∷ row "satisfies: one of two values and of two sets" (satisfying bothHalves (forBothHalves ++ asksOneOfTwo) user 1) (0 ∷ 1 ∷ 1 ∷ 1 ∷ [])
+    ∷ row "satisfies: no conjunct" (satisfying bothHalves (forBothHalves ++ anybody) user 3) (0 ∷ 1 ∷ 1 ∷ 1 ∷ [])
     -- "255 being a set attribute": the users'
-    ∷ row "satisfies: the users' 255 alone, met" (satisfying bothHalves asks255 user 0) (0 ∷ 1 ∷ 1 ∷ 1 ∷ [])
-    ∷ row "satisfies: the users' 255 alone, not met" (satisfying bothHalves asks255 user 1) (0 ∷ 1 ∷ 0 ∷ 0 ∷ [])
-    ∷ row "satisfies: the resources' 255 alone, met" (satisfying bothHalves asks255 resource 0) (0 ∷ 1 ∷ 1 ∷ 1 ∷ [])
-    ∷ row "satisfies: the resources' 255 alone, not met" (satisfying bothHalves asks255 resource 1) (0 ∷ 0 ∷ 1 ∷ 0 ∷ [])
+    ∷ row "satisfies: the users' 255 alone, met" (satisfying bothHalves (forBothHalves ++ asks255) user 0) (0 ∷ 1 ∷ 1 ∷ 1 ∷ [])
+    ∷ row "satisfies: the users' 255 alone, not met" (satisfying bothHalves (forBothHalves ++ asks255) user 1) (0 ∷ 1 ∷ 0 ∷ 0 ∷ [])
+    ∷ row "satisfies: the resources' 255 alone, met" (satisfying bothHalves (forBothHalves ++ asks255) resource 0) (0 ∷ 1 ∷ 1 ∷ 1 ∷ [])
+    ∷ row "satisfies: the resources' 255 alone, not met" (satisfying bothHalves (forBothHalves ++ asks255) resource 1) (0 ∷ 0 ∷ 1 ∷ 0 ∷ [])
     -- the rule question says the same
-    ∷ row "a rule that the user and the resource satisfy" (ruleAnswer bothHalves asksBoth 0 0 0) (0 ∷ 1 ∷ [])
-    ∷ row "a rule that the user satisfies in one half: the singles" (ruleAnswer bothHalves asksBoth 1 0 0) (0 ∷ 0 ∷ [])
-    ∷ row "a rule that the user satisfies in one half: the sets" (ruleAnswer bothHalves asksBoth 2 0 0) (0 ∷ 0 ∷ [])
-    ∷ row "a rule that the resource satisfies in one half: the singles" (ruleAnswer bothHalves asksBoth 0 1 0) (0 ∷ 0 ∷ [])
-    ∷ row "a rule that the resource satisfies in one half: the sets" (ruleAnswer bothHalves asksBoth 0 2 0) (0 ∷ 0 ∷ [])
-    ∷ row "both 255s, met" (ruleAnswer bothHalves asks255 0 0 0) (0 ∷ 1 ∷ [])
-    ∷ row "both 255s, the users' not" (ruleAnswer bothHalves asks255 1 0 0) (0 ∷ 0 ∷ [])
-    ∷ row "both 255s, the resources' not" (ruleAnswer bothHalves asks255 0 1 0) (0 ∷ 0 ∷ [])
+    ∷ row "a rule that the user and the resource satisfy" (ruleAnswer bothHalves (forBothHalves ++ asksBoth) 0 0 0) (0 ∷ 1 ∷ [])
+    ∷ row "a rule that the user satisfies in one half: the singles" (ruleAnswer bothHalves (forBothHalves ++ asksBoth) 1 0 0) (0 ∷ 0 ∷ [])
+    ∷ row "a rule that the user satisfies in one half: the sets" (ruleAnswer bothHalves (forBothHalves ++ asksBoth) 2 0 0) (0 ∷ 0 ∷ [])
+    ∷ row "a rule that the resource satisfies in one half: the singles" (ruleAnswer bothHalves (forBothHalves ++ asksBoth) 0 1 0) (0 ∷ 0 ∷ [])
+    ∷ row "a rule that the resource satisfies in one half: the sets" (ruleAnswer bothHalves (forBothHalves ++ asksBoth) 0 2 0) (0 ∷ 0 ∷ [])
+    ∷ row "both 255s, met" (ruleAnswer bothHalves (forBothHalves ++ asks255) 0 0 0) (0 ∷ 1 ∷ [])
+    ∷ row "both 255s, the users' not" (ruleAnswer bothHalves (forBothHalves ++ asks255) 1 0 0) (0 ∷ 0 ∷ [])
+    ∷ row "both 255s, the resources' not" (ruleAnswer bothHalves (forBothHalves ++ asks255) 0 1 0) (0 ∷ 0 ∷ [])
     -- ---- request 5: "w1 for user conjuncts, w2 for resource conjuncts, w3 for operations, w4 for atoms, each 0 to 65,535"
-    ∷ row "weights: A by 1, 1, 7 and 100" (weighing 1 1 7 100 fileA 16) (0 ∷ 16 ∷ 2 ∷ 1 ∷ 1 ∷ 107 ∷ [])
-    ∷ row "weights: four sums, by ones" (mining fourSums 4096 44) (0 ∷ 44 ∷ 2 ∷ 1 ∷ 1 ∷ 10 ∷ [])
-    ∷ row "weights: four sums, the rule" (output fourSums 44) (hex "21 23 01 06 00 00 00 00 00 00 00 23 01 08 00 00 00 00 00 00 00 24 01 03 00 24 01 04 00 26 0F 00 27 00 00 28 00 0F 00 28 01 0F 00 2F")
-    ∷ row "weights: four sums, w1 alone" (weighing 1 0 0 0 fourSums 44) (0 ∷ 44 ∷ 2 ∷ 1 ∷ 1 ∷ 3 ∷ [])
-    ∷ row "weights: four sums, w2 alone" (weighing 0 1 0 0 fourSums 44) (0 ∷ 44 ∷ 2 ∷ 1 ∷ 1 ∷ 2 ∷ [])
-    ∷ row "weights: four sums, w3 alone" (weighing 0 0 1 0 fourSums 44) (0 ∷ 44 ∷ 2 ∷ 1 ∷ 1 ∷ 4 ∷ [])
-    ∷ row "weights: four sums, w4 alone" (weighing 0 0 0 1 fourSums 44) (0 ∷ 44 ∷ 2 ∷ 1 ∷ 1 ∷ 1 ∷ [])
-    ∷ row "weights: four sums, all 0" (weighing 0 0 0 0 fourSums 44) (0 ∷ 44 ∷ 2 ∷ 1 ∷ 1 ∷ 0 ∷ [])
-    ∷ row "weights: four sums, all 65,535" (weighing 65535 65535 65535 65535 fourSums 44) (0 ∷ 44 ∷ 2 ∷ 1 ∷ 1 ∷ 655350 ∷ [])
-    ∷ row "weights: four sums, each another" (weighing 2 30 400 5000 fourSums 44) (0 ∷ 44 ∷ 2 ∷ 1 ∷ 1 ∷ 6666 ∷ [])
+    ∷ row "weights: A by 1, 1, 7 and 100" (weighing 1 1 7 100 fileA 23) (0 ∷ 23 ∷ 2 ∷ 1 ∷ 1 ∷ 107 ∷ [])
+    ∷ row "weights: four sums, by ones" (mining fourSums 4096 51) (0 ∷ 51 ∷ 2 ∷ 1 ∷ 1 ∷ 10 ∷ [])
+    ∷ row "weights: four sums, the rule" (output fourSums 51) (forFourSums ++ hex "21 23 01 06 00 00 00 00 00 00 00 23 01 08 00 00 00 00 00 00 00 24 01 03 00 24 01 04 00 26 0F 00 27 00 00 28 00 0F 00 28 01 0F 00 2F")
+    ∷ row "weights: four sums, w1 alone" (weighing 1 0 0 0 fourSums 51) (0 ∷ 51 ∷ 2 ∷ 1 ∷ 1 ∷ 3 ∷ [])
+    ∷ row "weights: four sums, w2 alone" (weighing 0 1 0 0 fourSums 51) (0 ∷ 51 ∷ 2 ∷ 1 ∷ 1 ∷ 2 ∷ [])
+    ∷ row "weights: four sums, w3 alone" (weighing 0 0 1 0 fourSums 51) (0 ∷ 51 ∷ 2 ∷ 1 ∷ 1 ∷ 4 ∷ [])
+    ∷ row "weights: four sums, w4 alone" (weighing 0 0 0 1 fourSums 51) (0 ∷ 51 ∷ 2 ∷ 1 ∷ 1 ∷ 1 ∷ [])
+    ∷ row "weights: four sums, all 0" (weighing 0 0 0 0 fourSums 51) (0 ∷ 51 ∷ 2 ∷ 1 ∷ 1 ∷ 0 ∷ [])
+    ∷ row "weights: four sums, all 65,535" (weighing 65535 65535 65535 65535 fourSums 51) (0 ∷ 51 ∷ 2 ∷ 1 ∷ 1 ∷ 655350 ∷ [])
+    ∷ row "weights: four sums, each another" (weighing 2 30 400 5000 fourSums 51) (0 ∷ 51 ∷ 2 ∷ 1 ∷ 1 ∷ 6666 ∷ [])
     -- values and elements, on each side; the 255s' conjuncts are their side's
-    ∷ row "weights: values of users" (weighing 2 30 400 5000 userValues 17) (0 ∷ 17 ∷ 1 ∷ 1 ∷ 0 ∷ 404 ∷ [])
-    ∷ row "weights: values of resources" (weighing 2 30 400 5000 resourceValues 17) (0 ∷ 17 ∷ 1 ∷ 1 ∷ 0 ∷ 460 ∷ [])
-    ∷ row "weights: elements of resource sets" (weighing 2 30 400 5000 resourceSets 29) (0 ∷ 29 ∷ 1 ∷ 1 ∷ 0 ∷ 490 ∷ [])
-    ∷ row "weights: both 255s" (weighing 2 30 400 5000 oneOfTwo 23) (0 ∷ 23 ∷ 1 ∷ 1 ∷ 0 ∷ 432 ∷ [])
+    ∷ row "weights: values of users" (weighing 2 30 400 5000 userValues 24) (0 ∷ 24 ∷ 1 ∷ 1 ∷ 0 ∷ 404 ∷ [])
+    ∷ row "weights: values of resources" (weighing 2 30 400 5000 resourceValues 24) (0 ∷ 24 ∷ 1 ∷ 1 ∷ 0 ∷ 460 ∷ [])
+    ∷ row "weights: elements of resource sets" (weighing 2 30 400 5000 resourceSets 36) (0 ∷ 36 ∷ 1 ∷ 1 ∷ 0 ∷ 490 ∷ [])
+    ∷ row "weights: both 255s" (weighing 2 30 400 5000 oneOfTwo 30) (0 ∷ 30 ∷ 1 ∷ 1 ∷ 0 ∷ 432 ∷ [])
     -- over the rules as written: two of them
-    ∷ row "weights: two rules" (weighing 2 30 400 5000 userDomain 33) (0 ∷ 33 ∷ 2 ∷ 2 ∷ 0 ∷ 864 ∷ [])
+    ∷ row "weights: two rules" (weighing 2 30 400 5000 userDomain 40) (0 ∷ 40 ∷ 2 ∷ 2 ∷ 0 ∷ 864 ∷ [])
     -- ---- request 6: "seed 1 gives 270369 first"; then the next two outputs
     ∷ row "load: the first outputs" (xorshift 1 ∷ xorshift 270369 ∷ xorshift 67634689 ∷ []) (270369 ∷ 67634689 ∷ 2647435461 ∷ [])
     -- "every user's value, draw mod 8; every resource's value, draw mod 8; then for each role, each user ..., then for each resource and, within it, each operation"
@@ -855,6 +955,46 @@ table =
     ∷ row "load: output of one byte less, untouched" (loadedInto 1 0 0 0 0 3) (hex "AA AA AA")
     ∷ row "load: output of more" (loadedInto 1 0 0 0 0 14) (hex "01 00 00 00 00 02 00 00 02 01 00 0F AA AA")
     ∷ row "load: output beside seed 0" (loadedInto 0 0 0 0 0 2) (hex "AA AA")
+    -- ---- request 7: "The rule file opens with 20 and six one-byte operands: users, resources, operations, roles, user attributes, resource attributes"
+    ∷ row "20: the bytes of A" (output fileA 24) (hex "20 02 02 01 02 01 01 21 26 01 00 27 00 00 28 00 01 00 28 01 01 00 2F AA")
+    ∷ row "20: the bytes of nobody" (output nobody 8) (hex "20 00 00 00 00 00 00 2F")
+    ∷ row "20: six numbers in this order, attributes by 02 and by 08" (output sixNumbers 8) (hex "20 01 02 03 04 05 06 2F")
+    ∷ row "20: length 8 beside six numbers" (mining sixNumbers 4096 8) (0 ∷ 8 ∷ 0 ∷ 0 ∷ 0 ∷ 0 ∷ [])
+    ∷ row "20: nobody, and output of 7 bytes" (mining nobody 4096 7) (9 ∷ [])
+    -- the first command: no byte, an unknown one, one that is cut off; "a known one other than 20 gets 12, in the place of out of order"
+    ∷ row "first command: none" (judging fileA []) (10 ∷ [])
+    ∷ row "first command: unknown" (judging fileA (hex "1F")) (11 ∷ [])
+    ∷ row "first command: a 22 that is cut off" (judging fileA (hex "22 00 05")) (10 ∷ [])
+    ∷ row "first command: a 22" (judging fileA (hex "22 00 05 00 2F")) (12 ∷ [])
+    ∷ row "first command: 21, the rules of A without their 20" (judging fileA rulesA) (12 ∷ [])
+    ∷ row "first command: 2F" (judging fileA noRules) (12 ∷ [])
+    -- "after 20 itself has been read whole": cut off behind each byte, by 10
+    ∷ row "20: cut off behind each byte" (each (λ n. judging fileA (take n (hex "20 03 02 01 02 01 01"))) (upTo 7)) (10 ∷ 10 ∷ 10 ∷ 10 ∷ 10 ∷ 10 ∷ 10 ∷ [])
+    ∷ row "20: nothing behind it" (judging fileA forA) (10 ∷ [])
+    -- "16 for operands unlike the role file's": each of them
+    ∷ row "16: users" (judging fileA (hex "20 03 02 01 02 01 01" ++ rulesA)) (16 ∷ [])
+    ∷ row "16: resources" (judging fileA (hex "20 02 01 01 02 01 01" ++ rulesA)) (16 ∷ [])
+    ∷ row "16: operations" (judging fileA (hex "20 02 02 02 02 01 01" ++ rulesA)) (16 ∷ [])
+    ∷ row "16: roles" (judging fileA (hex "20 02 02 01 01 01 01" ++ rulesA)) (16 ∷ [])
+    ∷ row "16: user attributes" (judging fileA (hex "20 02 02 01 02 02 01" ++ rulesA)) (16 ∷ [])
+    ∷ row "16: resource attributes" (judging fileA (hex "20 02 02 01 02 01 00" ++ rulesA)) (16 ∷ [])
+    ∷ row "16: the rules of A beside nobody" (judging nobody (forA ++ rulesA)) (16 ∷ [])
+    -- given at the 20, whatever stands behind it; "after the role file's refusals", before 5 and 14; "Every call that takes both files tests them."
+    ∷ row "16 before 10" (judging fileA forNobody) (16 ∷ [])
+    ∷ row "16 before 11" (judging fileA (forNobody ++ hex "1F")) (16 ∷ [])
+    ∷ row "16 before 12" (judging fileA (forNobody ++ forNobody)) (16 ∷ [])
+    ∷ row "7 before 16" (judging roleTwice (forA ++ rulesA)) (7 ∷ [])
+    ∷ row "16 before 5" (ruleAnswer fileA (forNobody ++ rulesA) 2 0 0) (16 ∷ [])
+    ∷ row "16 before 14" (showing fileA (forNobody ++ rulesA) 1) (16 ∷ [])
+    -- "so does a second 20", of the same or of other operands; cut off it is 10, behind the end a byte after the end
+    ∷ row "a second 20: at once" (judging fileA (forA ++ forA ++ rulesA)) (12 ∷ [])
+    ∷ row "a second 20: other operands" (judging fileA (forA ++ forNobody ++ rulesA)) (12 ∷ [])
+    ∷ row "a second 20: behind a 21" (judging fileA (forA ++ hex "21" ++ forA ++ hex "26 01 00 28 00 01 00 2F")) (12 ∷ [])
+    ∷ row "a second 20: before 2F" (judging fileA (forA ++ hex "21 26 01 00 28 00 01 00" ++ forA ++ hex "2F")) (12 ∷ [])
+    ∷ row "a second 20: cut off" (judging fileA (forA ++ hex "20 02 02 01 02 01")) (10 ∷ [])
+    ∷ row "a second 20: behind 2F" (judging fileA (forA ++ rulesA ++ hex "20")) (12 ∷ [])
+    -- rule 0 begins behind the 20
+    ∷ row "show: where rule 0 of A stands" (placing fileA (forA ++ rulesA) 0) (7 ∷ 22 ∷ [])
     -- ---- the bytes of these rows: what is no digit, half a byte, and two bytes without a blank are no bytes
     ∷ row "hex: digits" (hex "00 09 0A 0F 10 F0 FF") (0 ∷ 9 ∷ 10 ∷ 15 ∷ 16 ∷ 240 ∷ 255 ∷ [])
     ∷ row "hex: no digit" (spelt "0G 0a") (noByte ∷ noByte ∷ [])

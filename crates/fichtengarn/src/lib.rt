@@ -9,11 +9,12 @@ ghost use mathlib.Core.List.{List};
 ghost use mathlib.Core.Path.{_≡_};
 ghost use Rattle.files.specs.Answer.{told, accepted};
 ghost use Rattle.files.specs.Calls.{Counts, countValues, yesNo, roleQuestion, readBoth, ruleQuestion, judge, mineAnswer, mineOutput, verdictTold, shownPlace, shownByte, circleAnswer, circleOutput};
+ghost use Rattle.files.specs.Beside.{besideOf};
 ghost use Rattle.files.specs.Demand3.{Demand3};
 ghost use Rattle.files.specs.Load.{loadAnswer, loadOutput, Readable};
 ghost use Rattle.files.specs.RoleFile.{readRoles, readCommands};
 ghost use Rattle.policy.specs.Circles.{closes, Circle};
-ghost use Rattle.policy.specs.Policy.{Policy, settingOf, rolesIn};
+ghost use Rattle.policy.specs.Policy.{Policy};
 ghost use Rattle.load_file.specs.GeneratedNumbers.{bytesWritten};
 ghost use Rattle.role_circle.specs.CircledNumbers.{rolesListed};
 ghost use Rattle.sets.specs.Tests.{Is, _isIn_};
@@ -197,7 +198,7 @@ pub extern "C" fn fichtengarn_mine(
         ≡ accepted c
         → (F : Policy)
         × (readRoles 2 (now (file .entry)) ≡ accepted F)
-        × Demand3 2 weights (settingOf F) (rolesIn F) (take (c .size) (now (out .exit))) c) ⌝ }
+        × Demand3 2 weights (besideOf F) (take (c .size) (now (out .exit))) c) ⌝ }
 {
     answers::store_mined(mining::mine(file, weights, scratch, out), counts)
 }

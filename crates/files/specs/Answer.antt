@@ -36,6 +36,8 @@ pub data Refusal : Type 0 where
   noSuchRule : Refusal
   -- request 6: "15 for seed 0"
   zeroSeed : Refusal
+  -- request 7: "operands unlike the role file's, after the role file's refusals and after 20 itself has been read whole"
+  wrongShape : Refusal
 
 -- 01's number of each
 abbrev pub numberOf : Refusal → ℕ
@@ -54,6 +56,7 @@ numberOf rulesOrder = 12
 numberOf rulesOperand = 13
 numberOf noSuchRule = 14
 numberOf zeroSeed = 15
+numberOf wrongShape = 16
 
 -- "Every refusal here and below returns only its number."
 pub data Answer (A : Type 0) : Type 0 where

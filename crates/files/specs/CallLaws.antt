@@ -13,6 +13,7 @@ use mathlib.Core.Option.{Option, none, some}
 use mathlib.Core.Path.{_≡_, refl, sym, ap, _∙_}
 use native.Mathlib.Omega.{arith}
 use Rattle.files.specs.Answer.{Refusal, Answer, told, unless, andThen, smallScratch, shortOutput, refused, accepted}
+use Rattle.files.specs.Beside.{Beside, besideOf}
 use Rattle.files.specs.BytesLaws.{Bytes, carried}
 use Rattle.files.specs.Calls.{Counts, Verdict, countValues, decided, first, triples, isTriple, rulesGrant, partsGrant, firstDifference, firstStrayRule, firstStrayPart, verdict, minedBytes, minedCounts, mayMine, mineAnswer, mineOutput, roleQuestion, readBoth, ruleQuestion, judge, differ, strayRule, strayPart, sound}
 use Rattle.files.specs.Demand3.{Demand3}
@@ -158,18 +159,18 @@ module _ (W : ℕ) where
       go (accepted F) = refl
 
   -- the demand, of the policy of any accepted role file
-  pub policy-demand : (file : List ℕ) → Bytes file → (weights : Weights) (F : Policy) → readRoles W file ≡ accepted F → Demand3 W weights (settingOf F) (rolesIn F) (minedBytes W F) (minedCounts W F weights)
+  pub policy-demand : (file : List ℕ) → Bytes file → (weights : Weights) (F : Policy) → readRoles W file ≡ accepted F → Demand3 W weights (besideOf F) (minedBytes W F) (minedCounts W F weights)
   unfolding minedBytes minedCounts
   policy-demand file b weights F h =
-      demand-3 W (settingOf F) (rolesIn F) (lawful F) (mined-of F) (encodable W F (carried (Sound W) (readRoles W file) (read-sound W file b) h)) weights (minedCounts W F weights) refl refl refl refl refl
+      demand-3 W (besideOf F) (lawful F) (mined-of F) (encodable W F (carried (Sound W) (readRoles W file) (read-sound W file b) h)) refl weights (minedCounts W F weights) refl refl refl refl refl
 
   -- THE THIRD DEMAND: of "the output's first bytes up to the length returned", whatever scratch and output held
   pub third-demand : (file : List ℕ) → Bytes file → (weights : Weights) (scratch : ℕ) (former : List ℕ) (c : Counts) → mineAnswer W file weights scratch (length former) ≡ accepted c
-      → (F : Policy) × (readRoles W file ≡ accepted F) × Demand3 W weights (settingOf F) (rolesIn F) (take (c .size) (mineOutput W file scratch former)) c
+      → (F : Policy) × (readRoles W file ≡ accepted F) × Demand3 W weights (besideOf F) (take (c .size) (mineOutput W file scratch former)) c
   unfolding minedCounts
   third-demand file b weights scratch former c h = let t = answer-out file weights scratch (length former) c h in go (t .0) c (t .1) (t .2)
     where
-      go : (F : Policy) (c : Counts) → mayMine W file scratch (length former) ≡ accepted F → c ≡ minedCounts W F weights → (F : Policy) × (readRoles W file ≡ accepted F) × Demand3 W weights (settingOf F) (rolesIn F) (take (c .size) (mineOutput W file scratch former)) c
+      go : (F : Policy) (c : Counts) → mayMine W file scratch (length former) ≡ accepted F → c ≡ minedCounts W F weights → (F : Policy) × (readRoles W file ≡ accepted F) × Demand3 W weights (besideOf F) (take (c .size) (mineOutput W file scratch former)) c
       go F c m k =
           let r = mined-out file scratch (length former) F m .reading in
           let e : take (length (minedBytes W F)) (mineOutput W file scratch former) ≡ minedBytes W F = ap (take (length (minedBytes W F))) (output-of file scratch former F m) ∙ take-append-seam (minedBytes W F) (drop (length (minedBytes W F)) former) in
@@ -238,9 +239,11 @@ sound-means P R rules h = record {
     nothing-found = none-of (firstDifference P R rules) (firstStrayRule P R rules) (firstStrayPart P R rules) h
 
 -- rules of which the demand holds are sound
-demand-sound : (W : ℕ) (weights : Weights) (P : Setting) (R : Roles) (bytes : List ℕ) (c : Counts) (D : Demand3 W weights P R bytes c) → verdict P R (D .rules) ≡ sound
+demand-sound : (W : ℕ) (weights : Weights) (B : Beside) (bytes : List ℕ) (c : Counts) (D : Demand3 W weights B bytes c) → verdict (B .setting) (B .roles) (D .rules) ≡ sound
 unfolding verdict firstDifference firstStrayRule firstStrayPart
-demand-sound W weights P R bytes c D =
+demand-sound W weights B bytes c D =
+    let P = B .setting in
+    let R = B .roles in
     rw (
       first-none (λ (t : ℕ × ℕ × ℕ). not (iff (rolesGrant P R (t .0) (t .1) (t .2)) (rulesGrant P (D .rules) (t .0) (t .1) (t .2)))) (triples P)
           (λ t m. not-so _ (iff-in (rolesGrant P R (t .0) (t .1) (t .2)) (rulesGrant P (D .rules) (t .0) (t .1) (t .2)) (sym (D .same (t .0) (t .1) (t .2) (triple-out P t m))))),
@@ -252,7 +255,7 @@ demand-sound W weights P R bytes c D =
 
 module _ (W : ℕ) (file : List ℕ) (b : Bytes file) (F : Policy) (h : readRoles W file ≡ accepted F) where
   -- the demand by some weights: what it says of the bytes holds by any
-  demanded : Demand3 W fourOnes (settingOf F) (rolesIn F) (minedBytes W F) (minedCounts W F fourOnes)
+  demanded : Demand3 W fourOnes (besideOf F) (minedBytes W F) (minedCounts W F fourOnes)
   demanded = policy-demand W file b fourOnes F h
 
   both-read : readBoth W file (minedBytes W F) ≡ accepted (F, demanded .rules)
@@ -262,7 +265,7 @@ module _ (W : ℕ) (file : List ℕ) (b : Bytes file) (F : Policy) (h : readRole
   -- the judge finds nothing amiss in mined bytes
   pub mined-judged : judge W file (minedBytes W F) ≡ accepted sound
   unfolding judge
-  mined-judged = rw (both-read, demand-sound W fourOnes (settingOf F) (rolesIn F) (minedBytes W F) (minedCounts W F fourOnes) demanded) refl
+  mined-judged = rw (both-read, demand-sound W fourOnes (besideOf F) (minedBytes W F) (minedCounts W F fourOnes) demanded) refl
 
   -- and the rules answer every question as the roles do
   pub mined-questions : (u r o : ℕ) → ruleQuestion W file (minedBytes W F) u r o ≡ roleQuestion W file u r o

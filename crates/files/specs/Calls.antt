@@ -7,8 +7,9 @@ use mathlib.Core.Bool.{Bool, cond, _&&_, not}
 use mathlib.Core.List.{List, [], _∷_, _++_, map}
 use mathlib.Core.Option.{Option, none, some}
 use Rattle.files.specs.Answer.{Answer, numberOf, unless, andThen, beyond, smallScratch, shortOutput, noSuchRule, refused, accepted}
+use Rattle.files.specs.Beside.{shapeOf, besideOf}
 use Rattle.files.specs.RoleFile.{readRoles, readCommands}
-use Rattle.files.specs.RuleFile.{Lines, ruleIn, partsIn, listings, linesOf, encodeAll, readRules}
+use Rattle.files.specs.RuleFile.{Lines, ruleIn, partsIn, listings, linesOf, encodeFile, readRules}
 use Rattle.files.specs.RulePart.{ruleStart}
 use Rattle.policy.specs.Circles.{circleOf}
 use Rattle.policy.specs.Cost.{ruleCost}
@@ -113,7 +114,7 @@ module _ (W : ℕ) where
   module _ (F : Policy) where
     -- the rule file that a policy is mined to, and the counts that go with it
     unfoldable pub minedBytes : List ℕ
-    minedBytes = encodeAll W (minedLines (settingOf F) (rolesIn F))
+    minedBytes = encodeFile W (shapeOf F) (minedLines (settingOf F) (rolesIn F))
 
     -- the cost is by the weights handed in, over the rules as written: 000, "WSC(Rules) = Σ WSC(ρ)"
     unfoldable pub minedCounts : Weights → Counts
@@ -145,9 +146,9 @@ module _ (W : ℕ) where
   unfoldable pub roleQuestion : List ℕ → ℕ → ℕ → ℕ → Answer Bool
   roleQuestion file u r o = andThen (readRoles W file) (λ F. unless (isTriple (settingOf F) u r o) beyond (accepted (rolesGrant (settingOf F) (rolesIn F) u r o)))
 
-  -- both files: 1 to 7, then 10 to 13
+  -- both files: 1 to 7, then 10 to 13 and 16
   unfoldable pub readBoth : List ℕ → List ℕ → Answer (Policy × List Lines)
-  readBoth file rules = andThen (readRoles W file) (λ F. andThen (readRules W (settingOf F) (rolesIn F) rules) (λ ls. accepted (F, ls)))
+  readBoth file rules = andThen (readRoles W file) (λ F. andThen (readRules W (besideOf F) rules) (λ ls. accepted (F, ls)))
 
   -- "whether some rule grants it: 1 to 7; then the rule file by command: ...; then 5"
   unfoldable pub ruleQuestion : List ℕ → List ℕ → ℕ → ℕ → ℕ → Answer Bool

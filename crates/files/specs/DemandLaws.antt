@@ -6,11 +6,12 @@ use mathlib.Core.List.{List, [], _∷_, List·Memᴰ·head, List·Memᴰ·tail, 
 use mathlib.Core.Path.{_≡_, refl, sym, ap, ap₂, _∙_, subst}
 use native.Mathlib.Omega.{arith}
 use Rattle.files.specs.Answer.{accepted}
+use Rattle.files.specs.Beside.{Beside}
 use Rattle.files.specs.Calls.{Counts, rulesGrant, partsGrant, minedLines}
 use Rattle.files.specs.Demand3.{Demand3}
 use Rattle.files.specs.LineLaws.{Sayable, rule-back}
 use Rattle.files.specs.ReadBackLaws.{Writable, read-back}
-use Rattle.files.specs.RuleFile.{Lines, ruleIn, listings, linesOf, encodeAll, readRules}
+use Rattle.files.specs.RuleFile.{Lines, ruleIn, listings, linesOf, encodeFile, readRules}
 use Rattle.files.specs.WriteLaws.{parts-back, listings-times, Encodable, writable, attr-numbered}
 use Rattle.policy.specs.Cost.{ruleCost}
 use Rattle.policy.specs.Covering.{cover, levelOf}
@@ -44,12 +45,18 @@ section-at : (P : Setting) (ρ : Rule) → Is (ofSection P ρ) → Is (at P 3 ρ
 unfolding ofSection
 section-at P ρ h = and-l (at P 3 ρ) (all (wellFormed P) (ρ .conds)) h
 
-module _ (W : ℕ) (P : Setting) (R : Roles) (L : Lawful P) (M : MinedRules P R) (E : Encodable W P R) where
+module _ (W : ℕ) (B : Beside) (L : Lawful (B .setting)) (M : MinedRules (B .setting) (B .roles)) (E : Encodable W (B .setting) (B .roles)) where
+  abbrev P : Setting
+  P = B .setting
+
+  abbrev R : Roles
+  R = B .roles
+
   -- what a writer asks holds of every group's rule
   sayable : (g : List ℕ) → g isIn minedGroups P R → Sayable P R (ruleOf P R g) g
   unfolding ruleOf groupBlock union
   sayable g m = record {
-    ascending = written-asc P (attr-numbered W P R E) (groupBlock P R g);
+    ascending = written-asc P (attr-numbered W B E) (groupBlock P R g);
     ordinary = written-values P (groupBlock P R g);
     had = written-had P (groupBlock P R g);
     permitted = written-allowed P L (groupBlock P R g) (M .fitting g m);
@@ -60,15 +67,15 @@ module _ (W : ℕ) (P : Setting) (R : Roles) (L : Lawful P) (M : MinedRules P R)
     some-part = let s = M .filled g m in let t = any-out (λ p. partBlock P R p (s .u) (s .r) (s .o)) g (s .inside) in (t .0, t .1);
   }
 
-  mined-taken : readRules W P R (encodeAll W (minedLines P R)) ≡ accepted (minedLines P R)
+  mined-taken : length (B .shape) ≡ 6 → readRules W B (encodeFile W (B .shape) (minedLines P R)) ≡ accepted (minedLines P R)
   unfolding minedLines
-  mined-taken = read-back W P R (map (λ g. linesOf P R (ruleOf P R g) g) (minedGroups P R)) λ ls m.
+  mined-taken six = read-back W B six (map (λ g. linesOf P R (ruleOf P R g) g) (minedGroups P R)) λ ls m.
       let t = map-out (λ g. linesOf P R (ruleOf P R g) g) (minedGroups P R) m in
-      subst (Writable W P R) (sym (t .2)) (writable W P R E (ruleOf P R (t .0)) (t .0) (sayable (t .0) (t .1)))
+      subst (Writable W B) (sym (t .2)) (writable W B E (ruleOf P R (t .0)) (t .0) (sayable (t .0) (t .1)))
 
   -- a group's lines say its rule, and its parts
   says-rule : (g : List ℕ) → g isIn minedGroups P R → ruleIn P (linesOf P R (ruleOf P R g) g) ≡ ruleOf P R g
-  says-rule g m = rule-back P R (ruleOf P R g) g (sayable g m) (attr-numbered W P R E)
+  says-rule g m = rule-back P R (ruleOf P R g) g (sayable g m) (attr-numbered W B E)
 
   says-parts : (g : List ℕ) → g isIn minedGroups P R → partsGrant P R (linesOf P R (ruleOf P R g) g) ≡ groupBlock P R g
   says-parts g m = parts-back P R (ruleOf P R g) g (M .members g m)
@@ -95,12 +102,12 @@ module _ (W : ℕ) (P : Setting) (R : Roles) (L : Lawful P) (M : MinedRules P R)
       ∙ M .triples u r o t
 
   -- THE THEOREM, of any policy whose rules can be written
-  pub demand-3 : (weights : Weights) (c : Counts) → c .size ≡ length (encodeAll W (minedLines P R)) → c .parts ≡ partCount P R → c .rules ≡ length (minedGroups P R) → c .merges ≡ mergeCount P R
-      → c .cost ≡ sum (λ g. ruleCost P weights (ruleOf P R g)) (minedGroups P R) → Demand3 W weights P R (encodeAll W (minedLines P R)) c
+  pub demand-3 : length (B .shape) ≡ 6 → (weights : Weights) (c : Counts) → c .size ≡ length (encodeFile W (B .shape) (minedLines P R)) → c .parts ≡ partCount P R → c .rules ≡ length (minedGroups P R) → c .merges ≡ mergeCount P R
+      → c .cost ≡ sum (λ g. ruleCost P weights (ruleOf P R g)) (minedGroups P R) → Demand3 W weights B (encodeFile W (B .shape) (minedLines P R)) c
   unfolding minedLines ruleOf
-  demand-3 weights c size parts rules merges cost = record {
+  demand-3 six weights c size parts rules merges cost = record {
     rules = minedLines P R;
-    taken = mined-taken;
+    taken = mined-taken six;
     same = mined-same;
     once = λ p l. listed-once p l;
     exact = each-mined (λ ls. Same P (grants P (ruleIn P ls)) (partsGrant P R ls)) (λ g m. rw (says-rule g m, says-parts g m) (M .exact g m));

@@ -1,6 +1,7 @@
 pub mod Answer
 pub mod Bytes
 pub mod RoleFile
+pub mod Beside
 pub mod RuleFile
 pub mod RulePart
 pub mod Calls

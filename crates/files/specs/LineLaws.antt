@@ -11,7 +11,7 @@ use mathlib.Core.Path.{_≡_, refl, sym, ap, ap₂, _∙_}
 use native.Mathlib.Omega.{arith}
 use Rattle.files.specs.ReadBackLaws.{lines-strict}
 use Rattle.files.specs.RoleFile.{sameSide}
-use Rattle.files.specs.RuleFile.{RuleCommand, valueByte, precedes, isOperations, isPartLine, Lines, listed, linkOf, ifOperations, operationsIn, namesPart, valuesIn, conjunctsIn, ruleIn, condLines, allLines, linesOf, opens, value, operations, link, part, ends}
+use Rattle.files.specs.RuleFile.{RuleCommand, valueByte, precedes, isOperations, isPartLine, Lines, listed, linkOf, ifOperations, operationsIn, namesPart, valuesIn, conjunctsIn, ruleIn, condLines, allLines, linesOf, reshapes, opens, value, operations, link, part, ends}
 use Rattle.policy.specs.MergeLaws.{Every}
 use Rattle.policy.specs.Mined.{partCount, partAt}
 use Rattle.policy.specs.OrderLaws.{key, Numbered, attrs-rising, attrs-below, Ordinary, side-base}
@@ -39,6 +39,7 @@ listed-in : (w : Which) (set : Bool) (a v : ℕ) → v isIn listed w set a (valu
 listed-in w set a v = only-in v (and-in (side-same w) (and-in (iff-in set set refl) (eq-eqb a a refl)))
 
 listed-out : (w : Which) (set : Bool) (a : ℕ) (c : RuleCommand) {v : ℕ} → v isIn listed w set a c → c ≡ value w set a v
+listed-out w set a reshapes m = absurd (List·Memᴰ·not-nil m)
 listed-out w set a opens m = absurd (List·Memᴰ·not-nil m)
 listed-out w set a (value x s b u) {v} m = go (only-out (sameSide w x && (iff set s && eqb a b)) m)
   where
@@ -55,6 +56,7 @@ listed-out w set a (part k n) m = absurd (List·Memᴰ·not-nil m)
 listed-out w set a ends m = absurd (List·Memᴰ·not-nil m)
 
 linked-out : (c : RuleCommand) {d : Cond} → d isIn linkOf c → (a b : ℕ) × (c ≡ link a b) × (d ≡ atom a b)
+linked-out reshapes m = absurd (List·Memᴰ·not-nil m)
 linked-out opens m = absurd (List·Memᴰ·not-nil m)
 linked-out (value w set a v) m = absurd (List·Memᴰ·not-nil m)
 linked-out (operations n) m = absurd (List·Memᴰ·not-nil m)
@@ -64,6 +66,7 @@ linked-out (part k n) m = absurd (List·Memᴰ·not-nil m)
 linked-out ends m = absurd (List·Memᴰ·not-nil m)
 
 pub names-out : (k m : ℕ) (c : RuleCommand) → Is (namesPart k m c) → c ≡ part k m
+names-out k m reshapes h = absurd (false≢true h)
 names-out k m opens h = absurd (false≢true h)
 names-out k m (value w set a v) h = absurd (false≢true h)
 names-out k m (operations n) h = absurd (false≢true h)
@@ -75,6 +78,7 @@ pub names-in : (k m : ℕ) → Is (namesPart k m (part k m))
 names-in k m = and-in (eq-eqb k k refl) (eq-eqb m m refl)
 
 abbrev isValue : RuleCommand → Bool
+isValue reshapes = false
 isValue opens = false
 isValue (value w set a v) = true
 isValue (operations m) = false
@@ -84,6 +88,7 @@ isValue ends = false
 
 -- the operand of the only line 26
 pub is-operations : (c : RuleCommand) → Is (isOperations c) → (n : ℕ) × (c ≡ operations n)
+is-operations reshapes h = absurd (false≢true h)
 is-operations opens h = absurd (false≢true h)
 is-operations (value w set a v) h = absurd (false≢true h)
 is-operations (operations n) h = (n, refl)
@@ -96,6 +101,7 @@ abbrev pub operationsOr : RuleCommand → ℕ → ℕ
 operationsOr c n = ifOperations (λ m. m) n c
 
 pub other-line : (c : RuleCommand) (n : ℕ) → isOperations c ≡ false → operationsOr c n ≡ n
+other-line reshapes n h = refl
 other-line opens n h = refl
 other-line (value w set a v) n h = refl
 other-line (operations m) n h = absurd (false≢true (sym h))
@@ -257,6 +263,7 @@ module _ (P : Setting) (R : Roles) where
         lines-rising
       where
         listed-rising : (c : RuleCommand) → Rising (Before ltb) (listed w (P .side w .isSet a) a c)
+        listed-rising reshapes = none-left
         listed-rising opens = none-left
         listed-rising (value x s b u) = only-rising (sameSide w x && (iff (P .side w .isSet a) s && eqb a b)) u
         listed-rising (operations m) = none-left
@@ -330,6 +337,7 @@ module _ (P : Setting) (R : Roles) where
         links-asc = each-rising linkOf link-rising ordered lines-rising
           where
             link-rising : (c : RuleCommand) → Ascending key (linkOf c)
+            link-rising reshapes = none-left
             link-rising opens = none-left
             link-rising (value w set a v) = none-left
             link-rising (operations m) = none-left

@@ -1,6 +1,7 @@
 -- The reader takes back every file of rules that ascend, are whole and have legal operands.
 -- Assumes nothing.
-use Prim.Native.Nat.{ℕ, suc}
+use Prim.Native.Nat.{ℕ, zero, suc}
+use borrow.Author.Tests.{eq-eqb}
 use lib.ListN.{length, getD, set, drop}
 use mathlib.Core.Bool.{Bool, true, false, _&&_, false≢true}
 use mathlib.Core.List.{List, [], _∷_, _++_, append-assoc, List·Memᴰ·head, List·Memᴰ·tail, List·Memᴰ·not-nil, Memᴰ·append-left, Memᴰ·append-right, List·Memᴰ·cases-cons, append-nil}
@@ -8,13 +9,13 @@ use mathlib.Core.Logic.{_⊎_, inl, inr}
 use mathlib.Core.Option.{none, some}
 use mathlib.Core.Path.{_≡_, refl, sym, ap, _∙_, subst}
 use native.Mathlib.Omega.{arith}
-use Rattle.files.specs.Answer.{Answer, accepted}
-use Rattle.files.specs.Bytes.{spreadAll}
+use Rattle.files.specs.Answer.{Answer, andThen, accepted}
+use Rattle.files.specs.Beside.{Beside}
+use Rattle.files.specs.Bytes.{operands, spreadAll}
 use Rattle.files.specs.BytesLaws.{Fit, Reads, reads-on, reads-end}
-use Rattle.files.specs.RuleFile.{RuleCommand, byteOf, operandsOf, ruleCommand, precedes, isOperations, Lines, Reading, endsFile, whole, finished, follows, legal, addLine, obeyRule, widthsOr, ruleWidths, encode, encodeAll, ruleFormat, readRules, opens, value, operations, link, part, ends}
+use Rattle.files.specs.RuleFile.{RuleCommand, byteOf, operandsOf, ruleCommand, precedes, isOperations, Lines, Reading, endsFile, whole, finished, follows, legal, addLine, obeyRule, alike, openedBy, widthsOr, ruleWidths, encode, encodeAll, encodeFile, opened, ruleFormat, readBody, readRules, reshapes, opens, value, operations, link, part, ends}
 use Rattle.policy.specs.MergeLaws.{Every}
-use Rattle.policy.specs.Roles.{Roles}
-use Rattle.policy.specs.Rules.{Setting, user, resource}
+use Rattle.policy.specs.Rules.{user, resource}
 use Rattle.sets.specs.Sorted.{Rising, and-then}
 use Rattle.sets.specs.SortedLaws.{Before, Strict, before-apart, before-chain, before-equal}
 use Rattle.sets.specs.Tests.{Is, _isIn_, any, each}
@@ -24,6 +25,7 @@ use Rattle.sets.specs.TestLaws.{and-in, and-l, and-r, fails, all-in, any-out, n
 
 -- a command is known by its byte and operands
 pub command-of : (c : RuleCommand) → ruleCommand (byteOf c) (operandsOf c) ≡ c
+command-of reshapes = refl
 command-of opens = refl
 command-of (value user false a v) = refl
 command-of (value user true a v) = refl
@@ -42,8 +44,9 @@ lines-strict = record {
   equal = λ c d p q. sym (command-of c) ∙ ap (λ (l : List ℕ). ruleCommand (getD l 0 0) (drop 1 l)) (before-equal (byteOf c ∷ operandsOf c) (byteOf d ∷ operandsOf d) p q) ∙ command-of d;
 }
 
--- a line stands within a rule: it is no 21 and no 2F
+-- a line stands within a rule: it is no 20, no 21 and no 2F
 abbrev pub inner : RuleCommand → Bool
+inner reshapes = false
 inner opens = false
 inner (value w set a v) = true
 inner (operations m) = true
@@ -51,8 +54,32 @@ inner (link a b) = true
 inner (part k m) = true
 inner ends = false
 
+-- ---- the first command
+
+-- operands of one byte each
+abbrev pub ones : ℕ → List ℕ
+ones zero = []
+ones (suc n) = 1 ∷ ones n
+
+-- numbers that are written one behind the other are read as so many operands of one byte
+ones-read : (n : ℕ) (xs rest : List ℕ) → length xs ≡ n → operands (ones n) (xs ++ rest) ≡ some (xs, rest)
+ones-read zero [] rest h = refl
+ones-read zero (x ∷ xs) rest h = absurd (omega arith)
+ones-read (suc n) [] rest h = absurd (omega arith)
+ones-read (suc n) (x ∷ xs) rest h = rw (ones-read n xs rest (omega arith)) (ap (λ (y : ℕ). some (y ∷ xs, rest)) (omega arith))
+
+pub alike-same : (xs : List ℕ) → Is (alike xs xs)
+alike-same [] = refl
+alike-same (x ∷ xs) = and-in (eq-eqb x x refl) (alike-same xs)
+
+-- behind a 20 with the shape that is asked for stands the rest
+pub opened-written : (W : ℕ) (shape rest : List ℕ) → length shape ≡ 6 → opened W shape (0x20 ∷ (shape ++ rest)) ≡ accepted rest
+unfolding opened
+opened-written W shape rest l = rw (ones-read 6 shape rest l, alike-same shape) refl
+
 module _ (W : ℕ) where
   pub widths-of : (c : RuleCommand) → ruleWidths W (byteOf c) ≡ some (widthsOr (ruleWidths W (byteOf c)))
+  widths-of reshapes = refl
   widths-of opens = refl
   widths-of (value user false a v) = refl
   widths-of (value user true a v) = refl
@@ -67,8 +94,9 @@ module _ (W : ℕ) where
   abbrev pub FitsWidths : RuleCommand → Type 0
   FitsWidths c = Fit (widthsOr (ruleWidths W (byteOf c))) (operandsOf c)
 
-  module _ (P : Setting) (R : Roles) where
+  module _ (B : Beside) where
     inner-ends : (c : RuleCommand) → Is (inner c) → endsFile c ≡ false
+    inner-ends reshapes h = refl
     inner-ends opens h = refl
     inner-ends (value w set a v) h = refl
     inner-ends (operations m) h = refl
@@ -76,8 +104,9 @@ module _ (W : ℕ) where
     inner-ends (part k m) h = refl
     inner-ends ends h = sym h
 
-    inner-obey : (s : Reading) (c : RuleCommand) → Is (inner c) → obeyRule P R s c ≡ addLine P R s c
+    inner-obey : (s : Reading) (c : RuleCommand) → Is (inner c) → obeyRule B s c ≡ addLine B s c
     unfolding obeyRule
+    inner-obey s reshapes h = absurd (false≢true h)
     inner-obey s opens h = absurd (false≢true h)
     inner-obey s (value w set a v) h = refl
     inner-obey s (operations m) h = refl
@@ -88,7 +117,7 @@ module _ (W : ℕ) where
     -- a line of a rule that may be written
     pub record Good (c : RuleCommand) : Type 0 where
       pub within : Is (inner c)
-      pub legally : Is (legal P R c)
+      pub legally : Is (legal B c)
       pub room : FitsWidths c
 
     -- the lines of a rule that may be written
@@ -122,7 +151,7 @@ module _ (W : ℕ) where
             lines-strict .apart c c q q
 
     line-added : (done : List Lines) (pre : Lines) (c : RuleCommand) (ls : Lines) → Writable (pre ++ (c ∷ ls))
-        → obeyRule P R (record { complete = done; current = some pre }) c ≡ accepted (record { complete = done; current = some (pre ++ (c ∷ [])) })
+        → obeyRule B (record { complete = done; current = some pre }) c ≡ accepted (record { complete = done; current = some (pre ++ (c ∷ [])) })
     unfolding addLine
     line-added done pre c ls w =
         let g = w .good c (Memᴰ·append-right pre (List·Memᴰ·head refl)) in
@@ -130,24 +159,24 @@ module _ (W : ℕ) where
 
     -- a rule's lines are read one after the other
     read-lines : (done : List Lines) (pre ls : Lines) (rest : List ℕ) (a : Answer (Reading)) → Writable (pre ++ ls)
-        → Reads (ruleFormat W P R) (record { complete = done; current = some (pre ++ ls) }) rest a → Reads (ruleFormat W P R) (record { complete = done; current = some pre }) (each (encode W) ls ++ rest) a
+        → Reads (ruleFormat W B) (record { complete = done; current = some (pre ++ ls) }) rest a → Reads (ruleFormat W B) (record { complete = done; current = some pre }) (each (encode W) ls ++ rest) a
     unfolding encode ruleFormat
-    read-lines done pre [] rest a w r = subst (λ (l : Lines). Reads (ruleFormat W P R) (record { complete = done; current = some l }) rest a) (append-nil pre) r
+    read-lines done pre [] rest a w r = subst (λ (l : Lines). Reads (ruleFormat W B) (record { complete = done; current = some l }) rest a) (append-nil pre) r
     read-lines done pre (c ∷ ls) rest a w r = line (read-lines done (pre ++ (c ∷ [])) ls rest a (rw append-assoc w) (rw append-assoc r))
       where
-        line : Reads (ruleFormat W P R) (record { complete = done; current = some (pre ++ (c ∷ [])) }) (each (encode W) ls ++ rest) a → Reads (ruleFormat W P R) (record { complete = done; current = some pre }) (each (encode W) (c ∷ ls) ++ rest) a
+        line : Reads (ruleFormat W B) (record { complete = done; current = some (pre ++ (c ∷ [])) }) (each (encode W) ls ++ rest) a → Reads (ruleFormat W B) (record { complete = done; current = some pre }) (each (encode W) (c ∷ ls) ++ rest) a
         line r =
             let g = w .good c (Memᴰ·append-right pre (List·Memᴰ·head refl)) in
-            subst (λ (l : List ℕ). Reads (ruleFormat W P R) (record { complete = done; current = some pre }) (byteOf c ∷ l) a) (sym (append-assoc (spreadAll (widthsOr (ruleWidths W (byteOf c))) (operandsOf c)) (each (encode W) ls) rest))
-            (reads-on (ruleFormat W P R) (record { complete = done; current = some pre }) (record { complete = done; current = some (pre ++ (c ∷ [])) }) (byteOf c) (widthsOr (ruleWidths W (byteOf c))) (operandsOf c) (each (encode W) ls ++ rest) a
-            (widths-of c) (g .room) (ap (obeyRule P R (record { complete = done; current = some pre })) (command-of c) ∙ line-added done pre c ls w) (ap (endsFile) (command-of c) ∙ inner-ends c (g .within)) r)
+            subst (λ (l : List ℕ). Reads (ruleFormat W B) (record { complete = done; current = some pre }) (byteOf c ∷ l) a) (sym (append-assoc (spreadAll (widthsOr (ruleWidths W (byteOf c))) (operandsOf c)) (each (encode W) ls) rest))
+            (reads-on (ruleFormat W B) (record { complete = done; current = some pre }) (record { complete = done; current = some (pre ++ (c ∷ [])) }) (byteOf c) (widthsOr (ruleWidths W (byteOf c))) (operandsOf c) (each (encode W) ls ++ rest) a
+            (widths-of c) (g .room) (ap (obeyRule B (record { complete = done; current = some pre })) (command-of c) ∙ line-added done pre c ls w) (ap (endsFile) (command-of c) ∙ inner-ends c (g .within)) r)
 
     -- the rest of a file: rules that may be written, and the end
     read-rules : (s : Reading) (done rules : List Lines) → finished s ≡ accepted done → Every Writable rules
-        → Reads (ruleFormat W P R) s (each (λ ls. each (encode W) (opens ∷ ls)) rules ++ encode W ends) (accepted (record { complete = done ++ rules; current = none }))
+        → Reads (ruleFormat W B) s (each (λ ls. each (encode W) (opens ∷ ls)) rules ++ encode W ends) (accepted (record { complete = done ++ rules; current = none }))
     unfolding encode ruleFormat obeyRule finished
     read-rules s done [] f w =
-        reads-end (ruleFormat W P R) s (record { complete = done ++ []; current = none }) 0x2F refl (rw (f, append-nil done) refl) refl
+        reads-end (ruleFormat W B) s (record { complete = done ++ []; current = none }) 0x2F refl (rw (f, append-nil done) refl) refl
     read-rules s done (ls ∷ rules) f w = opened (read-rules (record { complete = done; current = some ls }) (done ++ (ls ∷ [])) rules closed (λ k m. w k (List·Memᴰ·tail m)))
       where
         closed : finished (record { complete = done; current = some ls }) ≡ accepted (done ++ (ls ∷ []))
@@ -156,15 +185,20 @@ module _ (W : ℕ) where
         more-rules : List ℕ
         more-rules = each (λ ls. each (encode W) (opens ∷ ls)) rules ++ encode W ends
 
-        opened : Reads (ruleFormat W P R) (record { complete = done; current = some ls }) more-rules (accepted (record { complete = (done ++ (ls ∷ [])) ++ rules; current = none }))
-            → Reads (ruleFormat W P R) s (each (λ ls. each (encode W) (opens ∷ ls)) (ls ∷ rules) ++ encode W ends) (accepted (record { complete = done ++ (ls ∷ rules); current = none }))
+        opened : Reads (ruleFormat W B) (record { complete = done; current = some ls }) more-rules (accepted (record { complete = (done ++ (ls ∷ [])) ++ rules; current = none }))
+            → Reads (ruleFormat W B) s (each (λ ls. each (encode W) (opens ∷ ls)) (ls ∷ rules) ++ encode W ends) (accepted (record { complete = done ++ (ls ∷ rules); current = none }))
         opened r =
-            subst (λ (l : List ℕ). Reads (ruleFormat W P R) s (0x21 ∷ l) (accepted (record { complete = done ++ (ls ∷ rules); current = none }))) (sym (append-assoc (each (encode W) ls) (each (λ ls. each (encode W) (opens ∷ ls)) rules) (encode W ends)))
-            (reads-on (ruleFormat W P R) s (record { complete = done; current = some [] }) 0x21 [] [] (each (encode W) ls ++ more-rules) (accepted (record { complete = done ++ (ls ∷ rules); current = none }))
+            subst (λ (l : List ℕ). Reads (ruleFormat W B) s (0x21 ∷ l) (accepted (record { complete = done ++ (ls ∷ rules); current = none }))) (sym (append-assoc (each (encode W) ls) (each (λ ls. each (encode W) (opens ∷ ls)) rules) (encode W ends)))
+            (reads-on (ruleFormat W B) s (record { complete = done; current = some [] }) 0x21 [] [] (each (encode W) ls ++ more-rules) (accepted (record { complete = done ++ (ls ∷ rules); current = none }))
             refl tt (rw f refl) refl
             (read-lines done [] ls more-rules (accepted (record { complete = done ++ (ls ∷ rules); current = none })) (w ls (List·Memᴰ·head refl)) (rw append-assoc at r)))
 
-    -- THE LAW: a file of such rules is read back as it was written
-    pub read-back : (rules : List Lines) → Every Writable rules → readRules W P R (encodeAll W rules) ≡ accepted rules
-    unfolding readRules encodeAll finished
-    read-back rules w = rw (read-rules (record { complete = []; current = none }) [] rules refl w (suc (length (encodeAll W rules))) (omega arith)) refl
+    -- such rules are read back as they were written
+    body-back : (rules : List Lines) → Every Writable rules → readBody W B (encodeAll W rules) ≡ accepted rules
+    unfolding readBody encodeAll finished
+    body-back rules w = rw (read-rules (record { complete = []; current = none }) [] rules refl w (suc (length (encodeAll W rules))) (omega arith)) refl
+
+    -- THE LAW: a file of such rules, and with this shape of six numbers, is read back as it was written
+    pub read-back : length (B .shape) ≡ 6 → (rules : List Lines) → Every Writable rules → readRules W B (encodeFile W (B .shape) rules) ≡ accepted rules
+    unfolding readRules encodeFile
+    read-back l rules w = ap (λ (a : Answer (List ℕ)). andThen a (readBody W B)) (opened-written W (B .shape) (encodeAll W rules) l) ∙ body-back rules w

@@ -6,8 +6,9 @@ use lib.ListN.{length, getD}
 use mathlib.Core.Bool.{Bool, true, false, cond, _&&_, not}
 use mathlib.Core.List.{List, [], _∷_, _++_, map}
 use mathlib.Core.Option.{Option, none, some}
-use Rattle.files.specs.Answer.{Answer, unless, andThen, rulesCutOff, rulesUnknown, rulesOrder, rulesOperand, refused, accepted}
-use Rattle.files.specs.Bytes.{spreadAll, Format, read}
+use Rattle.files.specs.Answer.{Answer, unless, andThen, rulesCutOff, rulesUnknown, rulesOrder, rulesOperand, wrongShape, refused, accepted}
+use Rattle.files.specs.Beside.{Beside}
+use Rattle.files.specs.Bytes.{operands, spreadAll, Format, read}
 use Rattle.files.specs.RoleFile.{sameSide}
 use Rattle.policy.specs.Mined.{partCount, partAt}
 use Rattle.policy.specs.Roles.{Roles, parts, classOf}
@@ -16,6 +17,8 @@ use Rattle.sets.specs.Sorted.{sort, before}
 use Rattle.sets.specs.Tests.{iff, all, any, keep, each, only, upTo, isSome, sum}
 
 pub data RuleCommand : Type 0 where
+  -- 20 behind the first command, whatever its operands
+  reshapes : RuleCommand
   -- 21 opens a rule
   opens : RuleCommand
   -- 22 to 25: side, is it a set; attribute, value
@@ -36,6 +39,7 @@ valueByte resource false = 0x24
 valueByte resource true = 0x25
 
 abbrev pub byteOf : RuleCommand → ℕ
+byteOf reshapes = 0x20
 byteOf opens = 0x21
 byteOf (value w set a v) = valueByte w set
 byteOf (operations m) = 0x26
@@ -44,6 +48,7 @@ byteOf (part k m) = 0x28
 byteOf ends = 0x2F
 
 abbrev pub operandsOf : RuleCommand → List ℕ
+operandsOf reshapes = []
 operandsOf opens = []
 operandsOf (value w set a v) = a ∷ v ∷ []
 operandsOf (operations m) = m ∷ []
@@ -54,40 +59,42 @@ operandsOf ends = []
 -- the command of a known byte with its operands
 abbrev pub ruleCommand : ℕ → List ℕ → RuleCommand
 ruleCommand b xs =
-    cond (eqb b 0x21) opens
+    cond (eqb b 0x20) reshapes
+    (cond (eqb b 0x21) opens
     (cond (eqb b 0x22) (value user false (getD xs 0 0) (getD xs 1 0))
     (cond (eqb b 0x23) (value user true (getD xs 0 0) (getD xs 1 0))
     (cond (eqb b 0x24) (value resource false (getD xs 0 0) (getD xs 1 0))
     (cond (eqb b 0x25) (value resource true (getD xs 0 0) (getD xs 1 0))
     (cond (eqb b 0x26) (operations (getD xs 0 0))
     (cond (eqb b 0x27) (link (getD xs 0 0) (getD xs 1 0))
-    (cond (eqb b 0x28) (part (getD xs 0 0) (getD xs 1 0)) ends)))))))
+    (cond (eqb b 0x28) (part (getD xs 0 0) (getD xs 1 0)) ends))))))))
 
 -- Something for each sort of command; and of one sort, with a default `d` for all others.
 module _ {A : Type 0} where
-  abbrev pub byCommand : A → (Which → Bool → ℕ → ℕ → A) → (ℕ → A) → (ℕ → ℕ → A) → (ℕ → ℕ → A) → A → RuleCommand → A
-  byCommand f g h i j k opens = f
-  byCommand f g h i j k (value w set a v) = g w set a v
-  byCommand f g h i j k (operations m) = h m
-  byCommand f g h i j k (link a b) = i a b
-  byCommand f g h i j k (part r m) = j r m
-  byCommand f g h i j k ends = k
+  abbrev pub byCommand : A → A → (Which → Bool → ℕ → ℕ → A) → (ℕ → A) → (ℕ → ℕ → A) → (ℕ → ℕ → A) → A → RuleCommand → A
+  byCommand e f g h i j k reshapes = e
+  byCommand e f g h i j k opens = f
+  byCommand e f g h i j k (value w set a v) = g w set a v
+  byCommand e f g h i j k (operations m) = h m
+  byCommand e f g h i j k (link a b) = i a b
+  byCommand e f g h i j k (part r m) = j r m
+  byCommand e f g h i j k ends = k
 
   abbrev pub ifValue : (Which → Bool → ℕ → ℕ → A) → A → RuleCommand → A
-  ifValue f d = byCommand d f (λ m. d) (λ a b. d) (λ k m. d) d
+  ifValue f d = byCommand d d f (λ m. d) (λ a b. d) (λ k m. d) d
 
   abbrev pub ifOperations : (ℕ → A) → A → RuleCommand → A
-  ifOperations f d = byCommand d (λ w set a v. d) f (λ a b. d) (λ k m. d) d
+  ifOperations f d = byCommand d d (λ w set a v. d) f (λ a b. d) (λ k m. d) d
 
   abbrev pub ifLink : (ℕ → ℕ → A) → A → RuleCommand → A
-  ifLink f d = byCommand d (λ w set a v. d) (λ m. d) f (λ k m. d) d
+  ifLink f d = byCommand d d (λ w set a v. d) (λ m. d) f (λ k m. d) d
 
   abbrev pub ifPart : (ℕ → ℕ → A) → A → RuleCommand → A
-  ifPart f d = byCommand d (λ w set a v. d) (λ m. d) (λ a b. d) f d
+  ifPart f d = byCommand d d (λ w set a v. d) (λ m. d) (λ a b. d) f d
 
-  -- a command that opens a rule, the one that ends the file, and a line within a rule
-  abbrev pub byPlace : A → A → A → RuleCommand → A
-  byPlace f g d = byCommand f (λ w set a v. d) (λ m. d) (λ a b. d) (λ k m. d) g
+  -- another 20, a command that opens a rule, the one that ends the file, and a line within a rule
+  abbrev pub byPlace : A → A → A → A → RuleCommand → A
+  byPlace e f g d = byCommand e f (λ w set a v. d) (λ m. d) (λ a b. d) (λ k m. d) g
 
 -- "ascend strictly by command byte, then operands as numbers"
 abbrev pub precedes : RuleCommand → RuleCommand → Bool
@@ -167,7 +174,7 @@ pub record Reading : Type 0 where
   pub current : Option Lines
 
 abbrev pub endsFile : RuleCommand → Bool
-endsFile = byPlace false true false
+endsFile = byPlace false false true false
 
 -- a 26 and a 28 are there: "missing (seen at the next 21 or 2F)". A second 26 is refused where it stands (follows)
 unfoldable pub whole : Lines → Bool
@@ -181,22 +188,27 @@ finished s = elim (s .current) [ none ↦ accepted (s .complete) | some ls ↦ u
 unfoldable pub follows : Lines → RuleCommand → Bool
 follows ls c = all (λ d. precedes d c) ls && not (isOperations c && any isOperations ls)
 
-module _ (P : Setting) (R : Roles) where
-  -- "255 stands only in 23, with roles as elements, and in 24, with a resource number"
-  abbrev pub ownValue : Which → Bool → ℕ → Bool
-  ownValue user true v = ltb v (2 ^ R .number)
-  ownValue user false v = false
-  ownValue resource true v = false
-  ownValue resource false v = ltb v (P .side resource .count)
+-- "255 stands only in 23, with roles as elements, and in 24, with a resource number"
+abbrev pub ownValue : Setting → Roles → Which → Bool → ℕ → Bool
+ownValue P R user true v = ltb v (2 ^ R .number)
+ownValue P R user false v = false
+ownValue P R resource true v = false
+ownValue P R resource false v = ltb v (P .side resource .count)
 
+-- B is what the role file states
+module _ (B : Beside) where
   -- "13 an operand beyond its size, of the wrong kind (an atom of a single user attribute and a set resource attribute
   -- too), a zero operation set, or no part of that file"
   unfoldable pub legal : RuleCommand → Bool
+  legal reshapes = false
   legal opens = true
-  legal (value w set a v) = cond (eqb a own) (ownValue w set v) (ltb a (P .side w .attrs) && iff (P .side w .isSet a) set)
-  legal (operations m) = ltb 0 m && ltb m (2 ^ P .slots)
-  legal (link a b) = ltb a (P .side user .attrs) && (ltb b (P .side resource .attrs) && isSome (atomForm P a b))
-  legal (part k m) = any (λ p. eqb k (p .role) && eqb m (classOf P R p)) (parts P R)
+  legal (value w set a v) =
+      cond (eqb a own) (ownValue (B .setting) (B .roles) w set v)
+      (ltb a (B .setting .side w .attrs) && iff (B .setting .side w .isSet a) set)
+  legal (operations m) = ltb 0 m && ltb m (2 ^ B .setting .slots)
+  legal (link a b) =
+      ltb a (B .setting .side user .attrs) && (ltb b (B .setting .side resource .attrs) && isSome (atomForm (B .setting) a b))
+  legal (part k m) = any (λ p. eqb k (p .role) && eqb m (classOf (B .setting) (B .roles) p)) (parts (B .setting) (B .roles))
   legal ends = true
 
   -- a line of the open rule: "12 out of order", then 13
@@ -207,13 +219,27 @@ module _ (P : Setting) (R : Roles) where
         | some ls ↦ unless (follows ls c) rulesOrder (unless (legal c) rulesOperand (accepted (record { complete = s .complete; current = some (ls ++ (c ∷ [])) })))
       ]
 
-  -- 21 and 2F close the open rule; 21 opens another
+  -- 21 and 2F close the open rule; 21 opens another; "so does a second 20": 12
   unfoldable pub obeyRule : Reading → RuleCommand → Answer Reading
   obeyRule s c =
       byPlace
+      (refused rulesOrder)
       (andThen (finished s) (λ done. accepted (record { complete = done; current = some [] })))
       (andThen (finished s) (λ done. accepted (record { complete = done; current = none })))
       (addLine s c) c
+
+-- two lists of numbers are the same
+abbrev pub alike : List ℕ → List ℕ → Bool
+alike [] [] = true
+alike [] (y ∷ ys) = false
+alike (x ∷ xs) [] = false
+alike (x ∷ xs) (y ∷ ys) = eqb x y && alike xs ys
+
+-- the first command, with its operands and the bytes behind it, which are handed on: cut off; "A file whose first command is a known one other than
+-- 20 gets 12, in the place of out of order"; "16 for operands unlike the role file's, ... after 20 itself has been read whole"
+abbrev pub openedBy : List ℕ → ℕ → Option (List ℕ × List ℕ) → Answer (List ℕ)
+openedBy shape b none = refused rulesCutOff
+openedBy shape b (some p) = unless (eqb b 0x20) rulesOrder (unless (alike (p .0) shape) wrongShape (accepted (p .1)))
 
 abbrev pub widthsOr : Option (List ℕ) → List ℕ
 widthsOr none = []
@@ -223,7 +249,8 @@ widthsOr (some ws) = ws
 module _ (W : ℕ) where
   abbrev pub ruleWidths : ℕ → Option (List ℕ)
   ruleWidths b =
-      cond (eqb b 0x21) (some [])
+      cond (eqb b 0x20) (some (1 ∷ 1 ∷ 1 ∷ 1 ∷ 1 ∷ 1 ∷ []))
+      (cond (eqb b 0x21) (some [])
       (cond (eqb b 0x22) (some (1 ∷ 2 ∷ []))
       (cond (eqb b 0x23) (some (1 ∷ 8 ∷ []))
       (cond (eqb b 0x24) (some (1 ∷ 2 ∷ []))
@@ -231,28 +258,41 @@ module _ (W : ℕ) where
       (cond (eqb b 0x26) (some (W ∷ []))
       (cond (eqb b 0x27) (some (1 ∷ 1 ∷ []))
       (cond (eqb b 0x28) (some (1 ∷ W ∷ []))
-      (cond (eqb b 0x2F) (some []) none))))))))
+      (cond (eqb b 0x2F) (some []) none)))))))))
 
   -- a command's bytes
   unfoldable pub encode : RuleCommand → List ℕ
   encode c = byteOf c ∷ spreadAll (widthsOr (ruleWidths (byteOf c))) (operandsOf c)
 
-  -- the file: each rule's 21 and lines, and behind all of them 2F
+  -- rules: each one's 21 and lines, and behind all of them 2F
   unfoldable pub encodeAll : List Lines → List ℕ
   encodeAll rules = each (λ ls. each encode (opens ∷ ls)) rules ++ encode ends
 
-  module _ (P : Setting) (R : Roles) where
+  -- the file: 20 and the shape, "one-byte operands", and behind them the rules
+  unfoldable pub encodeFile : List ℕ → List Lines → List ℕ
+  encodeFile shape rules = 0x20 ∷ (shape ++ encodeAll rules)
+
+  -- the first command: what stands behind it. An unknown one, or what `openedBy` says
+  unfoldable pub opened : List ℕ → List ℕ → Answer (List ℕ)
+  opened shape [] = refused rulesCutOff
+  opened shape (b ∷ bs) = elim (ruleWidths b) [ none ↦ refused rulesUnknown | some ws ↦ openedBy shape b (operands ws bs) ]
+
+  module _ (B : Beside) where
     unfoldable pub ruleFormat : Format RuleCommand Reading
     ruleFormat = record {
       widths = ruleWidths;
       command = ruleCommand;
       ends = endsFile;
-      obey = obeyRule P R;
+      obey = obeyRule B;
       late = rulesOrder;
       unknown = rulesUnknown;
       short = rulesCutOff;
     }
 
-    -- a rule file of any length: its rules' lines, in order
+    -- what stands behind the first command: the rules' lines, in order
+    unfoldable pub readBody : List ℕ → Answer (List Lines)
+    readBody bytes = andThen (read ruleFormat (record { complete = []; current = none }) bytes) (λ s. accepted (s .complete))
+
+    -- "The rule file opens with 20 and six one-byte operands", and may be of any length
     unfoldable pub readRules : List ℕ → Answer (List Lines)
-    readRules bytes = andThen (read ruleFormat (record { complete = []; current = none }) bytes) (λ s. accepted (s .complete))
+    readRules bytes = andThen (opened (B .shape) bytes) readBody

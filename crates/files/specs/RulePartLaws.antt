@@ -12,17 +12,17 @@ use mathlib.Core.Option.{Option, none, some, Option·map}
 use mathlib.Core.Path.{_≡_, refl, sym, ap, ap₂, _∙_, subst}
 use native.Mathlib.Nat.{add-zero, zero-add}
 use native.Mathlib.Omega.{arith}
-use Rattle.files.specs.Answer.{Answer, unless, andThen, rulesOrder, rulesOperand, refused, accepted}
+use Rattle.files.specs.Answer.{Answer, unless, andThen, rulesUnknown, rulesOrder, rulesOperand, wrongShape, refused, accepted}
+use Rattle.files.specs.Beside.{Beside, shapeOf, besideOf}
 use Rattle.files.specs.Bytes.{number, oneMore, operands, spread, spreadAll, Format, turn, decode, readOn, read}
-use Rattle.files.specs.BytesLaws.{Bytes, Carries, unless-carries, then-carries, carried, read-carries}
+use Rattle.files.specs.BytesLaws.{Bytes, Carries, unless-carries, then-carries, any-carried, carried, read-carries}
 use Rattle.files.specs.Calls.{readBoth, showAnswer, shownPlace, shownPart}
-use Rattle.files.specs.ReadBackLaws.{inner}
+use Rattle.files.specs.ReadBackLaws.{inner, ones}
 use Rattle.files.specs.RoleFile.{readRoles}
-use Rattle.files.specs.RuleFile.{RuleCommand, byteOf, operandsOf, ruleCommand, Lines, Reading, endsFile, whole, finished, follows, legal, addLine, obeyRule, widthsOr, ruleWidths, encode, encodeAll, ruleFormat, readRules, opens, value, operations, link, part, ends}
+use Rattle.files.specs.RuleFile.{RuleCommand, byteOf, operandsOf, ruleCommand, Lines, Reading, endsFile, whole, finished, follows, legal, addLine, obeyRule, alike, openedBy, widthsOr, ruleWidths, encode, encodeAll, encodeFile, opened, ruleFormat, readBody, readRules, reshapes, opens, value, operations, link, part, ends}
 use Rattle.files.specs.RulePart.{sizeOf, marksOn, ruleStart}
-use Rattle.policy.specs.Policy.{Policy, settingOf, rolesIn}
-use Rattle.policy.specs.Roles.{Roles}
-use Rattle.policy.specs.Rules.{Setting, user, resource}
+use Rattle.policy.specs.Policy.{Policy}
+use Rattle.policy.specs.Rules.{user, resource}
 use Rattle.sets.specs.ListLaws.{length-none, all-last, each-append, each-last}
 use Rattle.sets.specs.Tests.{Is, _isIn_, all, each, only, isSome, sum}
 use Rattle.sets.specs.TestLaws.{and-in, and-l, and-r, test}
@@ -138,9 +138,9 @@ spread-all-long (w ∷ ws) [] h = absurd (omega arith)
 spread-all-long (w ∷ ws) (x ∷ xs) h = length-append (spread w x) (spreadAll ws xs) ∙ ap₂ _+_ (spread-long w x) (spread-all-long ws xs (omega arith))
 
 module _ (W : ℕ) where
-  -- a byte that has widths is one of nine
-  known : (Q : ℕ → Type 0) (b : ℕ) → Is (isSome (ruleWidths W b)) → Q 0x21 → Q 0x22 → Q 0x23 → Q 0x24 → Q 0x25 → Q 0x26 → Q 0x27 → Q 0x28 → Q 0x2F → Q b
-  known Q b h q1 q2 q3 q4 q5 q6 q7 q8 q9 =
+  -- a byte that has widths, other than 20, is one of nine
+  known : (Q : ℕ → Type 0) (b : ℕ) → Is (isSome (ruleWidths W b)) → eqb b 0x20 ≡ false → Q 0x21 → Q 0x22 → Q 0x23 → Q 0x24 → Q 0x25 → Q 0x26 → Q 0x27 → Q 0x28 → Q 0x2F → Q b
+  known Q b h e0 q1 q2 q3 q4 q5 q6 q7 q8 q9 =
       test (eqb b 0x21) (is 0x21 q1) λ e1.
       test (eqb b 0x22) (is 0x22 q2) λ e2.
       test (eqb b 0x23) (is 0x23 q3) λ e3.
@@ -150,15 +150,15 @@ module _ (W : ℕ) where
       test (eqb b 0x27) (is 0x27 q7) λ e7.
       test (eqb b 0x28) (is 0x28 q8) λ e8.
       test (eqb b 0x2F) (is 0x2F q9) λ e9.
-      absurd (false≢true (rw (e1, e2, e3, e4, e5, e6, e7, e8, e9) at h))
+      absurd (false≢true (rw (e0, e1, e2, e3, e4, e5, e6, e7, e8, e9) at h))
     where
       is : (x : ℕ) → Q x → Is (eqb b x) → Q b
       is x q e = subst Q (sym (eqb-true b x e)) q
 
-  -- a command made of a known byte and as many operands as it has widths has this byte and these operands
-  command-back : (b : ℕ) → Is (isSome (ruleWidths W b)) → (xs : List ℕ) → length xs ≡ length (widthsOr (ruleWidths W b)) → (byteOf (ruleCommand b xs) ≡ b) × (operandsOf (ruleCommand b xs) ≡ xs)
-  command-back b h =
-      known (λ b. (xs : List ℕ) → length xs ≡ length (widthsOr (ruleWidths W b)) → (byteOf (ruleCommand b xs) ≡ b) × (operandsOf (ruleCommand b xs) ≡ xs)) b h
+  -- a command made of a known byte, other than 20, and as many operands as it has widths has this byte and these operands
+  command-back : (b : ℕ) → Is (isSome (ruleWidths W b)) → eqb b 0x20 ≡ false → (xs : List ℕ) → length xs ≡ length (widthsOr (ruleWidths W b)) → (byteOf (ruleCommand b xs) ≡ b) × (operandsOf (ruleCommand b xs) ≡ xs)
+  command-back b h n =
+      known (λ b. (xs : List ℕ) → length xs ≡ length (widthsOr (ruleWidths W b)) → (byteOf (ruleCommand b xs) ≡ b) × (operandsOf (ruleCommand b xs) ≡ xs)) b h n
       (λ xs l. (refl, sym (length-none xs l)))
       (λ xs l. (refl, first-two xs l))
       (λ xs l. (refl, first-two xs l))
@@ -170,28 +170,70 @@ module _ (W : ℕ) where
       (λ xs l. (refl, sym (length-none xs l)))
 
   -- such a command is encoded as its byte and its operands in their widths
-  encode-back : (b : ℕ) (ws xs : List ℕ) → ruleWidths W b ≡ some ws → length xs ≡ length ws → encode W (ruleCommand b xs) ≡ b ∷ spreadAll ws xs
+  encode-back : (b : ℕ) (ws xs : List ℕ) → ruleWidths W b ≡ some ws → eqb b 0x20 ≡ false → length xs ≡ length ws → encode W (ruleCommand b xs) ≡ b ∷ spreadAll ws xs
   unfolding encode
-  encode-back b ws xs e l =
-      let k = command-back b (ap isSome e) xs (l ∙ ap (λ (o : Option (List ℕ)). length (widthsOr o)) (sym e)) in
+  encode-back b ws xs e n l =
+      let k = command-back b (ap isSome e) n xs (l ∙ ap (λ (o : Option (List ℕ)). length (widthsOr o)) (sym e)) in
       ap₂ (λ (x : ℕ) (ys : List ℕ). x ∷ spreadAll (widthsOr (ruleWidths W x)) ys) (k .0) (k .1) ∙ ap (λ (o : Option (List ℕ)). b ∷ spreadAll (widthsOr o) xs) e
 
-  -- every command has as many operands as its byte has widths
-  as-many : (c : RuleCommand) → length (operandsOf c) ≡ length (widthsOr (ruleWidths W (byteOf c)))
-  as-many opens = refl
-  as-many (value user false a v) = refl
-  as-many (value user true a v) = refl
-  as-many (value resource false a v) = refl
-  as-many (value resource true a v) = refl
-  as-many (operations m) = refl
-  as-many (link a b) = refl
-  as-many (part k m) = refl
-  as-many ends = refl
+  -- every command but another 20 has as many operands as its byte has widths
+  as-many : (c : RuleCommand) → eqb (byteOf c) 0x20 ≡ false → length (operandsOf c) ≡ length (widthsOr (ruleWidths W (byteOf c)))
+  as-many reshapes n = absurd (false≢true (sym n))
+  as-many opens n = refl
+  as-many (value user false a v) n = refl
+  as-many (value user true a v) n = refl
+  as-many (value resource false a v) n = refl
+  as-many (value resource true a v) n = refl
+  as-many (operations m) n = refl
+  as-many (link a b) n = refl
+  as-many (part k m) n = refl
+  as-many ends n = refl
 
   -- a command is as long as its byte says
-  command-size : (c : RuleCommand) → sizeOf W (byteOf c) ≡ length (encode W c)
+  command-size : (c : RuleCommand) → eqb (byteOf c) 0x20 ≡ false → sizeOf W (byteOf c) ≡ length (encode W c)
   unfolding encode
-  command-size c = ap suc (sym (spread-all-long (widthsOr (ruleWidths W (byteOf c))) (operandsOf c) (as-many c)))
+  command-size c n = ap suc (sym (spread-all-long (widthsOr (ruleWidths W (byteOf c))) (operandsOf c) (as-many c n)))
+
+-- ---- the first command, back as bytes
+
+-- operands of one byte each, and the bytes behind them, are the bytes that they were read from
+abbrev OnesBack : List ℕ → Option (List ℕ × List ℕ) → Type 0
+OnesBack bs none = Unit {0}
+OnesBack bs (some p) = p .0 ++ p .1 ≡ bs
+
+ones-back : (n : ℕ) (bs : List ℕ) → OnesBack bs (operands (ones n) bs)
+ones-back zero bs = refl
+ones-back (suc n) [] = tt
+ones-back (suc n) (b ∷ bs) = go (operands (ones n) bs) (ones-back n bs)
+  where
+    go : (o : Option (List ℕ × List ℕ)) → OnesBack bs o → OnesBack (b ∷ bs) (Option·map (λ (q : List ℕ × List ℕ). ((b + 256 * 0) ∷ q .0, q .1)) o)
+    go none k = tt
+    go (some q) k = ap₂ _∷_ (omega arith) k
+
+alike-out : (xs ys : List ℕ) → Is (alike xs ys) → xs ≡ ys
+alike-out [] [] h = refl
+alike-out [] (y ∷ ys) h = absurd (false≢true h)
+alike-out (x ∷ xs) [] h = absurd (false≢true h)
+alike-out (x ∷ xs) (y ∷ ys) h = ap₂ _∷_ (eqb-true x y (and-l (eqb x y) (alike xs ys) h)) (alike-out xs ys (and-r (eqb x y) (alike xs ys) h))
+
+-- the bytes of a file whose first command was taken: 20, the shape, and those behind
+opened-back : (W : ℕ) (shape bytes : List ℕ) → Carries (λ rest. bytes ≡ 0x20 ∷ (shape ++ rest)) (opened W shape bytes)
+unfolding opened
+opened-back W shape [] = tt
+opened-back W shape (b ∷ bs) = known-so (ruleWidths W b) refl
+  where
+    taken-so : (ws : List ℕ) → ruleWidths W b ≡ some ws → (o : Option (List ℕ × List ℕ)) → operands ws bs ≡ o → Carries (λ rest. b ∷ bs ≡ 0x20 ∷ (shape ++ rest)) (openedBy shape b o)
+    taken-so ws e none q = tt
+    taken-so ws e (some p) q =
+        unless-carries (λ rest. b ∷ bs ≡ 0x20 ∷ (shape ++ rest)) (eqb b 0x20) rulesOrder (unless (alike (p .0) shape) wrongShape (accepted (p .1))) λ y.
+        unless-carries (λ rest. b ∷ bs ≡ 0x20 ∷ (shape ++ rest)) (alike (p .0) shape) wrongShape (accepted (p .1)) λ z.
+        let six : ones 6 ≡ ws = ap widthsOr (ap (ruleWidths W) (sym (eqb-true b 0x20 y)) ∙ e) in
+        let back : p .0 ++ p .1 ≡ bs = subst (OnesBack bs) q (subst (λ (l : List ℕ). OnesBack bs (operands l bs)) six (ones-back 6 bs)) in
+        ap₂ _∷_ (eqb-true b 0x20 y) (sym back ∙ ap (λ (l : List ℕ). l ++ p .1) (alike-out (p .0) shape z))
+
+    known-so : (o : Option (List ℕ)) → ruleWidths W b ≡ o → Carries (λ rest. b ∷ bs ≡ 0x20 ∷ (shape ++ rest)) (elim o [ none ↦ refused rulesUnknown | some ws ↦ openedBy shape b (operands ws bs) ])
+    known-so none e = tt
+    known-so (some ws) e = taken-so ws e (operands ws bs) refl
 
 -- ---- the state of the reader
 
@@ -213,24 +255,25 @@ closed s = go (s .complete) (s .current)
     go done none = refl
     go done (some ls) = unless-carries (λ k. k ≡ done ++ (ls ∷ [])) (whole ls) rulesOrder (accepted (done ++ (ls ∷ []))) (λ w. refl)
 
-module _ (P : Setting) (R : Roles) where
+module _ (B : Beside) where
   -- a line that is added stands behind those of the open rule
-  added : (Q : Reading → Type 0) (s : Reading) (c : RuleCommand) → ((ls : Lines) → s .current ≡ some ls → Q (record { complete = s .complete; current = some (ls ++ (c ∷ [])) })) → Carries Q (addLine P R s c)
+  added : (Q : Reading → Type 0) (s : Reading) (c : RuleCommand) → ((ls : Lines) → s .current ≡ some ls → Q (record { complete = s .complete; current = some (ls ++ (c ∷ [])) })) → Carries Q (addLine B s c)
   unfolding addLine
   added Q s c = go (s .current)
     where
       go : (o : Option Lines) → ((ls : Lines) → o ≡ some ls → Q (record { complete = s .complete; current = some (ls ++ (c ∷ [])) }))
-          → Carries Q (elim o [ none ↦ refused rulesOrder | some ls ↦ unless (follows ls c) rulesOrder (unless (legal P R c) rulesOperand (accepted (record { complete = s .complete; current = some (ls ++ (c ∷ [])) }))) ])
+          → Carries Q (elim o [ none ↦ refused rulesOrder | some ls ↦ unless (follows ls c) rulesOrder (unless (legal B c) rulesOperand (accepted (record { complete = s .complete; current = some (ls ++ (c ∷ [])) }))) ])
       go none k = tt
       go (some ls) k =
-          unless-carries Q (follows ls c) rulesOrder (unless (legal P R c) rulesOperand (accepted (record { complete = s .complete; current = some (ls ++ (c ∷ [])) }))) λ f.
-          unless-carries Q (legal P R c) rulesOperand (accepted (record { complete = s .complete; current = some (ls ++ (c ∷ [])) })) λ l. k ls refl
+          unless-carries Q (follows ls c) rulesOrder (unless (legal B c) rulesOperand (accepted (record { complete = s .complete; current = some (ls ++ (c ∷ [])) }))) λ f.
+          unless-carries Q (legal B c) rulesOperand (accepted (record { complete = s .complete; current = some (ls ++ (c ∷ [])) })) λ l. k ls refl
 
   -- what holds of a command and the state after it, if it holds of a 21, a 2F and a line
   obeyed : (Q : RuleCommand → Reading → Type 0) (s : Reading) → Q opens (record { complete = soFar s; current = some [] }) → Q ends (record { complete = soFar s; current = none })
       → ((c : RuleCommand) → Is (inner c) → endsFile c ≡ false → (ls : Lines) → s .current ≡ some ls → Q c (record { complete = s .complete; current = some (ls ++ (c ∷ [])) }))
-      → (c : RuleCommand) → Carries (Q c) (obeyRule P R s c)
+      → (c : RuleCommand) → Carries (Q c) (obeyRule B s c)
   unfolding obeyRule
+  obeyed Q s o e l reshapes = tt
   obeyed Q s o e l opens =
       then-carries (λ done. done ≡ soFar s) (Q opens) (finished s) (λ done. accepted (record { complete = done; current = some [] })) (closed s)
       (λ done d. subst (λ (k : List Lines). Q opens (record { complete = k; current = some [] })) (sym d) o)
@@ -259,12 +302,17 @@ module _ (W : ℕ) where
       ∙ sym (append-assoc (each ruleBytes done) (ruleBytes ls) (encode W c))
       ∙ ap (λ (k : List ℕ). k ++ encode W c) (sym (each-last ruleBytes done ls))
 
-  module _ (P : Setting) (R : Roles) where
+  module _ (B : Beside) where
+    -- a 20 is not obeyed
+    again-refused : (s : Reading) (ws xs : List ℕ) → Carries (λ t. stateBytes (endsFile (ruleCommand 0x20 xs)) t ≡ stateBytes false s ++ (0x20 ∷ spreadAll ws xs)) (obeyRule B s (ruleCommand 0x20 xs))
+    unfolding obeyRule
+    again-refused s ws xs = tt
+
     -- a command that is obeyed adds its bytes
-    command-shown : (s : Reading) (c : RuleCommand) → Carries (λ t. stateBytes (endsFile c) t ≡ stateBytes false s ++ encode W c) (obeyRule P R s c)
+    command-shown : (s : Reading) (c : RuleCommand) → Carries (λ t. stateBytes (endsFile c) t ≡ stateBytes false s ++ encode W c) (obeyRule B s c)
     unfolding encodeAll
     command-shown s =
-        obeyed P R (λ c t. stateBytes (endsFile c) t ≡ stateBytes false s ++ encode W c) s
+        obeyed B (λ c t. stateBytes (endsFile c) t ≡ stateBytes false s ++ encode W c) s
         (each-last ruleBytes (soFar s) [] ∙ ap (λ (k : List ℕ). each ruleBytes (soFar s) ++ k) (append-nil (encode W opens)))
         refl
         (λ c i q ls e.
@@ -272,26 +320,42 @@ module _ (W : ℕ) where
         ∙ line-shown (s .complete) ls c
         ∙ ap (λ (o : Option Lines). each ruleBytes (withOpen (s .complete) o) ++ encode W c) (sym e))
 
-    -- THE LAW: bytes that the reader accepts are the encoding of the rules that it read
-    pub written-back : (bytes : List ℕ) (rules : List Lines) → Bytes bytes → readRules W P R bytes ≡ accepted rules → bytes ≡ encodeAll W rules
-    unfolding readRules ruleFormat
-    written-back bytes rules h e =
-        carried (λ ls. bytes ≡ encodeAll W ls) (readRules W P R bytes)
-        (then-carries (λ t. bytes ≡ encodeAll W (t .complete)) (λ ls. bytes ≡ encodeAll W ls) (read (ruleFormat W P R) (record { complete = []; current = none }) bytes) (λ s. accepted (s .complete))
-        (read-shows (ruleFormat W P R) stateBytes
-        (λ s b ws xs w l. subst (λ (k : List ℕ). Carries (λ t. stateBytes (endsFile (ruleCommand b xs)) t ≡ stateBytes false s ++ k) (obeyRule P R s (ruleCommand b xs))) (encode-back W b ws xs w l) (command-shown s (ruleCommand b xs)))
+    -- what stands behind the first command is the encoding of the rules that were read
+    body-written : (bytes : List ℕ) (rules : List Lines) → Bytes bytes → readBody W B bytes ≡ accepted rules → bytes ≡ encodeAll W rules
+    unfolding readBody ruleFormat
+    body-written bytes rules h e =
+        carried (λ ls. bytes ≡ encodeAll W ls) (readBody W B bytes)
+        (then-carries (λ t. bytes ≡ encodeAll W (t .complete)) (λ ls. bytes ≡ encodeAll W ls) (read (ruleFormat W B) (record { complete = []; current = none }) bytes) (λ s. accepted (s .complete))
+        (read-shows (ruleFormat W B) stateBytes
+        (λ s b ws xs w l. test (eqb b 0x20)
+        (λ y. subst (λ (c : ℕ). Carries (λ t. stateBytes (endsFile (ruleCommand c xs)) t ≡ stateBytes false s ++ (c ∷ spreadAll ws xs)) (obeyRule B s (ruleCommand c xs))) (sym (eqb-true b 0x20 y)) (again-refused s ws xs))
+        (λ n. subst (λ (k : List ℕ). Carries (λ t. stateBytes (endsFile (ruleCommand b xs)) t ≡ stateBytes false s ++ k) (obeyRule B s (ruleCommand b xs))) (encode-back W b ws xs w n l) (command-shown s (ruleCommand b xs))))
         (suc (length bytes)) false (record { complete = []; current = none }) bytes h)
         (λ t k. k))
         e
+
+    -- THE LAW: bytes that the reader accepts are the encoding of the shape and of the rules that it read
+    pub written-back : (bytes : List ℕ) (rules : List Lines) → Bytes bytes → readRules W B bytes ≡ accepted rules → bytes ≡ encodeFile W (B .shape) rules
+    unfolding readRules encodeFile
+    written-back bytes rules h e =
+        carried (λ ls. bytes ≡ 0x20 ∷ (B .shape ++ encodeAll W ls)) (andThen (opened W (B .shape) bytes) (readBody W B))
+        (then-carries (λ rest. bytes ≡ 0x20 ∷ (B .shape ++ rest)) (λ ls. bytes ≡ 0x20 ∷ (B .shape ++ encodeAll W ls)) (opened W (B .shape) bytes) (readBody W B) (opened-back W (B .shape) bytes)
+        (λ rest k. then-so rest k (readBody W B rest) refl))
+        e
+      where
+        then-so : (rest : List ℕ) → bytes ≡ 0x20 ∷ (B .shape ++ rest) → (a : Answer (List Lines)) → readBody W B rest ≡ a → Carries (λ ls. bytes ≡ 0x20 ∷ (B .shape ++ encodeAll W ls)) a
+        then-so rest k (refused d) q = tt
+        then-so rest k (accepted ls) q =
+            k ∙ ap (λ (l : List ℕ). 0x20 ∷ (B .shape ++ l)) (body-written rest ls (bytes-behind (0x20 ∷ B .shape) rest (sym k) h) q)
 
     -- the lines so far stand within rules
     abbrev Within : Reading → Type 0
     Within s = Is (all (all inner) (soFar s))
 
     -- with each command that is obeyed they still do
-    command-within : (s : Reading) (c : RuleCommand) → Within s → Carries Within (obeyRule P R s c)
+    command-within : (s : Reading) (c : RuleCommand) → Within s → Carries Within (obeyRule B s c)
     command-within s c h =
-        obeyed P R (λ c t. Within t) s
+        obeyed B (λ c t. Within t) s
         (all-last (all inner) (soFar s) [] ∙ and-in {a = all (all inner) (soFar s)} {b = true} h refl)
         h
         (λ c i q ls e.
@@ -308,14 +372,20 @@ module _ (W : ℕ) where
         go done none h = h
         go done (some ls) h = and-l (all (all inner) done) (all inner ls) (sym (all-last (all inner) done ls) ∙ h)
 
-    -- the lines of an accepted file's rules are neither a 21 nor a 2F
-    pub lines-within : (bytes : List ℕ) (rules : List Lines) → readRules W P R bytes ≡ accepted rules → Is (all (all inner) rules)
-    unfolding readRules ruleFormat
+    -- the lines of rules that were read are neither a 20, nor a 21, nor a 2F
+    body-within : (bytes : List ℕ) → Carries (λ ls. Is (all (all inner) ls)) (readBody W B bytes)
+    unfolding readBody ruleFormat
+    body-within bytes =
+        then-carries Within (λ ls. Is (all (all inner) ls)) (read (ruleFormat W B) (record { complete = []; current = none }) bytes) (λ s. accepted (s .complete))
+        (read-carries (ruleFormat W B) Within command-within (suc (length bytes)) false (record { complete = []; current = none }) bytes refl)
+        complete-within
+
+    -- and so are those of an accepted file
+    pub lines-within : (bytes : List ℕ) (rules : List Lines) → readRules W B bytes ≡ accepted rules → Is (all (all inner) rules)
+    unfolding readRules
     lines-within bytes rules e =
-        carried (λ ls. Is (all (all inner) ls)) (readRules W P R bytes)
-        (then-carries Within (λ ls. Is (all (all inner) ls)) (read (ruleFormat W P R) (record { complete = []; current = none }) bytes) (λ s. accepted (s .complete))
-        (read-carries (ruleFormat W P R) Within command-within (suc (length bytes)) false (record { complete = []; current = none }) bytes refl)
-        complete-within)
+        carried (λ ls. Is (all (all inner) ls)) (andThen (opened W (B .shape) bytes) (readBody W B))
+        (then-carries (λ rest. Unit {0}) (λ ls. Is (all (all inner) ls)) (opened W (B .shape) bytes) (readBody W B) (any-carried (opened W (B .shape) bytes)) (λ rest k. body-within rest))
         e
 
 -- ---- marks: the places of the commands 21 and 2F
@@ -326,6 +396,7 @@ isMark b = eqb b 0x21 || eqb b 0x2F
 
 -- a line within a rule is no mark
 inner-mark : (c : RuleCommand) → Is (inner c) → isMark (byteOf c) ≡ false
+inner-mark reshapes h = refl
 inner-mark opens h = sym h
 inner-mark (value user false a v) h = refl
 inner-mark (value user true a v) h = refl
@@ -335,6 +406,19 @@ inner-mark (operations m) h = refl
 inner-mark (link a b) h = refl
 inner-mark (part k m) h = refl
 inner-mark ends h = sym h
+
+-- nor is it a 20
+inner-other : (c : RuleCommand) → Is (inner c) → eqb (byteOf c) 0x20 ≡ false
+inner-other reshapes h = sym h
+inner-other opens h = refl
+inner-other (value user false a v) h = refl
+inner-other (value user true a v) h = refl
+inner-other (value resource false a v) h = refl
+inner-other (value resource true a v) h = refl
+inner-other (operations m) h = refl
+inner-other (link a b) h = refl
+inner-other (part k m) h = refl
+inner-other ends h = refl
 
 -- two steps on are one step by both lists
 further : (at : ℕ) (s t : List ℕ) → at + length s + length t ≡ at + length (s ++ t)
@@ -382,11 +466,11 @@ module _ (W : ℕ) where
   -- ---- the marks of rules that are written
 
   -- a command that is written has a mark if it is 21 or 2F
-  marks-command : (at : ℕ) (c : RuleCommand) (rest : List ℕ) → marksFrom at (encode W c ++ rest) ≡ only (isMark (byteOf c)) at ++ marksFrom (at + length (encode W c)) rest
+  marks-command : (at : ℕ) (c : RuleCommand) (rest : List ℕ) → eqb (byteOf c) 0x20 ≡ false → marksFrom at (encode W c ++ rest) ≡ only (isMark (byteOf c)) at ++ marksFrom (at + length (encode W c)) rest
   unfolding encode
-  marks-command at c rest =
+  marks-command at c rest n =
       marks-first at (byteOf c) (spreadAll (widthsOr (ruleWidths W (byteOf c))) (operandsOf c) ++ rest)
-      ∙ ap (λ (k : ℕ). only (isMark (byteOf c)) at ++ marksFrom (at + k) (drop k (encode W c ++ rest))) (command-size W c)
+      ∙ ap (λ (k : ℕ). only (isMark (byteOf c)) at ++ marksFrom (at + k) (drop k (encode W c ++ rest))) (command-size W c n)
       ∙ ap (λ (r : List ℕ). only (isMark (byteOf c)) at ++ marksFrom (at + length (encode W c)) r) (drop-append-seam (encode W c) rest)
 
   -- lines within a rule have none
@@ -394,7 +478,7 @@ module _ (W : ℕ) where
   marks-lines at [] rest h = ap (λ (k : ℕ). marksFrom k rest) (sym (add-zero at))
   marks-lines at (c ∷ ls) rest h =
       ap (marksFrom at) (append-assoc (encode W c) (each (encode W) ls) rest)
-      ∙ marks-command at c (each (encode W) ls ++ rest)
+      ∙ marks-command at c (each (encode W) ls ++ rest) (inner-other c (and-l (inner c) (all inner ls) h))
       ∙ ap (λ (m : Bool). only m at ++ marksFrom (at + length (encode W c)) (each (encode W) ls ++ rest)) (inner-mark c (and-l (inner c) (all inner ls) h))
       ∙ marks-lines (at + length (encode W c)) ls rest (and-r (inner c) (all inner ls) h)
       ∙ ap (λ (k : ℕ). marksFrom k rest) (further at (encode W c) (each (encode W) ls))
@@ -403,7 +487,7 @@ module _ (W : ℕ) where
   marks-rule : (at : ℕ) (ls : Lines) (rest : List ℕ) → Is (all inner ls) → marksFrom at (ruleBytes W ls ++ rest) ≡ at ∷ marksFrom (at + length (ruleBytes W ls)) rest
   marks-rule at ls rest h =
       ap (marksFrom at) (append-assoc (encode W opens) (each (encode W) ls) rest)
-      ∙ marks-command at opens (each (encode W) ls ++ rest)
+      ∙ marks-command at opens (each (encode W) ls ++ rest) refl
       ∙ ap (λ (l : List ℕ). at ∷ l) (marks-lines (at + length (encode W opens)) ls rest h ∙ ap (λ (k : ℕ). marksFrom k rest) (further at (encode W opens) (each (encode W) ls)))
 
   -- the first rule of a file has one, and then come those of the others
@@ -425,11 +509,19 @@ module _ (W : ℕ) where
       ∙ marks-rules (at + length (ruleBytes W ls)) n d rules (and-r (all inner ls) (all (all inner) rules) h) (omega arith)
       ∙ further at (ruleBytes W ls) (each (ruleBytes W) (take n rules))
 
-  -- where a rule begins in a file that was written: behind the rules before it; the last place is that of the 2F
-  pub start-encoded : (rules : List Lines) (n : ℕ) → Is (all (all inner) rules) → n ≤ length rules
-      → ruleStart W (encodeAll W rules) n ≡ length (each (λ ls. each (encode W) (opens ∷ ls)) (take n rules))
-  unfolding ruleStart encodeAll
-  start-encoded rules n h k = marks-rules 0 n (length (encodeAll W rules)) rules h k ∙ zero-add (length (each (ruleBytes W) (take n rules)))
+  -- the marks of a file are those of what stands behind the 20
+  marks-file : (shape body : List ℕ) → length shape ≡ 6 → marksFrom 0 (0x20 ∷ (shape ++ body)) ≡ marksFrom 7 body
+  marks-file shape body l =
+      marks-first 0 0x20 (shape ++ body)
+      ∙ ap (marksFrom 7) (ap (λ (k : ℕ). drop k (shape ++ body)) (sym l) ∙ drop-append-seam shape body)
+
+  -- where a rule begins in a file that was written: behind the 20 and the rules before it; the last place is that of the 2F
+  pub start-encoded : (shape : List ℕ) (rules : List Lines) (n : ℕ) → length shape ≡ 6 → Is (all (all inner) rules) → n ≤ length rules
+      → ruleStart W (encodeFile W shape rules) n ≡ 7 + length (each (λ ls. each (encode W) (opens ∷ ls)) (take n rules))
+  unfolding ruleStart encodeFile encodeAll
+  start-encoded shape rules n l h k =
+      ap (λ (m : List ℕ). getD m n (length (encodeFile W shape rules))) (marks-file shape (encodeAll W rules) l)
+      ∙ marks-rules 7 n (length (encodeFile W shape rules)) rules h k
 
 -- ---- the part that shows a rule
 
@@ -444,40 +536,50 @@ middle-at : (a b : ℕ) (l s t r : List ℕ) → a ≡ length s → b ≡ length
 middle-at a b l s t r d e f = rw (d, e, f) (middle s t r)
 
 module _ (W : ℕ) where
-  -- the bytes of a file: those of the rules before one, its own, and those behind
-  encoded-around : (rules : List Lines) (n : ℕ) → n < length rules
-      → encodeAll W rules ≡ each (ruleBytes W) (take n rules) ++ (ruleBytes W (getD rules n []) ++ (each (ruleBytes W) (drop (suc n) rules) ++ encode W ends))
-  unfolding encodeAll
-  encoded-around rules n h =
-      ap (λ (k : List Lines). each (ruleBytes W) k ++ encode W ends) (split-at rules n [] h)
+  -- the bytes of a file: the 20 and those of the rules before one, its own, and those behind
+  encoded-around : (shape : List ℕ) (rules : List Lines) (n : ℕ) → n < length rules
+      → encodeFile W shape rules ≡ (0x20 ∷ (shape ++ each (ruleBytes W) (take n rules))) ++ (ruleBytes W (getD rules n []) ++ (each (ruleBytes W) (drop (suc n) rules) ++ encode W ends))
+  unfolding encodeFile encodeAll
+  encoded-around shape rules n h =
+      ap (λ (l : List ℕ). 0x20 ∷ (shape ++ l))
+      (ap (λ (k : List Lines). each (ruleBytes W) k ++ encode W ends) (split-at rules n [] h)
       ∙ ap (λ (l : List ℕ). l ++ encode W ends) (each-append (ruleBytes W) (take n rules) (getD rules n [] ∷ drop (suc n) rules))
       ∙ append-assoc (each (ruleBytes W) (take n rules)) (ruleBytes W (getD rules n []) ++ each (ruleBytes W) (drop (suc n) rules)) (encode W ends)
-      ∙ ap (λ (l : List ℕ). each (ruleBytes W) (take n rules) ++ l) (append-assoc (ruleBytes W (getD rules n [])) (each (ruleBytes W) (drop (suc n) rules)) (encode W ends))
+      ∙ ap (λ (l : List ℕ). each (ruleBytes W) (take n rules) ++ l) (append-assoc (ruleBytes W (getD rules n [])) (each (ruleBytes W) (drop (suc n) rules)) (encode W ends)))
+      ∙ ap (λ (l : List ℕ). 0x20 ∷ l) (sym (append-assoc shape (each (ruleBytes W) (take n rules)) (ruleBytes W (getD rules n []) ++ (each (ruleBytes W) (drop (suc n) rules) ++ encode W ends))))
+
+  -- the place behind the 20 and other bytes
+  behind-shape : (shape l : List ℕ) → length shape ≡ 6 → 7 + length l ≡ length (0x20 ∷ (shape ++ l))
+  behind-shape shape l h = omega (arith, length-append shape l)
 
   -- from a rule's begin to the next one's stand its own bytes
-  part-encoded : (rules : List Lines) (n : ℕ) → Is (all (all inner) rules) → n < length rules
-      → take (ruleStart W (encodeAll W rules) (suc n) - ruleStart W (encodeAll W rules) n) (drop (ruleStart W (encodeAll W rules) n) (encodeAll W rules)) ≡ ruleBytes W (getD rules n [])
-  part-encoded rules n h k =
-      middle-at (ruleStart W (encodeAll W rules) n) (ruleStart W (encodeAll W rules) (suc n)) (encodeAll W rules) (each (ruleBytes W) (take n rules)) (ruleBytes W (getD rules n [])) (each (ruleBytes W) (drop (suc n) rules) ++ encode W ends)
-      (start-encoded W rules n h (omega arith))
-      (start-encoded W rules (suc n) h k ∙ ap (λ (l : List Lines). length (each (ruleBytes W) l)) (take-suc rules n [] k) ∙ ap length (each-last (ruleBytes W) (take n rules) (getD rules n [])))
-      (encoded-around rules n k)
+  part-encoded : (shape : List ℕ) (rules : List Lines) (n : ℕ) → length shape ≡ 6 → Is (all (all inner) rules) → n < length rules
+      → take (ruleStart W (encodeFile W shape rules) (suc n) - ruleStart W (encodeFile W shape rules) n) (drop (ruleStart W (encodeFile W shape rules) n) (encodeFile W shape rules)) ≡ ruleBytes W (getD rules n [])
+  part-encoded shape rules n l h k =
+      middle-at (ruleStart W (encodeFile W shape rules) n) (ruleStart W (encodeFile W shape rules) (suc n)) (encodeFile W shape rules) (0x20 ∷ (shape ++ each (ruleBytes W) (take n rules))) (ruleBytes W (getD rules n [])) (each (ruleBytes W) (drop (suc n) rules) ++ encode W ends)
+      (start-encoded W shape rules n l h (omega arith) ∙ behind-shape shape (each (ruleBytes W) (take n rules)) l)
+      (start-encoded W shape rules (suc n) l h k
+      ∙ behind-shape shape (each (ruleBytes W) (take (suc n) rules)) l
+      ∙ ap (λ (t : List Lines). length (0x20 ∷ (shape ++ each (ruleBytes W) t))) (take-suc rules n [] k)
+      ∙ ap (λ (t : List ℕ). length (0x20 ∷ (shape ++ t))) (each-last (ruleBytes W) (take n rules) (getD rules n []))
+      ∙ ap (λ (t : List ℕ). length (0x20 ∷ t)) (sym (append-assoc shape (each (ruleBytes W) (take n rules)) (ruleBytes W (getD rules n [])))))
+      (encoded-around shape rules n k)
 
   module _ (file bytes : List ℕ) (F : Policy) (ls : List Lines) (h : readBoth W file bytes ≡ accepted (F, ls)) where
     -- the rules that both files give are those that the rule file gives
-    both-rules : readRules W (settingOf F) (rolesIn F) bytes ≡ accepted ls
+    both-rules : readRules W (besideOf F) bytes ≡ accepted ls
     unfolding readBoth
-    both-rules = carried (λ (p : Policy × List Lines). readRules W (settingOf (p .0)) (rolesIn (p .0)) bytes ≡ accepted (p .1)) (readBoth W file bytes) (roles (readRoles W file)) h
+    both-rules = carried (λ (p : Policy × List Lines). readRules W (besideOf (p .0)) bytes ≡ accepted (p .1)) (readBoth W file bytes) (roles (readRoles W file)) h
       where
-        rules : (G : Policy) (r : Answer (List Lines)) → readRules W (settingOf G) (rolesIn G) bytes ≡ r
-            → Carries (λ (p : Policy × List Lines). readRules W (settingOf (p .0)) (rolesIn (p .0)) bytes ≡ accepted (p .1)) (andThen r (λ ls. accepted (G, ls)))
+        rules : (G : Policy) (r : Answer (List Lines)) → readRules W (besideOf G) bytes ≡ r
+            → Carries (λ (p : Policy × List Lines). readRules W (besideOf (p .0)) bytes ≡ accepted (p .1)) (andThen r (λ ls. accepted (G, ls)))
         rules G (refused e) q = tt
         rules G (accepted k) q = q
 
         roles : (r : Answer Policy)
-            → Carries (λ (p : Policy × List Lines). readRules W (settingOf (p .0)) (rolesIn (p .0)) bytes ≡ accepted (p .1)) (andThen r (λ G. andThen (readRules W (settingOf G) (rolesIn G) bytes) (λ ls. accepted (G, ls))))
+            → Carries (λ (p : Policy × List Lines). readRules W (besideOf (p .0)) bytes ≡ accepted (p .1)) (andThen r (λ G. andThen (readRules W (besideOf G) bytes) (λ ls. accepted (G, ls))))
         roles (refused e) = tt
-        roles (accepted G) = rules G (readRules W (settingOf G) (rolesIn G) bytes) refl
+        roles (accepted G) = rules G (readRules W (besideOf G) bytes) refl
 
     module _ (n : ℕ) (k : n < length ls) where
       -- a rule that there is: where it begins, and where the next one does
@@ -501,8 +603,8 @@ module _ (W : ℕ) where
   shown-lines file rules n F ls b h k =
       let r = both-rules file rules F ls h in
       shown-bytes file rules F ls h n k
-      ∙ ap (λ (l : List ℕ). take (ruleStart W l (suc n) - ruleStart W l n) (drop (ruleStart W l n) l)) (written-back W (settingOf F) (rolesIn F) rules ls b r)
-      ∙ part-encoded ls n (lines-within W (settingOf F) (rolesIn F) rules ls r) k
+      ∙ ap (λ (l : List ℕ). take (ruleStart W l (suc n) - ruleStart W l n) (drop (ruleStart W l n) l)) (written-back W (besideOf F) rules ls b r)
+      ∙ part-encoded (shapeOf F) ls n refl (lines-within W (besideOf F) rules ls r) k
 
 -- ---- the places rise, whatever the bytes are
 

@@ -12,6 +12,7 @@ use mathlib.Core.Option.{some}
 use mathlib.Core.Path.{_≡_, refl, sym, ap, ap₂, _∙_}
 use native.Mathlib.Nat.{pow-suc, mul-suc, pow-le-pow-right}
 use native.Mathlib.Omega.{arith}
+use Rattle.files.specs.Beside.{Beside}
 use Rattle.files.specs.Calls.{partsGrant}
 use Rattle.files.specs.LineLaws.{names-out, names-in, own-3, Sayable, partLine, LineOf, line-out, line-in, lines-rising, operations-line, part-line, of-value, of-link, of-operations, of-part}
 use Rattle.files.specs.ReadBackLaws.{lines-strict, FitsWidths, Good, Writable}
@@ -128,7 +129,13 @@ mask-room W n m h l = let p = pow-le-pow-right {n = 2} (omega arith) h in let e 
         eight : (n : ℕ) → 2 ^ (n + 8) ≡ 2 ^ n * 256
         eight n = pow-add 2 n 8
 
-module _ (W : ℕ) (P : Setting) (R : Roles) (E : Encodable W P R) where
+module _ (W : ℕ) (B : Beside) (E : Encodable W (B .setting) (B .roles)) where
+  abbrev P : Setting
+  P = B .setting
+
+  abbrev R : Roles
+  R = B .roles
+
   value-room : (w : Which) (set : Bool) (a v : ℕ) → a < 256 → v < 256 ^ cond set 8 2 → FitsWidths W (value w set a v)
   value-room user false a v h k = (h, (k, tt))
   value-room user true a v h k = (h, (k, tt))
@@ -138,11 +145,11 @@ module _ (W : ℕ) (P : Setting) (R : Roles) (E : Encodable W P R) where
   pub attr-numbered : (w : Which) → Numbered (P .side w)
   attr-numbered w = let h = E .numbered w in omega arith
 
-  value-legal : (w : Which) (a x v : ℕ) → a isIn attrsOf (P .side w) true → x < P .side w .count → P .side w .value a x ≡ some v → Is (legal P R (value w (P .side w .isSet a) a v))
+  value-legal : (w : Which) (a x v : ℕ) → a isIn attrsOf (P .side w) true → x < P .side w .count → P .side w .value a x ≡ some v → Is (legal B (value w (P .side w .isSet a) a v))
   unfolding legal attrsOf
   value-legal w a x v m l e = go (List·Memᴰ·append-cases (upTo (P .side w .attrs)) m)
     where
-      go : (a isIn upTo (P .side w .attrs)) ⊎ (a isIn only true own) → Is (legal P R (value w (P .side w .isSet a) a v))
+      go : (a isIn upTo (P .side w .attrs)) ⊎ (a isIn only true own) → Is (legal B (value w (P .side w .isSet a) a v))
       go (inl k) =
           let h = upTo-out (P .side w .attrs) k in
           let n = E .numbered w in
@@ -153,7 +160,7 @@ module _ (W : ℕ) (P : Setting) (R : Roles) (E : Encodable W P R) where
           owned-at d = rw d (E .owned w x v l (rw d at e))
 
   module _ (ρ : Rule) (g : List ℕ) (S : Sayable P R ρ g) where
-    good-line : (c : RuleCommand) → LineOf P R ρ g c → Good W P R c
+    good-line : (c : RuleCommand) → LineOf P R ρ g c → Good W B c
     unfolding allowed wellFormed legal
     good-line c (of-value w a vs v m k e) =
         let had = S .had (conjunct w a vs) m v k in
@@ -194,7 +201,7 @@ module _ (W : ℕ) (P : Setting) (R : Roles) (E : Encodable W P R) where
         })
 
     -- THE LAW: such a rule's lines may be written
-    pub writable : Writable W P R (linesOf P R ρ g)
+    pub writable : Writable W B (linesOf P R ρ g)
     unfolding whole
     writable = record {
       rising = lines-rising P R ρ g;

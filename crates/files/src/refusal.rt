@@ -28,3 +28,5 @@ pub const RULES_OPERAND: usize = 13;
 pub const NO_SUCH_RULE: usize = 14;
 
 pub const ZERO_SEED: usize = 15;
+
+pub const WRONG_SHAPE: usize = 16;

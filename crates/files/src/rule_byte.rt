@@ -1,5 +1,7 @@
 // The first bytes of a rule file's commands, by the names of specs/RuleFile, and the attribute that stands for a user's roles or for the
 // resource itself.
+pub const SHAPE: usize = 0x20;
+
 pub const OPENS: usize = 0x21;
 
 pub const USER_SINGLE: usize = 0x22;

@@ -12,8 +12,9 @@ use native.Mathlib.Omega.{arith}
 use Rattle.role_record.specs.Cells.{rowCells, cellAt, cellRow, cellOperation, roleCells, userCells}
 use Rattle.role_record.specs.CellsLaws.{cell-row, cell-operation, cell-parts}
 use Rattle.role_record.specs.Record.{Sized, tableOf, permissionTable, recordWith, recordOf}
+use Rattle.files.specs.Beside.{besideOf}
 use Rattle.files.specs.Calls.{partsGrant}
-use Rattle.files.specs.RuleFile.{RuleCommand, Lines, isPartLine, lists, partsIn, legal, opens, value, operations, link, part, ends}
+use Rattle.files.specs.RuleFile.{RuleCommand, Lines, isPartLine, lists, partsIn, legal, reshapes, opens, value, operations, link, part, ends}
 use Rattle.grant_grids.specs.Grid.{gridOf}
 use Rattle.grant_grids.specs.GridLaws.{grid-same}
 use Rattle.grant_grids.specs.UpdateLaws.{updated-none, updated-same, updated-next, updated-twice}
@@ -77,6 +78,7 @@ module _ (P : Setting) (R : Roles) where
 
   other-line : (c : RuleCommand) → isPartLine c ≡ false → (p : ℕ) → lists P R p c ≡ false
   unfolding lists
+  other-line reshapes h p = refl
   other-line opens h p = refl
   other-line (value w s a v) h p = refl
   other-line (operations m) h p = refl
@@ -303,7 +305,7 @@ module _ (F : Policy) (Z : Sized F) where
           and-in (alike-out (settingOf F) (rolesIn F) (q .role) (q .lead) o r (Z .permits (q .role) r o g .1) a ∙ g) a
 
   -- what a line 28 adds, if it names a part
-  line-block : (k m u r o : ℕ) → Is (legal (settingOf F) (rolesIn F) (part k m)) → lineGrants (settingOf F) (rolesIn F) (part k m) u r o ≡ (held F k u && (bit m o && F .permitted k r o))
+  line-block : (k m u r o : ℕ) → Is (legal (besideOf F) (part k m)) → lineGrants (settingOf F) (rolesIn F) (part k m) u r o ≡ (held F k u && (bit m o && F .permitted k r o))
   unfolding legal
   line-block k m u r o h =
       line-parts (settingOf F) (rolesIn F) k m u r o
@@ -328,7 +330,7 @@ module _ (F : Policy) (Z : Sized F) where
           (and-in (and-in (eq-eqb (t .0 .role) k (sym a)) (eq-eqb (classOf (settingOf F) (rolesIn F) (t .0)) m (sym b))) (named (t .0) (sym a) (sym b) ∙ p))
 
   -- the role of a part is a role of the file
-  role-within : (k m : ℕ) → Is (legal (settingOf F) (rolesIn F) (part k m)) → k < 32
+  role-within : (k m : ℕ) → Is (legal (besideOf F) (part k m)) → k < 32
   unfolding legal rolesIn
   role-within k m h =
       let t = any-out (λ q. eqb k (q .role) && eqb m (classOf (settingOf F) (rolesIn F) q)) (parts (settingOf F) (rolesIn F)) h in
@@ -348,7 +350,7 @@ module _ (F : Policy) (Z : Sized F) where
       ∙ bit-mask 64 (λ r. F .permitted (cellRow (cellAt k o)) r (cellOperation (cellAt k o))) r hr
       ∙ cell-parts (λ x y. F .permitted x r y) k o ho
 
-  pub part-added : (ls : Lines) (k m : ℕ) → Is (legal (settingOf F) (rolesIn F) (part k m))
+  pub part-added : (ls : Lines) (k m : ℕ) → Is (legal (besideOf F) (part k m))
       → addedPart (getD (recordOf F .holders) k 0) (permissionTable F) k m (gridOf (partsGrant (settingOf F) (rolesIn F) ls)) ≡ gridOf (partsGrant (settingOf F) (rolesIn F) (ls ++ (part k m ∷ [])))
   unfolding addedPart addedWhere addedWord joinedWord gridOf
   part-added ls k m h =

@@ -10,8 +10,9 @@ use mathlib.Core.Option.{Option, none, some, Option·map}
 use mathlib.Core.Path.{_≡_, refl, sym, ap, ap₂, _∙_, fun-ext}
 use native.Mathlib.Nat.{add-suc, suc-add, zero-add}
 use native.Mathlib.Omega.{arith}
+use Rattle.files.specs.Beside.{shapeOf}
 use Rattle.files.specs.Calls.{Counts, minedLines, minedBytes, minedCounts}
-use Rattle.files.specs.RuleFile.{Lines, precedes, condLines, allLines, linesOf, encodeAll, operations, part}
+use Rattle.files.specs.RuleFile.{Lines, precedes, condLines, allLines, linesOf, encodeAll, encodeFile, operations, part}
 use Rattle.mine_theory.specs.Search.AlikeLaws.{run-image}
 use Rattle.policy.specs.Cost.{ruleCost}
 use Rattle.policy.specs.CoverLaws.{exact-fits, fits-exact}
@@ -276,9 +277,9 @@ module _ (F : Policy) where
         ∙ ap (map (seatLines F)) groups-seats
 
     -- the rule file is that of the groups of seats
-    pub bytes-seats : minedBytes 2 F ≡ encodeAll 2 (map (seatLines F) (seatGroups F))
-    unfolding minedBytes
-    bytes-seats = ap (encodeAll 2) lines-seats
+    pub bytes-seats : minedBytes 2 F ≡ 0x20 ∷ (shapeOf F ++ encodeAll 2 (map (seatLines F) (seatGroups F)))
+    unfolding minedBytes encodeFile
+    bytes-seats = ap (λ (ls : List Lines). 0x20 ∷ (shapeOf F ++ encodeAll 2 ls)) lines-seats
 
     costs-seats : (weights : Weights) → sum (λ g. ruleCost (settingOf F) weights (ruleOf (settingOf F) (rolesIn F) g)) (minedGroups (settingOf F) (rolesIn F)) ≡ sum (λ g. ruleCost (settingOf F) weights (seatRule F g)) (seatGroups F)
     costs-seats weights =
@@ -288,7 +289,7 @@ module _ (F : Policy) where
 
     -- the counts that go with it are those of the seats
     pub counts-seats : (weights : Weights)
-        → minedCounts 2 F weights ≡ record { size = length (encodeAll 2 (map (seatLines F) (seatGroups F))); parts = length (seatsOf F); rules = length (seatGroups F); merges = seatMerges F; cost = sum (λ g. ruleCost (settingOf F) weights (seatRule F g)) (seatGroups F) }
+        → minedCounts 2 F weights ≡ record { size = length (0x20 ∷ (shapeOf F ++ encodeAll 2 (map (seatLines F) (seatGroups F)))); parts = length (seatsOf F); rules = length (seatGroups F); merges = seatMerges F; cost = sum (λ g. ruleCost (settingOf F) weights (seatRule F g)) (seatGroups F) }
     unfolding minedCounts
     counts-seats weights =
         counts-same _ _ _ _ _ _ _ _ _ _ (ap length bytes-seats) count-seats

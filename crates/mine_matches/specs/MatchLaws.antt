@@ -12,6 +12,7 @@ use mathlib.Core.Path.{_≡_, refl, sym, ap, ap₂, _∙_, subst}
 use native.Mathlib.Omega.{arith}
 use Rattle.role_admit.specs.AdmitLaws.{side-kinds, column-known}
 use Rattle.role_admit.specs.RoleTableLaws.{holders-shown}
+use Rattle.files.specs.Beside.{besideOf}
 use Rattle.files.specs.RoleFile.{sideBy}
 use Rattle.files.specs.RuleFile.{legal, value}
 use Rattle.role_record.specs.Places.{placeSide, placeAttribute}
@@ -104,7 +105,7 @@ module _ (F : Policy) (Z : Sized F) where
 
   -- ---- who meets it
 
-  met-side : (s a v : ℕ) (set : Bool) → s < 2 → Is (legal (settingOf F) (rolesIn F) (value (sideBy s) set a v))
+  met-side : (s a v : ℕ) (set : Bool) → s < 2 → Is (legal (besideOf F) (value (sideBy s) set a v))
       → meetingOf s set a v (F .table (sideBy s) .count) (F .roles) (knownTable F) (valueTable F) (recordOf F .holders) ≡ maskOf (F .table (sideBy s) .count) (λ x. both (settingOf F .side (sideBy s) .below a) (some v) (settingOf F .side (sideBy s) .value a x))
   met-side s a v set hs h =
       meeting-means F Z s set a v hs h
@@ -112,14 +113,14 @@ module _ (F : Policy) (Z : Sized F) where
       (λ x l. meets-one (settingOf F .side (sideBy s)) a v x)
 
   -- a 255 whose value somebody has is legal
-  own-legal : (s y v : ℕ) → s < 2 → y < F .table (sideBy s) .count → valueAt F (sideBy s) own y ≡ some v → Is (legal (settingOf F) (rolesIn F) (value (sideBy s) (eqb s 0) own v))
+  own-legal : (s y v : ℕ) → s < 2 → y < F .table (sideBy s) .count → valueAt F (sideBy s) own y ≡ some v → Is (legal (besideOf F) (value (sideBy s) (eqb s 0) own v))
   unfolding legal valueAt settingOf sideOf rolesIn rolesOf
   own-legal zero y v hs hy e = lt-ltb v (2 ^ F .roles) (let d : rolesOf F y ≡ v = cc in omega (arith, d, mask-lt (F .roles) (λ k. held F k y)))
   own-legal (suc zero) y v hs hy e = lt-ltb v (F .table resource .count) (let d : y ≡ v = cc in omega arith)
   own-legal (suc (suc n)) y v hs hy e = absurd (omega arith)
 
   -- so is a value of a declared attribute
-  declared-legal : (w : Which) (a v : ℕ) → a < length (F .table w .kinds) → Is (legal (settingOf F) (rolesIn F) (value w (kindOf (F .table w) a) a v))
+  declared-legal : (w : Which) (a v : ℕ) → a < length (F .table w .kinds) → Is (legal (besideOf F) (value w (kindOf (F .table w) a) a v))
   unfolding legal settingOf sideOf isSetAt
   declared-legal w a v h =
       let n = Z .declared w in

@@ -146,7 +146,8 @@ pub fn mine_record<'a>(
         &inside,
         kinds,
         permissions,
-        sizes.operations,
+        sizes,
+        attributes,
         scratch,
         out,
     )

@@ -5,10 +5,11 @@ ghost use mathlib.Core.Path.{_≡_};
 ghost use Rattle.mine_seats.specs.Seats.{scratchWords};
 ghost use Rattle.files.specs.Answer.{told, accepted};
 ghost use Rattle.files.specs.Calls.{Counts, countValues, mineAnswer, mineOutput};
+ghost use Rattle.files.specs.Beside.{besideOf};
 ghost use Rattle.files.specs.Demand3.{Demand3};
 ghost use Rattle.files.specs.RoleFile.{readRoles};
 ghost use Rattle.policy.specs.Cost.{fourOnes};
-ghost use Rattle.policy.specs.Policy.{Policy, settingOf, rolesIn};
+ghost use Rattle.policy.specs.Policy.{Policy};
 ghost use Rattle.write_answer.specs.MinedNumbers.{minedNumbers};
 ghost use Rattle.write_answer.specs.Stages.{bytesFor, neededBytes, Outcome};
 use files::refusal;
@@ -81,7 +82,7 @@ pub fn mine(file: &[u8], weights: Weights, scratch: &mut [u64], out: &mut [u8]) 
         ≡ accepted c
         → (F : Policy)
         × (readRoles 2 (now (file .entry)) ≡ accepted F)
-        × Demand3 2 weights (settingOf F) (rolesIn F) (take (c .size) (now (out .exit))) c) ⌝ }
+        × Demand3 2 weights (besideOf F) (take (c .size) (now (out .exit))) c) ⌝ }
 {
     if scratch.len() < SCRATCH {
         return Mined::Refused(refusal::SMALL_SCRATCH);

@@ -67,7 +67,7 @@ Sided (Link t) = Unit {0}
 Sided (Part k m) = Unit {0}
 Sided Ends = Unit {0}
 
--- the byte of a known command, its first and its second operand: 0 where it has none
+-- the byte of a known command that may stand behind the first, its first and its second operand: 0 where it has none
 pub data Shape : ℕ → ℕ → ℕ → Type 0 where
   shape-opens : Shape 0x21 0 0
   shape-user-single : (a v : ℕ) → Shape 0x22 a v

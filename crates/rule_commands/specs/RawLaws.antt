@@ -11,12 +11,11 @@ use mathlib.Core.Path.{_≡_, refl, sym, ap, _∙_, subst}
 use native.Mathlib.Omega.{arith}
 use Rattle.file_bytes.specs.Numbers.{numberAt, totalOf, numbersAt}
 use Rattle.role_commands.specs.DecodeLaws.{operands-at, operands-short, first-byte}
-use Rattle.files.specs.Answer.{andThen, rulesCutOff, rulesUnknown, refused}
+use Rattle.files.specs.Answer.{Answer, andThen, rulesCutOff, rulesUnknown, rulesOrder, refused, accepted}
+use Rattle.files.specs.Beside.{Beside}
 use Rattle.files.specs.Bytes.{operands, turn, decode, readOn}
 use Rattle.files.specs.BytesLaws.{follow}
-use Rattle.files.specs.RuleFile.{byteOf, precedes, Reading, endsFile, obeyRule, ruleWidths, ruleFormat}
-use Rattle.policy.specs.Roles.{Roles}
-use Rattle.policy.specs.Rules.{Setting}
+use Rattle.files.specs.RuleFile.{RuleCommand, byteOf, ruleCommand, precedes, Reading, endsFile, obeyRule, ruleWidths, ruleFormat}
 use Rattle.rule_commands.specs.Raw.{shape-opens, shape-user-single, shape-user-set, shape-resource-single, shape-resource-set, shape-operations, shape-link, shape-part, shape-ends, takenBy, rawBy, rawOf, rawBefore, commandOf, Shape}
 use Rattle.rule_commands.specs.declared.Raw.{Raw}
 use Rattle.rule_commands.specs.declared.Raw.the-variants.{Whole, Unknown, Short}
@@ -36,13 +35,13 @@ shape-second shape-ends e = refl
 
 -- ---- what was taken
 
--- whatever command was taken, it is a known one
+-- whatever command was taken, it is a known one: a 20, or one of those that may stand behind it
 abbrev Shaped : Raw → Type 0
-Shaped (Whole b x y w) = Shape b x y
+Shaped (Whole b x y w) = (b ≡ 0x20 → ⊥) → Shape b x y
 Shaped Unknown = Unit {0}
 Shaped Short = Unit {0}
 
-taken-shaped : (ws : List ℕ) (b : ℕ) (l : List ℕ) → Shape b (getD (numbersAt ws l 1) 0 0) (getD (numbersAt ws l 1) 1 0) → Shaped (takenBy ws b l)
+taken-shaped : (ws : List ℕ) (b : ℕ) (l : List ℕ) → ((b ≡ 0x20 → ⊥) → Shape b (getD (numbersAt ws l 1) 0 0) (getD (numbersAt ws l 1) 1 0)) → Shaped (takenBy ws b l)
 unfolding takenBy
 taken-shaped ws b l h = go (ltb (length l) (suc (totalOf ws)))
   where
@@ -53,16 +52,17 @@ taken-shaped ws b l h = go (ltb (length l) (suc (totalOf ws)))
 by-shaped : (b : ℕ) (l : List ℕ) → Shaped (rawBy (ruleWidths 2 b) b l)
 unfolding rawBy
 by-shaped b l =
-    test (eqb b 0x21) (at 0x21 (taken-shaped [] 0x21 l shape-opens)) λ n1.
-    test (eqb b 0x22) (at 0x22 (taken-shaped (1 ∷ 2 ∷ []) 0x22 l (shape-user-single _ _))) λ n2.
-    test (eqb b 0x23) (at 0x23 (taken-shaped (1 ∷ 8 ∷ []) 0x23 l (shape-user-set _ _))) λ n3.
-    test (eqb b 0x24) (at 0x24 (taken-shaped (1 ∷ 2 ∷ []) 0x24 l (shape-resource-single _ _))) λ n4.
-    test (eqb b 0x25) (at 0x25 (taken-shaped (1 ∷ 8 ∷ []) 0x25 l (shape-resource-set _ _))) λ n5.
-    test (eqb b 0x26) (at 0x26 (taken-shaped (2 ∷ []) 0x26 l (shape-operations _))) λ n6.
-    test (eqb b 0x27) (at 0x27 (taken-shaped (1 ∷ 1 ∷ []) 0x27 l (shape-link _ _))) λ n7.
-    test (eqb b 0x28) (at 0x28 (taken-shaped (1 ∷ 2 ∷ []) 0x28 l (shape-part _ _))) λ n8.
-    test (eqb b 0x2F) (at 0x2F (taken-shaped [] 0x2F l shape-ends)) λ n9.
-    rw (n1, n2, n3, n4, n5, n6, n7, n8, n9) tt
+    test (eqb b 0x20) (at 0x20 (taken-shaped (1 ∷ 1 ∷ 1 ∷ 1 ∷ 1 ∷ 1 ∷ []) 0x20 l (λ n. absurd (n refl)))) λ n0.
+    test (eqb b 0x21) (at 0x21 (taken-shaped [] 0x21 l (λ n. shape-opens))) λ n1.
+    test (eqb b 0x22) (at 0x22 (taken-shaped (1 ∷ 2 ∷ []) 0x22 l (λ n. (shape-user-single _ _)))) λ n2.
+    test (eqb b 0x23) (at 0x23 (taken-shaped (1 ∷ 8 ∷ []) 0x23 l (λ n. (shape-user-set _ _)))) λ n3.
+    test (eqb b 0x24) (at 0x24 (taken-shaped (1 ∷ 2 ∷ []) 0x24 l (λ n. (shape-resource-single _ _)))) λ n4.
+    test (eqb b 0x25) (at 0x25 (taken-shaped (1 ∷ 8 ∷ []) 0x25 l (λ n. (shape-resource-set _ _)))) λ n5.
+    test (eqb b 0x26) (at 0x26 (taken-shaped (2 ∷ []) 0x26 l (λ n. (shape-operations _)))) λ n6.
+    test (eqb b 0x27) (at 0x27 (taken-shaped (1 ∷ 1 ∷ []) 0x27 l (λ n. (shape-link _ _)))) λ n7.
+    test (eqb b 0x28) (at 0x28 (taken-shaped (1 ∷ 2 ∷ []) 0x28 l (λ n. (shape-part _ _)))) λ n8.
+    test (eqb b 0x2F) (at 0x2F (taken-shaped [] 0x2F l (λ n. shape-ends))) λ n9.
+    rw (n0, n1, n2, n3, n4, n5, n6, n7, n8, n9) tt
   where
     at : (c : ℕ) → Shaped (rawBy (ruleWidths 2 c) c l) → eqb b c ≡ true → Shaped (rawBy (ruleWidths 2 b) b l)
     at c h k = subst (λ (d : ℕ). Shaped (rawBy (ruleWidths 2 d) d l)) (sym (eqb-true b c k)) h
@@ -71,7 +71,7 @@ raw-cons : (b : ℕ) (bs : List ℕ) → rawOf (b ∷ bs) ≡ rawBy (ruleWidths 
 unfolding rawOf
 raw-cons b bs = rw (ne-eqb (suc (length bs)) 0 (omega arith), first-byte b bs) refl
 
-pub raw-shape : (l : List ℕ) (b x y w : ℕ) → rawOf l ≡ Whole b x y w → Shape b x y
+pub raw-shape : (l : List ℕ) (b x y w : ℕ) → rawOf l ≡ Whole b x y w → (b ≡ 0x20 → ⊥) → Shape b x y
 unfolding rawOf
 raw-shape [] b x y w e = let z : _≡_ {A = ℕ} 0 1 = cc in absurd (omega arith)
 raw-shape (c ∷ cs) b x y w e = subst Shaped (sym (raw-cons c cs) ∙ e) (by-shaped c (c ∷ cs))
@@ -96,70 +96,128 @@ pub raw-at : (l : List ℕ) (b : ℕ) (o : Option (List ℕ)) → (length l ≡ 
 unfolding rawOf
 raw-at l b o h e k = rw (ne-eqb (length l) 0 h, ← e, k) refl
 
--- ---- one turn of reading, by what was taken from the front
+-- ---- what was taken from the front, as the one reader of bytes takes it
 
-module _ (P : Setting) (R : Roles) (n : ℕ) (s : Reading) where
-  pub raw-short : (l : List ℕ) → rawOf l ≡ Short → readOn (ruleFormat 2 P R) (suc n) false s l ≡ refused rulesCutOff
-  unfolding ruleFormat rawBy takenBy
-  raw-short [] e = refl
-  raw-short (b ∷ bs) e = go (ruleWidths 2 b) (sym (raw-cons b bs) ∙ e)
+module _ (b : ℕ) (bs : List ℕ) where
+  -- less than a command
+  pub front-short : rawOf (b ∷ bs) ≡ Short → (ws : List ℕ) × (ruleWidths 2 b ≡ some ws) × (operands ws bs ≡ none)
+  unfolding rawBy takenBy
+  front-short e = go (ruleWidths 2 b) refl (sym (raw-cons b bs) ∙ e)
     where
       cut : (ws : List ℕ) (short : Bool) → ltb (suc (length bs)) (suc (totalOf ws)) ≡ short
-          → cond short Short (Whole b (getD (numbersAt ws (b ∷ bs) 1) 0 0) (getD (numbersAt ws (b ∷ bs) 1) 1 0) (suc (totalOf ws))) ≡ Short
-          → turn (ruleFormat 2 P R) (readOn (ruleFormat 2 P R) n) s b (operands ws bs) ≡ refused rulesCutOff
-      cut ws true h k = let m = ltb-true (suc (length bs)) (suc (totalOf ws)) h in ap (turn (ruleFormat 2 P R) (readOn (ruleFormat 2 P R) n) s b) (operands-short ws 1 (b ∷ bs) (omega arith) (omega arith))
+          → cond short Short (Whole b (getD (numbersAt ws (b ∷ bs) 1) 0 0) (getD (numbersAt ws (b ∷ bs) 1) 1 0) (suc (totalOf ws))) ≡ Short → operands ws bs ≡ none
+      cut ws true h k = let m = ltb-true (suc (length bs)) (suc (totalOf ws)) h in operands-short ws 1 (b ∷ bs) (omega arith) (omega arith)
       cut ws false h k = let z : _≡_ {A = ℕ} 0 1 = cc in absurd (omega arith)
 
-      go : (o : Option (List ℕ)) → rawBy o b (b ∷ bs) ≡ Short → decode (ruleFormat 2 P R) (readOn (ruleFormat 2 P R) n) s b bs o ≡ refused rulesCutOff
-      go none k = let z : _≡_ {A = ℕ} 0 1 = cc in absurd (omega arith)
-      go (some ws) k = cut ws (ltb (suc (length bs)) (suc (totalOf ws))) refl k
+      go : (o : Option (List ℕ)) → ruleWidths 2 b ≡ o → rawBy o b (b ∷ bs) ≡ Short → (ws : List ℕ) × (ruleWidths 2 b ≡ some ws) × (operands ws bs ≡ none)
+      go none q k = let z : _≡_ {A = ℕ} 0 1 = cc in absurd (omega arith)
+      go (some ws) q k = (ws, q, cut ws (ltb (suc (length bs)) (suc (totalOf ws))) refl k)
 
-  pub raw-unknown : (l : List ℕ) → rawOf l ≡ Unknown → readOn (ruleFormat 2 P R) (suc n) false s l ≡ refused rulesUnknown
-  unfolding ruleFormat rawOf rawBy takenBy
-  raw-unknown [] e = let z : _≡_ {A = ℕ} 0 1 = cc in absurd (omega arith)
-  raw-unknown (b ∷ bs) e = go (ruleWidths 2 b) (sym (raw-cons b bs) ∙ e)
+  -- an unknown one
+  pub front-unknown : rawOf (b ∷ bs) ≡ Unknown → ruleWidths 2 b ≡ none
+  unfolding rawBy takenBy
+  front-unknown e = go (ruleWidths 2 b) refl (sym (raw-cons b bs) ∙ e)
     where
       known : (ws : List ℕ) (short : Bool)
           → cond short Short (Whole b (getD (numbersAt ws (b ∷ bs) 1) 0 0) (getD (numbersAt ws (b ∷ bs) 1) 1 0) (suc (totalOf ws))) ≡ Unknown → ⊥
       known ws true k = let z : _≡_ {A = ℕ} 0 1 = cc in omega arith
       known ws false k = let z : _≡_ {A = ℕ} 0 1 = cc in omega arith
 
-      go : (o : Option (List ℕ)) → rawBy o b (b ∷ bs) ≡ Unknown → decode (ruleFormat 2 P R) (readOn (ruleFormat 2 P R) n) s b bs o ≡ refused rulesUnknown
-      go none k = refl
-      go (some ws) k = absurd (known ws (ltb (suc (length bs)) (suc (totalOf ws))) k)
+      go : (o : Option (List ℕ)) → ruleWidths 2 b ≡ o → rawBy o b (b ∷ bs) ≡ Unknown → ruleWidths 2 b ≡ none
+      go none q k = q
+      go (some ws) q k = absurd (known ws (ltb (suc (length bs)) (suc (totalOf ws))) k)
+
+  -- a whole one, of byte c with operands x and y, of w bytes
+  pub record Front (c x y w : ℕ) : Type 0 where
+    pub widths : List ℕ
+    pub known : ruleWidths 2 b ≡ some widths
+    pub fits : suc (totalOf widths) ≤ suc (length bs)
+    pub byte : b ≡ c
+    pub first : getD (numbersAt widths (b ∷ bs) 1) 0 0 ≡ x
+    pub second : getD (numbersAt widths (b ∷ bs) 1) 1 0 ≡ y
+    pub size : suc (totalOf widths) ≡ w
+
+  pub front-whole : (c x y w : ℕ) → rawOf (b ∷ bs) ≡ Whole c x y w → Front c x y w
+  unfolding rawBy takenBy
+  front-whole c x y w e = go (ruleWidths 2 b) refl (sym (raw-cons b bs) ∙ e)
+    where
+      whole : (ws : List ℕ) → ruleWidths 2 b ≡ some ws → (short : Bool) → ltb (suc (length bs)) (suc (totalOf ws)) ≡ short
+          → cond short Short (Whole b (getD (numbersAt ws (b ∷ bs) 1) 0 0) (getD (numbersAt ws (b ∷ bs) 1) 1 0) (suc (totalOf ws))) ≡ Whole c x y w → Front c x y w
+      whole ws o true h k = let z : _≡_ {A = ℕ} 0 1 = cc in absurd (omega arith)
+      whole ws o false h k = record { widths = ws; known = o; fits = ltb-false (suc (length bs)) (suc (totalOf ws)) h; byte = cc; first = cc; second = cc; size = cc }
+
+      go : (o : Option (List ℕ)) → ruleWidths 2 b ≡ o → rawBy o b (b ∷ bs) ≡ Whole c x y w → Front c x y w
+      go none o k = let z : _≡_ {A = ℕ} 0 1 = cc in absurd (omega arith)
+      go (some ws) o k = whole ws o (ltb (suc (length bs)) (suc (totalOf ws))) refl k
+
+  -- its operands, and the bytes behind it
+  pub front-taken : (c x y w : ℕ) (f : Front c x y w) → operands (f .widths) bs ≡ some (numbersAt (f .widths) (b ∷ bs) 1, drop w (b ∷ bs))
+  front-taken c x y w f =
+      let h = f .fits in
+      let k = f .size in
+      let e : 1 + totalOf (f .widths) ≡ w = omega arith in
+      operands-at (f .widths) 1 (b ∷ bs) (omega arith) ∙ ap (λ (k : ℕ). some (numbersAt (f .widths) (b ∷ bs) 1, drop k (b ∷ bs))) e
+
+-- a command has no more than two operands that are looked at
+same-command : (xs : List ℕ) (c b x y : ℕ) → c ≡ b → getD xs 0 0 ≡ x → getD xs 1 0 ≡ y → ruleCommand c xs ≡ commandOf b x y
+unfolding commandOf
+same-command xs c b x y e p q = rw (← e, ← p, ← q) refl
+
+-- nothing stands at the front of nothing
+pub raw-none : rawOf [] ≡ Short
+unfolding rawOf
+raw-none = refl
+
+-- ---- one turn of reading, by what was taken from the front
+
+module _ (B : Beside) (n : ℕ) (s : Reading) where
+  pub raw-short : (l : List ℕ) → rawOf l ≡ Short → readOn (ruleFormat 2 B) (suc n) false s l ≡ refused rulesCutOff
+  unfolding ruleFormat
+  raw-short [] e = refl
+  raw-short (b ∷ bs) e =
+      let f = front-short b bs e in
+      ap (decode (ruleFormat 2 B) (readOn (ruleFormat 2 B) n) s b bs) (f .1) ∙ ap (turn (ruleFormat 2 B) (readOn (ruleFormat 2 B) n) s b) (f .2)
+
+  pub raw-unknown : (l : List ℕ) → rawOf l ≡ Unknown → readOn (ruleFormat 2 B) (suc n) false s l ≡ refused rulesUnknown
+  unfolding ruleFormat
+  raw-unknown [] e = let q = sym raw-none ∙ e in let z : _≡_ {A = ℕ} 0 1 = cc in absurd (omega arith)
+  raw-unknown (b ∷ bs) e = ap (decode (ruleFormat 2 B) (readOn (ruleFormat 2 B) n) s b bs) (front-unknown b bs e)
 
   -- a whole command stands at the front
   pub record RawFront (l : List ℕ) (b x y w : ℕ) : Type 0 where
     pub some-bytes : 0 < w
     pub inside : w ≤ length l
-    pub shape : Shape b x y
-    pub turned : readOn (ruleFormat 2 P R) (suc n) false s l ≡ andThen (obeyRule P R s (commandOf b x y)) (follow (ruleFormat 2 P R) (endsFile (commandOf b x y)) n (drop w l))
+    pub shape : (b ≡ 0x20 → ⊥) → Shape b x y
+    pub turned : readOn (ruleFormat 2 B) (suc n) false s l ≡ andThen (obeyRule B s (commandOf b x y)) (follow (ruleFormat 2 B) (endsFile (commandOf b x y)) n (drop w l))
 
   pub raw-whole : (l : List ℕ) (b x y w : ℕ) → rawOf l ≡ Whole b x y w → RawFront l b x y w
-  unfolding ruleFormat rawOf rawBy takenBy commandOf
-  raw-whole [] b x y w e = let z : _≡_ {A = ℕ} 0 1 = cc in absurd (omega arith)
-  raw-whole (c ∷ cs) b x y w e = go (ruleWidths 2 c) refl (sym (raw-cons c cs) ∙ e)
-    where
-      front : (ws : List ℕ) → ruleWidths 2 c ≡ some ws → suc (totalOf ws) ≤ suc (length cs)
-          → c ≡ b → getD (numbersAt ws (c ∷ cs) 1) 0 0 ≡ x → getD (numbersAt ws (c ∷ cs) 1) 1 0 ≡ y → suc (totalOf ws) ≡ w → RawFront (c ∷ cs) b x y w
-      front ws o h eb ex ey ew = record {
+  unfolding ruleFormat
+  raw-whole [] b x y w e = let q = sym raw-none ∙ e in let z : _≡_ {A = ℕ} 0 1 = cc in absurd (omega arith)
+  raw-whole (c ∷ cs) b x y w e =
+      let f = front-whole c cs b x y w e in
+      let h = f .fits in
+      let k = f .size in
+      record {
         some-bytes = omega arith;
         inside = omega arith;
         shape = raw-shape (c ∷ cs) b x y w e;
         turned =
-            ap (decode (ruleFormat 2 P R) (readOn (ruleFormat 2 P R) n) s c cs) o
-            ∙ ap (turn (ruleFormat 2 P R) (readOn (ruleFormat 2 P R) n) s c) (operands-at ws 1 (c ∷ cs) (omega arith))
-            ∙ rw (← eb, ← ex, ← ey, ← ew, let d : 1 + totalOf ws ≡ suc (totalOf ws) = omega arith in d) refl;
+            ap (decode (ruleFormat 2 B) (readOn (ruleFormat 2 B) n) s c cs) (f .known)
+            ∙ ap (turn (ruleFormat 2 B) (readOn (ruleFormat 2 B) n) s c) (front-taken c cs b x y w f)
+            ∙ ap (λ (d : RuleCommand). andThen (obeyRule B s d) (follow (ruleFormat 2 B) (endsFile d) n (drop w (c ∷ cs)))) (same-command (numbersAt (f .widths) (c ∷ cs) 1) c b x y (f .byte) (f .first) (f .second));
       }
 
-      whole : (ws : List ℕ) → ruleWidths 2 c ≡ some ws → (short : Bool) → ltb (suc (length cs)) (suc (totalOf ws)) ≡ short
-          → cond short Short (Whole c (getD (numbersAt ws (c ∷ cs) 1) 0 0) (getD (numbersAt ws (c ∷ cs) 1) 1 0) (suc (totalOf ws))) ≡ Whole b x y w → RawFront (c ∷ cs) b x y w
-      whole ws o true h k = let z : _≡_ {A = ℕ} 0 1 = cc in absurd (omega arith)
-      whole ws o false h k = front ws o (ltb-false (suc (length cs)) (suc (totalOf ws)) h) (cc) (cc) (cc) (cc)
+-- a 20 is refused wherever it is read on
+pub again-refused : (B : Beside) (s : Reading) (b x y : ℕ) → b ≡ 0x20 → obeyRule B s (commandOf b x y) ≡ refused rulesOrder
+unfolding commandOf obeyRule
+again-refused B s b x y e = rw e refl
 
-      go : (o : Option (List ℕ)) → ruleWidths 2 c ≡ o → rawBy o c (c ∷ cs) ≡ Whole b x y w → RawFront (c ∷ cs) b x y w
-      go none o k = let z : _≡_ {A = ℕ} 0 1 = cc in absurd (omega arith)
-      go (some ws) o k = whole ws o (ltb (suc (length cs)) (suc (totalOf ws))) refl k
+-- so where reading on is accepted another command stands at the front
+pub accepted-shape : {A : Type 0} (B : Beside) (n : ℕ) (s : Reading) (l : List ℕ) (b x y w : ℕ) → RawFront B n s l b x y w → (g : Reading → Answer A) (a : A)
+    → andThen (readOn (ruleFormat 2 B) (suc n) false s l) g ≡ accepted a → Shape b x y
+accepted-shape B n s l b x y w f g a e = f .shape λ z.
+    let q = sym (ap (λ (r : Answer Reading). andThen r g) (f .turned ∙ ap (λ (r : Answer Reading). andThen r (follow (ruleFormat 2 B) (endsFile (commandOf b x y)) n (drop w l))) (again-refused B s b x y z))) ∙ e in
+    let t : _≡_ {A = ℕ} 0 1 = cc in omega arith
 
 -- ---- the order
 

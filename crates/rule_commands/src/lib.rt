@@ -116,6 +116,18 @@ fn byte_and_word(s: &[u8], b: usize) -> Raw
     Raw::Whole(b, x, y, 10)
 }
 
+// A command of six operands of one byte each, of which the first two are handed on.
+fn six_bytes(s: &[u8], b: usize) -> Raw
+    ensures { λ r. ⌜ r ≡ takenBy (1 ∷ 1 ∷ 1 ∷ 1 ∷ 1 ∷ 1 ∷ []) b (now (s .entry)) ⌝ }
+{
+    if s.len() < 7 {
+        return Raw::Short;
+    }
+    let x = file_bytes::byte_at(s, 1) as u64;
+    let y = file_bytes::byte_at(s, 2) as u64;
+    Raw::Whole(b, x, y, 7)
+}
+
 // The next command.
 pub fn next(s: &[u8]) -> Raw
     ensures { λ r. ⌜ r ≡ rawOf (now (s .entry)) ⌝ }
@@ -133,6 +145,7 @@ pub fn next(s: &[u8]) -> Raw
         rule_byte::USER_SET | rule_byte::RESOURCE_SET => byte_and_word(s, b),
         rule_byte::OPERATIONS => one_pair(s, b),
         rule_byte::LINK => two_bytes(s, b),
+        rule_byte::SHAPE => six_bytes(s, b),
         _ => Raw::Unknown,
     }
 }

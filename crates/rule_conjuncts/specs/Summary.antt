@@ -5,7 +5,7 @@ use lib.Dec.{eqb, ltb}
 use lib.ListN.{length, getD, set}
 use mathlib.Core.Bool.{Bool, false}
 use mathlib.Core.List.{List}
-use Rattle.files.specs.RuleFile.{RuleCommand, Lines, valuesIn, opens, value, operations, link, part, ends}
+use Rattle.files.specs.RuleFile.{RuleCommand, Lines, valuesIn, reshapes, opens, value, operations, link, part, ends}
 use Rattle.role_record.specs.Places.{placeSide, placeAttribute}
 use Rattle.role_record.specs.Record.{tableOf}
 use Rattle.policy.specs.Rules.{Setting, meets}
@@ -30,6 +30,7 @@ module _ (P : Setting) (ls : Lines) where
 
 -- an atom's number among the 36
 abbrev pub isAtom : ℕ → RuleCommand → Bool
+isAtom i reshapes = false
 isAtom i opens = false
 isAtom i (value w set a v) = false
 isAtom i (operations m) = false

@@ -3,7 +3,7 @@ ghost use mathlib.Core.Path.{_≡_};
 ghost use Rattle.files.specs.Calls.{readBoth};
 ghost use Rattle.policy.specs.Policy.{Policy};
 ghost use Rattle.rule_reading.specs.BothFiles.{nothingRead, bothOf};
-ghost use Rattle.rule_reading.specs.Turns.{bothWith, Beside, readBeside};
+ghost use Rattle.rule_reading.specs.Turns.{bothWith, Tabled, readBeside};
 use role_record::ByRole;
 use role_record::Grid;
 use role_record::Links;
@@ -45,12 +45,12 @@ fn accept(f: RoleFile, k: Tally, grid: Grid, seen: ByRole, again: ByRole) -> Bot
     }
 }
 
-// One pass over the rule file, beside a role file's record, sizes and links: each line is summed up where it stands, and what a rule grants
+// One pass over what stands behind the first command of a rule file, beside a role file's record, sizes and links: each line is summed up where it stands, and what a rule grants
 // is worked out when it is closed.
 fn read_rules(f: RoleFile, sizes: Sizes, links: &Links, rules: &[u8]) -> BothFiles
-    requires { ⌜ ((F : Policy) × Beside F f sizes (now links)) ⌝ }
+    requires { ⌜ ((F : Policy) × Tabled F f sizes (now links)) ⌝ }
     ensures { λ r. ⌜
-        ((F : Policy) → Beside F f sizes (now (links .entry)) → r ≡ bothOf (readBeside F (now (rules .entry)))) ⌝ }
+        ((F : Policy) → Tabled F f sizes (now (links .entry)) → r ≡ bothOf (readBeside F (now (rules .entry)))) ⌝ }
 {
     let mut k = rule_steps::begun();
     let mut met = [0u64; RoleFile::PLACES];
@@ -103,6 +103,16 @@ pub fn read(file: &[u8], rules: &[u8]) -> BothFiles
         return refuse(l.code);
     }
     let f = l.file;
+    let sizes = Sizes {
+        users: f.users,
+        resources: f.resources,
+        operations: f.operations,
+        roles: f.roles,
+    };
+    let opening = rule_opening::opening(rules, sizes, &f.attributes);
+    if opening != 0 {
+        return refuse(opening);
+    }
     let mut links = [0u64; RoleFile::ATOMS * RoleFile::USERS];
     grant_tables::links_of_values(
         &f.known,
@@ -115,11 +125,5 @@ pub fn read(file: &[u8], rules: &[u8]) -> BothFiles
         f.roles,
         &mut links,
     );
-    let sizes = Sizes {
-        users: f.users,
-        resources: f.resources,
-        operations: f.operations,
-        roles: f.roles,
-    };
-    read_rules(f, sizes, &links, rules)
+    read_rules(f, sizes, &links, &rules[rule_opening::BYTES..])
 }

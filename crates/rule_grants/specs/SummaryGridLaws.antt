@@ -12,9 +12,10 @@ use mathlib.Core.Path.{_≡_, refl, sym, ap, ap₂, _∙_, subst}
 use native.Mathlib.Omega.{arith}
 use Rattle.rule_conjuncts.specs.Summary.{metTable, askedPlaces, isAtom, atomPlaces, metByAll}
 use Rattle.grant_links.specs.Linked.{linkedWith}
+use Rattle.files.specs.Beside.{besideOf}
 use Rattle.files.specs.Calls.{isTriple}
 use Rattle.files.specs.LineLaws.{operationsOr}
-use Rattle.files.specs.RuleFile.{RuleCommand, Lines, linkOf, operationsIn, conjunctsIn, ruleIn, legal, opens, value, operations, link, part, ends}
+use Rattle.files.specs.RuleFile.{RuleCommand, Lines, linkOf, operationsIn, conjunctsIn, ruleIn, legal, reshapes, opens, value, operations, link, part, ends}
 use Rattle.grant_grids.specs.LinkLaws.{link-means}
 use Rattle.grant_grids.specs.Links.{linksOf}
 use Rattle.role_record.specs.Record.{Sized}
@@ -30,11 +31,12 @@ use Rattle.sets.specs.Sets.{narrowing, bit}
 use Rattle.sets.specs.TestLaws.{and-l, and-r, test, same, imp-in, imp-out, all-out, all-in, any-in, any-out, each-in, each-out, upTo-in, upTo-out}
 use Rattle.sets.specs.Tests.{Is, imp, _isIn_, all, any, each, upTo}
 
-module _ (F : Policy) (Z : Sized F) (ls : Lines) (h : Legal (settingOf F) (rolesIn F) ls) where
+module _ (F : Policy) (Z : Sized F) (ls : Lines) (h : Legal (besideOf F) ls) where
   -- ---- the atoms
 
   -- the line of an atom's number, and its attributes
   atom-line : (i : ℕ) (c : RuleCommand) → Is (isAtom i c) → (a : ℕ) × (b : ℕ) × (c ≡ link a b) × (i ≡ 6 * a + b)
+  atom-line i reshapes q = absurd (false≢true q)
   atom-line i opens q = absurd (false≢true q)
   atom-line i (value w s a v) q = absurd (false≢true q)
   atom-line i (operations m) q = absurd (false≢true q)
@@ -43,6 +45,7 @@ module _ (F : Policy) (Z : Sized F) (ls : Lines) (h : Legal (settingOf F) (roles
   atom-line i ends q = absurd (false≢true q)
 
   link-line : (d : Cond) (c : RuleCommand) → d isIn linkOf c → (a : ℕ) × (b : ℕ) × (c ≡ link a b) × (d ≡ atom a b)
+  link-line d reshapes m = absurd (List·Memᴰ·not-nil m)
   link-line d opens m = absurd (List·Memᴰ·not-nil m)
   link-line d (value w s a v) m = absurd (List·Memᴰ·not-nil m)
   link-line d (operations n) m = absurd (List·Memᴰ·not-nil m)
@@ -93,16 +96,17 @@ module _ (F : Policy) (Z : Sized F) (ls : Lines) (h : Legal (settingOf F) (roles
 
   -- ---- the operations
 
-  operand-low : (m : ℕ) → Is (legal (settingOf F) (rolesIn F) (operations m)) → m < 2 ^ F .operations
+  operand-low : (m : ℕ) → Is (legal (besideOf F) (operations m)) → m < 2 ^ F .operations
   unfolding legal settingOf
   operand-low m q = ltb-true m (2 ^ F .operations) (and-r (ltb 0 m) _ q)
 
   -- those of a rule are declared
-  operations-low : (ms : Lines) → Legal (settingOf F) (rolesIn F) ms → operationsIn ms < 2 ^ F .operations
+  operations-low : (ms : Lines) → Legal (besideOf F) ms → operationsIn ms < 2 ^ F .operations
   operations-low [] q = pow-pos (F .operations)
-  operations-low (c ∷ ms) q = one c (operationsIn ms) (q c (List·Memᴰ·head refl)) (operations-low ms (legal-rest (settingOf F) (rolesIn F) c ms q))
+  operations-low (c ∷ ms) q = one c (operationsIn ms) (q c (List·Memᴰ·head refl)) (operations-low ms (legal-rest (besideOf F) c ms q))
     where
-      one : (c : RuleCommand) (n : ℕ) → Is (legal (settingOf F) (rolesIn F) c) → n < 2 ^ F .operations → operationsOr c n < 2 ^ F .operations
+      one : (c : RuleCommand) (n : ℕ) → Is (legal (besideOf F) c) → n < 2 ^ F .operations → operationsOr c n < 2 ^ F .operations
+      one reshapes n q l = l
       one opens n q l = l
       one (value w s a v) n q l = l
       one (operations m) n q l = operand-low m q

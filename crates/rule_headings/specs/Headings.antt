@@ -7,6 +7,7 @@ use mathlib.Core.Bool.{Bool, false, cond, _&&_, _||_}
 use mathlib.Core.List.{List, []}
 use mathlib.Core.Option.{some}
 use mathlib.Core.Path.{_≡_}
+use Rattle.files.specs.Beside.{besideOf}
 use Rattle.files.specs.Answer.{andThen, accepted}
 use Rattle.files.specs.Bytes.{readOn}
 use Rattle.files.specs.RoleFile.{readRoles}
@@ -65,4 +66,4 @@ pub record RuleAt (F : Policy) (rules : List Lines) (n : ℕ) (s : List ℕ) : T
   pub earlier : List Lines
   pub number : length earlier ≡ n
   pub fuel : ℕ
-  pub accepts : andThen (readOn (ruleFormat 2 (settingOf F) (rolesIn F)) fuel false (record { complete = earlier; current = some [] }) s) (λ t. accepted (t .complete)) ≡ accepted rules
+  pub accepts : andThen (readOn (ruleFormat 2 (besideOf F)) fuel false (record { complete = earlier; current = some [] }) s) (λ t. accepted (t .complete)) ≡ accepted rules

@@ -12,16 +12,17 @@ use mathlib.Core.Option.{Option, none, some}
 use mathlib.Core.Path.{_≡_, refl, sym, ap, ap₂, _∙_, subst}
 use native.Mathlib.Omega.{arith}
 use Rattle.role_record.specs.Record.{Sized}
+use Rattle.files.specs.Beside.{besideOf}
 use Rattle.files.specs.Answer.{Refusal, Answer, andThen, unless, rulesOrder, rulesOperand, refused, accepted}
 use Rattle.files.specs.Bytes.{readOn}
 use Rattle.files.specs.BytesLaws.{read-behind, follow, Carries, unless-carries, then-carries, read-carries}
-use Rattle.files.specs.RuleFile.{RuleCommand, Lines, listed, valuesIn, ruleIn, Reading, whole, finished, follows, legal, addLine, obeyRule, endsFile, ruleFormat, opens, value, operations, link, part, ends}
+use Rattle.files.specs.RuleFile.{RuleCommand, Lines, listed, valuesIn, ruleIn, Reading, whole, finished, follows, legal, addLine, obeyRule, endsFile, ruleFormat, reshapes, opens, value, operations, link, part, ends}
 use Rattle.rule_levels.specs.Levels.{levelFor}
 use Rattle.policy.specs.Policy.{Policy, isSetAt, sideOf, settingOf, rolesIn}
 use Rattle.policy.specs.Rules.{own, Which, ruleLevel, user, resource}
 use Rattle.role_file.specs.SizedLaws.{accepted-sized}
 use Rattle.rule_commands.specs.Raw.{rawOf, commandOf, Shape, shape-opens, shape-user-single, shape-user-set, shape-resource-single, shape-resource-set, shape-operations, shape-link, shape-part, shape-ends}
-use Rattle.rule_commands.specs.RawLaws.{RawFront, raw-short, raw-unknown, raw-whole}
+use Rattle.rule_commands.specs.RawLaws.{RawFront, raw-short, raw-unknown, raw-whole, accepted-shape}
 use Rattle.sets.specs.ListLaws.{length-last}
 use Rattle.sets.specs.Tests.{Is, _isIn_, each, only}
 use Rattle.sets.specs.TestLaws.{test, only-out, eqb-turned}
@@ -79,7 +80,7 @@ module _ (F : Policy) where
 
   -- what is noted of legal lines of a rule: whether they list roles, and resources by their numbers
   record Agrees (h : Notes) (ls : Lines) : Type 0 where
-    all-legal : (c : RuleCommand) → c isIn ls → Is (legal (settingOf F) (rolesIn F) c)
+    all-legal : (c : RuleCommand) → c isIn ls → Is (legal (besideOf F) c)
     of-roles : h .roles ≡ listsOwn (settingOf F) ls user
     of-numbers : h .numbers ≡ listsOwn (settingOf F) ls resource
 
@@ -95,10 +96,10 @@ module _ (F : Policy) where
       (λ e. rw (e, eqb-true b 0x26 e) (sym (or-false (h .numbers))))
       (λ e. rw e refl)
 
-  agrees-more : (h : Notes) (ls : Lines) (b x y : ℕ) → Shape b x y → Is (legal (settingOf F) (rolesIn F) (commandOf b x y)) → Agrees h ls → Agrees (noted h b x) (ls ++ (commandOf b x y ∷ []))
+  agrees-more : (h : Notes) (ls : Lines) (b x y : ℕ) → Shape b x y → Is (legal (besideOf F) (commandOf b x y)) → Agrees h ls → Agrees (noted h b x) (ls ++ (commandOf b x y ∷ []))
   unfolding listsOwn valuesIn
   agrees-more h ls b x y p k n = record {
-    all-legal = λ c m. ⊎-elim (λ i. n .all-legal c i) (λ i. subst (λ (d : RuleCommand). Is (legal (settingOf F) (rolesIn F) d)) (sym (only-out true i .1)) k) (List·Memᴰ·append-cases ls m);
+    all-legal = λ c m. ⊎-elim (λ i. n .all-legal c i) (λ i. subst (λ (d : RuleCommand). Is (legal (besideOf F) d)) (sym (only-out true i .1)) k) (List·Memᴰ·append-cases ls m);
     of-roles =
         noted-roles h b x ∙ ap₂ _||_ (n .of-roles) (sym (line-roles p))
         ∙ sym (some-more (listed user (settingOf F .side user .isSet own) own) ls (commandOf b x y));
@@ -111,10 +112,10 @@ module _ (F : Policy) where
 
   -- reading on, and the rules that come of it
   abbrev pub comesTo : ℕ → Reading → List ℕ → Answer (List Lines)
-  comesTo n t s = andThen (readOn (ruleFormat 2 (settingOf F) (rolesIn F)) n false t s) (λ u. accepted (u .complete))
+  comesTo n t s = andThen (readOn (ruleFormat 2 (besideOf F)) n false t s) (λ u. accepted (u .complete))
 
   abbrev pub onFrom : ℕ → RuleCommand → List ℕ → Answer Reading → Answer (List Lines)
-  onFrom n c rest a = andThen (andThen a (follow (ruleFormat 2 (settingOf F) (rolesIn F)) (endsFile c) n rest)) (λ u. accepted (u .complete))
+  onFrom n c rest a = andThen (andThen a (follow (ruleFormat 2 (besideOf F)) (endsFile c) n rest)) (λ u. accepted (u .complete))
 
   -- a rule that is complete stays as it is
   module _ (i : ℕ) (ls : Lines) where
@@ -136,19 +137,20 @@ module _ (F : Policy) where
         go none = d
         go (some ks) = unless-carries Done (whole ks) rulesOrder (accepted (t .complete ++ (ks ∷ []))) (λ w. done-more (t .complete) ks d)
 
-    added-done : (t : Reading) (c : RuleCommand) → DoneIn t → Carries DoneIn (addLine (settingOf F) (rolesIn F) t c)
+    added-done : (t : Reading) (c : RuleCommand) → DoneIn t → Carries DoneIn (addLine (besideOf F) t c)
     unfolding addLine
     added-done t c d = go (t .current)
       where
         go : (o : Option Lines)
-            → Carries DoneIn (elim o [ none ↦ refused rulesOrder | some ks ↦ unless (follows ks c) rulesOrder (unless (legal (settingOf F) (rolesIn F) c) rulesOperand (accepted (record { complete = t .complete; current = some (ks ++ (c ∷ [])) }))) ])
+            → Carries DoneIn (elim o [ none ↦ refused rulesOrder | some ks ↦ unless (follows ks c) rulesOrder (unless (legal (besideOf F) c) rulesOperand (accepted (record { complete = t .complete; current = some (ks ++ (c ∷ [])) }))) ])
         go none = tt
         go (some ks) =
-            unless-carries DoneIn (follows ks c) rulesOrder (unless (legal (settingOf F) (rolesIn F) c) rulesOperand (accepted (record { complete = t .complete; current = some (ks ++ (c ∷ [])) })))
-            (λ f. unless-carries DoneIn (legal (settingOf F) (rolesIn F) c) rulesOperand (accepted (record { complete = t .complete; current = some (ks ++ (c ∷ [])) })) (λ l. d))
+            unless-carries DoneIn (follows ks c) rulesOrder (unless (legal (besideOf F) c) rulesOperand (accepted (record { complete = t .complete; current = some (ks ++ (c ∷ [])) })))
+            (λ f. unless-carries DoneIn (legal (besideOf F) c) rulesOperand (accepted (record { complete = t .complete; current = some (ks ++ (c ∷ [])) })) (λ l. d))
 
-    obeyed-done : (t : Reading) (c : RuleCommand) → DoneIn t → Carries DoneIn (obeyRule (settingOf F) (rolesIn F) t c)
+    obeyed-done : (t : Reading) (c : RuleCommand) → DoneIn t → Carries DoneIn (obeyRule (besideOf F) t c)
     unfolding obeyRule
+    obeyed-done t reshapes d = tt
     obeyed-done t opens d = then-carries Done DoneIn (finished t) (λ done. accepted (record { complete = done; current = some [] })) (finished-done t d) (λ done k. k)
     obeyed-done t (value w x a v) d = added-done t (value w x a v) d
     obeyed-done t (operations m) d = added-done t (operations m) d
@@ -158,7 +160,7 @@ module _ (F : Policy) where
 
     stays : (n : ℕ) (t : Reading) (s : List ℕ) (rules : List Lines) → DoneIn t → comesTo n t s ≡ accepted rules → getD rules i [] ≡ ls
     unfolding ruleFormat
-    stays n t s rules d e = go (readOn (ruleFormat 2 (settingOf F) (rolesIn F)) n false t s) (read-carries (ruleFormat 2 (settingOf F) (rolesIn F)) DoneIn obeyed-done n false t s d) e
+    stays n t s rules d e = go (readOn (ruleFormat 2 (besideOf F)) n false t s) (read-carries (ruleFormat 2 (besideOf F)) DoneIn obeyed-done n false t s d) e
       where
         go : (a : Answer Reading) → Carries DoneIn a → andThen a (λ u. accepted (u .complete)) ≡ accepted rules → getD rules i [] ≡ ls
         go (refused r) k q = let z : _≡_ {A = ℕ} 0 1 = cc in absurd (omega arith)
@@ -182,7 +184,7 @@ module _ (F : Policy) where
       Told h = Agrees h (getD rules (length earlier) [])
 
       -- a 21 closes it
-      opening : (n : ℕ) (ls : Lines) (h : Notes) (rest : List ℕ) → Agrees h ls → onFrom n opens rest (obeyRule (settingOf F) (rolesIn F) (opened ls) opens) ≡ accepted rules → Told h
+      opening : (n : ℕ) (ls : Lines) (h : Notes) (rest : List ℕ) → Agrees h ls → onFrom n opens rest (obeyRule (besideOf F) (opened ls) opens) ≡ accepted rules → Told h
       unfolding obeyRule finished
       opening n ls h rest g q = go (whole ls) q
         where
@@ -191,13 +193,13 @@ module _ (F : Policy) where
           go false k = refuted k
 
       -- and so does a 2F
-      ending : (n : ℕ) (ls : Lines) (h : Notes) (rest : List ℕ) → Agrees h ls → onFrom n ends rest (obeyRule (settingOf F) (rolesIn F) (opened ls) ends) ≡ accepted rules → Told h
+      ending : (n : ℕ) (ls : Lines) (h : Notes) (rest : List ℕ) → Agrees h ls → onFrom n ends rest (obeyRule (besideOf F) (opened ls) ends) ≡ accepted rules → Told h
       unfolding obeyRule finished
       ending n ls h rest g q = go n (whole ls) rest q
         where
           -- however far reading may go on behind the end
           go : (n : ℕ) (b : Bool) (rest : List ℕ) → onFrom n ends rest (andThen (unless b rulesOrder (accepted (earlier ++ (ls ∷ [])))) (λ done. accepted (record { complete = done; current = none }))) ≡ accepted rules → Told h
-          go n true [] k = told (sym (ap (λ (r : Answer Reading). andThen r (λ u. accepted (u .complete))) (read-behind (ruleFormat 2 (settingOf F) (rolesIn F)) n (record { complete = earlier ++ (ls ∷ []); current = none }) [])) ∙ k)
+          go n true [] k = told (sym (ap (λ (r : Answer Reading). andThen r (λ u. accepted (u .complete))) (read-behind (ruleFormat 2 (besideOf F)) n (record { complete = earlier ++ (ls ∷ []); current = none }) [])) ∙ k)
             where
               told : _≡_ {A = Answer (List Lines)} (accepted (earlier ++ (ls ∷ []))) (accepted rules) → Told h
               told e = let z : earlier ++ (ls ∷ []) ≡ rules = cc in subst (Agrees h) (sym (ap (λ (l : List Lines). getD l (length earlier) []) (sym z) ∙ getD-append-seam earlier ls [] [])) g
@@ -206,13 +208,13 @@ module _ (F : Policy) where
           go n false rest k = refuted k
 
       -- a line is added to it
-      lining : (n : ℕ) (ls : Lines) (c : RuleCommand) (rest : List ℕ) → endsFile c ≡ false → onFrom n c rest (addLine (settingOf F) (rolesIn F) (opened ls) c) ≡ accepted rules
-          → Is (legal (settingOf F) (rolesIn F) c) × (comesTo n (opened (ls ++ (c ∷ []))) rest ≡ accepted rules)
+      lining : (n : ℕ) (ls : Lines) (c : RuleCommand) (rest : List ℕ) → endsFile c ≡ false → onFrom n c rest (addLine (besideOf F) (opened ls) c) ≡ accepted rules
+          → Is (legal (besideOf F) c) × (comesTo n (opened (ls ++ (c ∷ []))) rest ≡ accepted rules)
       unfolding addLine
-      lining n ls c rest e q = go (follows ls c) (legal (settingOf F) (rolesIn F) c) refl q
+      lining n ls c rest e q = go (follows ls c) (legal (besideOf F) c) refl q
         where
-          go : (f l : Bool) → legal (settingOf F) (rolesIn F) c ≡ l → onFrom n c rest (unless f rulesOrder (unless l rulesOperand (accepted (opened (ls ++ (c ∷ [])))))) ≡ accepted rules
-              → Is (legal (settingOf F) (rolesIn F) c) × (comesTo n (opened (ls ++ (c ∷ []))) rest ≡ accepted rules)
+          go : (f l : Bool) → legal (besideOf F) c ≡ l → onFrom n c rest (unless f rulesOrder (unless l rulesOperand (accepted (opened (ls ++ (c ∷ [])))))) ≡ accepted rules
+              → Is (legal (besideOf F) c) × (comesTo n (opened (ls ++ (c ∷ []))) rest ≡ accepted rules)
           go true true p k = (p, sym (rw e refl) ∙ k)
           go true false p k = refuted k
           go false l p k = refuted k
@@ -233,8 +235,8 @@ module _ (F : Policy) where
           goes : (b x y w : ℕ) → rawOf s ≡ Whole b x y w → inRule b ≡ true → Told (notesOn m (noted h b x) (drop w s)) → Told (notesOn (suc m) h s)
           goes b x y w e k t = subst Told (sym (rw (e, k) refl)) t
 
-          inside : Noting n m → (b x y w : ℕ) → rawOf s ≡ Whole b x y w → RawFront (settingOf F) (rolesIn F) n (opened ls) s b x y w → Shape b x y → inRule b ≡ true → endsFile (commandOf b x y) ≡ false
-              → obeyRule (settingOf F) (rolesIn F) (opened ls) (commandOf b x y) ≡ addLine (settingOf F) (rolesIn F) (opened ls) (commandOf b x y) → Told (notesOn (suc m) h s)
+          inside : Noting n m → (b x y w : ℕ) → rawOf s ≡ Whole b x y w → RawFront (besideOf F) n (opened ls) s b x y w → Shape b x y → inRule b ≡ true → endsFile (commandOf b x y) ≡ false
+              → obeyRule (besideOf F) (opened ls) (commandOf b x y) ≡ addLine (besideOf F) (opened ls) (commandOf b x y) → Told (notesOn (suc m) h s)
           inside again b x y w e f p k d o =
               let r = lining n ls (commandOf b x y) (drop w s) d (sym (ap (onFrom n (commandOf b x y) (drop w s)) o) ∙ sym (ap (λ (a : Answer Reading). andThen a (λ u. accepted (u .complete))) (f .turned)) ∙ q) in
               let a = f .some-bytes in
@@ -242,7 +244,7 @@ module _ (F : Policy) where
               let z = length-drop w s in
               goes b x y w e k (again (ls ++ (commandOf b x y ∷ [])) (noted h b x) (drop w s) (omega arith) (agrees-more h ls b x y p (r .0) g) (r .1))
 
-          by-shape : Noting n m → {b x y : ℕ} → Shape b x y → (w : ℕ) → rawOf s ≡ Whole b x y w → RawFront (settingOf F) (rolesIn F) n (opened ls) s b x y w → Told (notesOn (suc m) h s)
+          by-shape : Noting n m → {b x y : ℕ} → Shape b x y → (w : ℕ) → rawOf s ≡ Whole b x y w → RawFront (besideOf F) n (opened ls) s b x y w → Told (notesOn (suc m) h s)
           by-shape again shape-opens w e f = stops _ _ _ w e refl (opening n ls h (drop w s) g (sym (ap (λ (a : Answer Reading). andThen a (λ u. accepted (u .complete))) (f .turned)) ∙ q))
           by-shape again shape-ends w e f = stops _ _ _ w e refl (ending n ls h (drop w s) g (sym (ap (λ (a : Answer Reading). andThen a (λ u. accepted (u .complete))) (f .turned)) ∙ q))
           by-shape again (shape-user-single a v) w e f = inside again _ _ _ w e f (shape-user-single a v) refl refl refl
@@ -254,15 +256,15 @@ module _ (F : Policy) where
           by-shape again (shape-part k o) w e f = inside again _ _ _ w e f (shape-part k o) refl refl refl
 
           go : Noting n m → (r : Raw) → rawOf s ≡ r → Told (notesOn (suc m) h s)
-          go again Short e = refuted (sym (ap (λ (a : Answer Reading). andThen a (λ u. accepted (u .complete))) (raw-short (settingOf F) (rolesIn F) n (opened ls) s e)) ∙ q)
-          go again Unknown e = refuted (sym (ap (λ (a : Answer Reading). andThen a (λ u. accepted (u .complete))) (raw-unknown (settingOf F) (rolesIn F) n (opened ls) s e)) ∙ q)
-          go again (Whole b x y w) e = let f = raw-whole (settingOf F) (rolesIn F) n (opened ls) s b x y w e in by-shape again (f .shape) w e f
+          go again Short e = refuted (sym (ap (λ (a : Answer Reading). andThen a (λ u. accepted (u .complete))) (raw-short (besideOf F) n (opened ls) s e)) ∙ q)
+          go again Unknown e = refuted (sym (ap (λ (a : Answer Reading). andThen a (λ u. accepted (u .complete))) (raw-unknown (besideOf F) n (opened ls) s e)) ∙ q)
+          go again (Whole b x y w) e = let f = raw-whole (besideOf F) n (opened ls) s b x y w e in by-shape again (accepted-shape (besideOf F) n (opened ls) s b x y w f (λ u. accepted (u .complete)) rules q) w e f
 
 -- THE LAW: the level in the heading is that of the rule
 pub heading-level : (F : Policy) (rules : List Lines) (n : ℕ) (s : List ℕ) → RuleAt F rules n s → headingOf s .level ≡ ruleLevel (settingOf F) (ruleIn (settingOf F) (getD rules n []))
 unfolding headingOf notesOf settingOf sideOf listsOwn valuesIn linesLevel
 heading-level F rules n s at =
-    ap₂ levelFor (a .of-roles) (a .of-numbers) ∙ lines-level (settingOf F) numbered (rolesIn F) (getD rules (length (at .earlier)) []) (a .all-legal)
+    ap₂ levelFor (a .of-roles) (a .of-numbers) ∙ lines-level (besideOf F) numbered (getD rules (length (at .earlier)) []) (a .all-legal)
     ∙ ap (λ (k : ℕ). ruleLevel (settingOf F) (ruleIn (settingOf F) (getD rules k []))) (at .number)
   where
     sized : Sized F

@@ -9,6 +9,7 @@ use mathlib.Core.Option.{Option, none, some}
 use mathlib.Core.Path.{_≡_, refl, sym, ap, ap₂, _∙_}
 use native.Mathlib.Omega.{arith}
 use Rattle.role_record.specs.Record.{Sized, numberOr, recordWith, recordOf}
+use Rattle.files.specs.Beside.{besideOf}
 use Rattle.files.specs.Answer.{Refusal, numberOf, Answer, told, andThen, refused, accepted}
 use Rattle.files.specs.BytesLaws.{Carries, number-positive}
 use Rattle.files.specs.Calls.{decided, isTriple, rulesGrant, firstDifference, firstStrayRule, firstStrayPart, verdict, readBoth, judge, verdictTold}
@@ -62,7 +63,7 @@ decided-so none (some i) p = refl
 decided-so none none (some p) = refl
 decided-so none none none = refl
 
-module _ (F : Policy) (rules : List Lines) (Z : Sized F) (L : AllLegal (settingOf F) (rolesIn F) rules) where
+module _ (F : Policy) (rules : List Lines) (Z : Sized F) (L : AllLegal (besideOf F) rules) where
   in-rules : (u r o : ℕ) → Triple (settingOf F) u r o → inGrid (gridOf (grantedWithin F rules)) u r o ≡ rulesGrant (settingOf F) rules u r o
   unfolding grantedWithin isTriple settingOf sideOf
   in-rules u r o t =

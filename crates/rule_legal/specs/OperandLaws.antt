@@ -12,6 +12,7 @@ use native.Mathlib.Omega.{arith}
 use Rattle.role_admit.specs.AdmitLaws.{side-attributes, side-kinds}
 use Rattle.role_record.specs.Record.{Sized, attributeTable, kindTable, domainTable, sameDomain}
 use Rattle.role_record.specs.RecordLaws.{domains-same}
+use Rattle.files.specs.Beside.{besideOf}
 use Rattle.files.specs.RoleFile.{sideBy}
 use Rattle.files.specs.RuleFile.{ownValue, legal, value, link}
 use Rattle.rule_legal.specs.Operands.{ownLegal, valueLegal, linkLegal}
@@ -56,7 +57,7 @@ module _ (F : Policy) (Z : Sized F) where
   own-means (suc zero) false v h = refl
   own-means (suc (suc n)) set v h = absurd (omega arith)
 
-  pub value-means : (side : ℕ) (set : Bool) (a v : ℕ) → side < 2 → valueLegal side set a v (F .roles) (F .table resource .count) (attributeTable F) (kindTable F) ≡ legal (settingOf F) (rolesIn F) (value (sideBy side) set a v)
+  pub value-means : (side : ℕ) (set : Bool) (a v : ℕ) → side < 2 → valueLegal side set a v (F .roles) (F .table resource .count) (attributeTable F) (kindTable F) ≡ legal (besideOf F) (value (sideBy side) set a v)
   unfolding valueLegal legal settingOf sideOf
   value-means side set a v h =
       test (eqb a own)
@@ -67,7 +68,7 @@ module _ (F : Policy) (Z : Sized F) where
 
   -- ---- command 27
 
-  pub link-means : (a b : ℕ) → linkLegal a b (attributeTable F) (kindTable F) (domainTable F) ≡ legal (settingOf F) (rolesIn F) (link a b)
+  pub link-means : (a b : ℕ) → linkLegal a b (attributeTable F) (kindTable F) (domainTable F) ≡ legal (besideOf F) (link a b)
   unfolding linkLegal legal settingOf sideOf
   link-means a b =
       rw (side-attributes F 0 (omega arith), side-attributes F 1 (omega arith))

@@ -9,10 +9,10 @@ use mathlib.Core.List.{List, _++_, List·Memᴰ·not-nil, List·Memᴰ·append-c
 use mathlib.Core.Logic.{_⊎_, inl, inr}
 use mathlib.Core.Path.{_≡_, refl, sym, ap, ap₂, _∙_, subst, fun-ext}
 use native.Mathlib.Omega.{arith}
-use Rattle.files.specs.RuleFile.{RuleCommand, Lines, linkOf, valuesIn, conjunctsIn, ruleIn, legal, opens, value, operations, link, part, ends}
+use Rattle.files.specs.Beside.{Beside}
+use Rattle.files.specs.RuleFile.{RuleCommand, Lines, linkOf, valuesIn, conjunctsIn, ruleIn, legal, reshapes, opens, value, operations, link, part, ends}
 use Rattle.rule_levels.specs.Levels.{levelFor}
 use Rattle.policy.specs.OrderLaws.{Numbered}
-use Rattle.policy.specs.Roles.{Roles}
 use Rattle.policy.specs.Rules.{own, ownAt, Which, Setting, Cond, attrsOf, allowed, at, ruleLevel, atomForm, user, resource, conjunct}
 use Rattle.sets.specs.ListLaws.{all-append}
 use Rattle.sets.specs.Lowest.{lowest}
@@ -60,27 +60,31 @@ module _ (P : Setting) (N : (w : Which) → Numbered (P .side w)) where
         out (inl n) u = never u (not-true (listsOwn P ls w) n)
         out (inr k) u = k
 
-  module _ (R : Roles) where
-    -- the atoms of legal lines are of every level
-    link-allowed : (l : ℕ) (c : RuleCommand) → Is (legal P R c) → {d : Cond} → d isIn linkOf c → Is (allowed P l d)
-    unfolding legal allowed
-    link-allowed l (link a b) h m =
-        let e = only-out true m .1 in
-        subst (λ (x : Cond). Is (allowed P l x)) (sym e)
-        (and-in (and-l (ltb a (P .side user .attrs)) (ltb b (P .side resource .attrs) && isSome (atomForm P a b)) h) (and-l (ltb b (P .side resource .attrs)) (isSome (atomForm P a b)) (and-r (ltb a (P .side user .attrs)) (ltb b (P .side resource .attrs) && isSome (atomForm P a b)) h)))
-    link-allowed l opens h m = absurd (List·Memᴰ·not-nil m)
-    link-allowed l (value w x a v) h m = absurd (List·Memᴰ·not-nil m)
-    link-allowed l (operations n) h m = absurd (List·Memᴰ·not-nil m)
-    link-allowed l (part k n) h m = absurd (List·Memᴰ·not-nil m)
-    link-allowed l ends h m = absurd (List·Memᴰ·not-nil m)
+module _ (B : Beside) (N : (w : Which) → Numbered (B .setting .side w)) where
+  abbrev P : Setting
+  P = B .setting
 
-    -- THE LAW: of lines that may stand in a rule file
-    pub lines-level : (ls : Lines) → ((c : RuleCommand) → c isIn ls → Is (legal P R c)) → linesLevel P ls ≡ ruleLevel P (ruleIn P ls)
-    unfolding linesLevel levelFor ruleLevel at ruleIn
-    lines-level ls h = ap lowest (fun-ext λ l. sym
-        (all-append (allowed P l) (conjunctsIn P ls user ++ conjunctsIn P ls resource) (each linkOf ls)
-        ∙ ap₂ _&&_ (all-append (allowed P l) (conjunctsIn P ls user) (conjunctsIn P ls resource) ∙ ap₂ _&&_ (side-allowed l ls user) (side-allowed l ls resource)) (links l)
-        ∙ and-true ((not (listsOwn P ls user) || ownAt user l) && (not (listsOwn P ls resource) || ownAt resource l))))
-      where
-        links : (l : ℕ) → Is (all (allowed P l) (each linkOf ls))
-        links l = all-in (allowed P l) (each linkOf ls) λ d m. let t = each-out linkOf ls m in link-allowed l (t .0) (h (t .0) (t .1)) (t .2)
+  -- the atoms of legal lines are of every level
+  link-allowed : (l : ℕ) (c : RuleCommand) → Is (legal B c) → {d : Cond} → d isIn linkOf c → Is (allowed P l d)
+  unfolding legal allowed
+  link-allowed l (link a b) h m =
+      let e = only-out true m .1 in
+      subst (λ (x : Cond). Is (allowed P l x)) (sym e)
+      (and-in (and-l (ltb a (P .side user .attrs)) (ltb b (P .side resource .attrs) && isSome (atomForm P a b)) h) (and-l (ltb b (P .side resource .attrs)) (isSome (atomForm P a b)) (and-r (ltb a (P .side user .attrs)) (ltb b (P .side resource .attrs) && isSome (atomForm P a b)) h)))
+  link-allowed l reshapes h m = absurd (List·Memᴰ·not-nil m)
+  link-allowed l opens h m = absurd (List·Memᴰ·not-nil m)
+  link-allowed l (value w x a v) h m = absurd (List·Memᴰ·not-nil m)
+  link-allowed l (operations n) h m = absurd (List·Memᴰ·not-nil m)
+  link-allowed l (part k n) h m = absurd (List·Memᴰ·not-nil m)
+  link-allowed l ends h m = absurd (List·Memᴰ·not-nil m)
+
+  -- THE LAW: of lines that may stand in a rule file
+  pub lines-level : (ls : Lines) → ((c : RuleCommand) → c isIn ls → Is (legal B c)) → linesLevel P ls ≡ ruleLevel P (ruleIn P ls)
+  unfolding linesLevel levelFor ruleLevel at ruleIn
+  lines-level ls h = ap lowest (fun-ext λ l. sym
+      (all-append (allowed P l) (conjunctsIn P ls user ++ conjunctsIn P ls resource) (each linkOf ls)
+      ∙ ap₂ _&&_ (all-append (allowed P l) (conjunctsIn P ls user) (conjunctsIn P ls resource) ∙ ap₂ _&&_ (side-allowed P N l ls user) (side-allowed P N l ls resource)) (links l)
+      ∙ and-true ((not (listsOwn P ls user) || ownAt user l) && (not (listsOwn P ls resource) || ownAt resource l))))
+    where
+      links : (l : ℕ) → Is (all (allowed P l) (each linkOf ls))
+      links l = all-in (allowed P l) (each linkOf ls) λ d m. let t = each-out linkOf ls m in link-allowed l (t .0) (h (t .0) (t .1)) (t .2)

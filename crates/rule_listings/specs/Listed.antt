@@ -6,7 +6,7 @@ use lib.ListN.{length, getD, set}
 use mathlib.Core.Bool.{Bool, false, cond, _&&_}
 use mathlib.Core.List.{List, [], _∷_}
 use mathlib.Core.Option.{Option, none, some}
-use Rattle.files.specs.RuleFile.{RuleCommand, Lines, opens, value, operations, link, part, ends}
+use Rattle.files.specs.RuleFile.{RuleCommand, Lines, reshapes, opens, value, operations, link, part, ends}
 use Rattle.grant_parts.specs.Parts.{isPartIn}
 use Rattle.role_record.specs.Cells.{rowStart, cellRow, cellOperation}
 use Rattle.role_record.specs.Record.{tableOf, marked}
@@ -32,6 +32,7 @@ againAfter seen again k m = cond (bit (getD seen k 0) (leadOf m)) (set again k (
 
 -- a line lists a part of role k whose lowest operation is o
 abbrev pub listsLead : ℕ → ℕ → RuleCommand → Bool
+listsLead k o reshapes = false
 listsLead k o opens = false
 listsLead k o (value w set a v) = false
 listsLead k o (operations m) = false

@@ -13,8 +13,9 @@ use native.Mathlib.Omega.{arith}
 use Rattle.role_record.specs.Cells.{rowCells, rowStart, cellAt, cellRow, cellOperation}
 use Rattle.role_record.specs.CellsLaws.{cell-parts}
 use Rattle.role_record.specs.Record.{Sized, tableOf, marked, permissionTable, recordWith, recordOf}
+use Rattle.files.specs.Beside.{besideOf}
 use Rattle.files.specs.Calls.{first, firstStrayPart}
-use Rattle.files.specs.RuleFile.{RuleCommand, Lines, isPartLine, namesPart, lists, listings, legal, opens, value, operations, link, part, ends}
+use Rattle.files.specs.RuleFile.{RuleCommand, Lines, isPartLine, namesPart, lists, listings, legal, reshapes, opens, value, operations, link, part, ends}
 use Rattle.rule_listings.specs.Listed.{leadOf, seenAfter, againAfter, listsLead, timesListed, seenTable, againTable, onceIn, strayFrom, strayOf, strayPartOf}
 use Rattle.grant_parts.specs.PartTableLaws.{part-role, part-lead, part-shown, no-part}
 use Rattle.grant_parts.specs.Parts.{isPartIn}
@@ -154,6 +155,7 @@ tables-same before after h = (by 0, by 1)
     by n = table-ext 32 (λ k. maskOf 64 (λ o. ltb n (timesListed before k o))) (λ k. maskOf 64 (λ o. ltb n (timesListed after k o))) (λ k l. mask-same 64 (λ o. ltb n (timesListed before k o)) (λ o. ltb n (timesListed after k o)) (λ o lo. ap (ltb n) (h k o)))
 
 no-part-listed : (k o : ℕ) (c : RuleCommand) → isPartLine c ≡ false → listsLead k o c ≡ false
+no-part-listed k o reshapes h = refl
 no-part-listed k o opens h = refl
 no-part-listed k o (value w set a v) h = refl
 no-part-listed k o (operations m) h = refl
@@ -252,14 +254,14 @@ module _ (F : Policy) (Z : Sized F) where
       (λ e. let h = ltb-false (leadOf (classOf (settingOf F) (rolesIn F) p)) (p .lead) e in omega arith)
 
   -- the part of a legal line
-  line-part : (k m : ℕ) → Is (legal (settingOf F) (rolesIn F) (part k m)) → (p : Part) × (p isIn parts (settingOf F) (rolesIn F)) × (k ≡ p .role) × (m ≡ classOf (settingOf F) (rolesIn F) p)
+  line-part : (k m : ℕ) → Is (legal (besideOf F) (part k m)) → (p : Part) × (p isIn parts (settingOf F) (rolesIn F)) × (k ≡ p .role) × (m ≡ classOf (settingOf F) (rolesIn F) p)
   unfolding legal
   line-part k m h =
       let t = any-out (λ p. eqb k (p .role) && eqb m (classOf (settingOf F) (rolesIn F) p)) (parts (settingOf F) (rolesIn F)) h in
       (t .0, t .1, eqb-true k (t .0 .role) (and-l (eqb k (t .0 .role)) _ (t .2)), eqb-true m (classOf (settingOf F) (rolesIn F) (t .0)) (and-r (eqb k (t .0 .role)) _ (t .2)))
 
   -- THE LAW of lines: one more that lists a part
-  pub list-means : (rules : List Lines) (ls : Lines) (k m : ℕ) → Is (legal (settingOf F) (rolesIn F) (part k m))
+  pub list-means : (rules : List Lines) (ls : Lines) (k m : ℕ) → Is (legal (besideOf F) (part k m))
       → (seenAfter (seenTable (rules ++ (ls ∷ []))) k m ≡ seenTable (rules ++ ((ls ++ (part k m ∷ [])) ∷ [])))
       × (againAfter (seenTable (rules ++ (ls ∷ []))) (againTable (rules ++ (ls ∷ []))) k m ≡ againTable (rules ++ ((ls ++ (part k m ∷ [])) ∷ [])))
   list-means rules ls k m h =
@@ -270,7 +272,8 @@ module _ (F : Policy) (Z : Sized F) where
       (seen-listed rules ls k m hk, again-listed rules ls k m hk (omega (arith, low, hl)))
 
   -- a legal line lists a part where it lists its lowest operation
-  lists-lead : {q : Part} → q isIn parts (settingOf F) (rolesIn F) → (c : RuleCommand) → Is (legal (settingOf F) (rolesIn F) c) → listsLead (q .role) (q .lead) c ≡ namesPart (q .role) (classOf (settingOf F) (rolesIn F) q) c
+  lists-lead : {q : Part} → q isIn parts (settingOf F) (rolesIn F) → (c : RuleCommand) → Is (legal (besideOf F) c) → listsLead (q .role) (q .lead) c ≡ namesPart (q .role) (classOf (settingOf F) (rolesIn F) q) c
+  lists-lead i reshapes h = refl
   lists-lead i opens h = refl
   lists-lead i (value w set a v) h = refl
   lists-lead i (operations m) h = refl
@@ -290,7 +293,7 @@ module _ (F : Policy) (Z : Sized F) where
       class-by p q a b = ap₂ (λ (r l : ℕ). classOf (settingOf F) (rolesIn F) (record { role = r; lead = l })) a b
   lists-lead i ends h = refl
 
-  times-listings : (rules : List Lines) → ((ls : Lines) → ls isIn rules → (c : RuleCommand) → c isIn ls → Is (legal (settingOf F) (rolesIn F) c)) → (p : ℕ) → p < partCount (settingOf F) (rolesIn F)
+  times-listings : (rules : List Lines) → ((ls : Lines) → ls isIn rules → (c : RuleCommand) → c isIn ls → Is (legal (besideOf F) c)) → (p : ℕ) → p < partCount (settingOf F) (rolesIn F)
       → timesListed rules (partAt (settingOf F) (rolesIn F) p .role) (partAt (settingOf F) (rolesIn F) p .lead) ≡ listings (settingOf F) (rolesIn F) rules p
   unfolding timesListed listings lists
   times-listings rules h p l =
@@ -325,7 +328,7 @@ module _ (F : Policy) (Z : Sized F) where
       each-rows wordPart rowCells 0 (F .roles)
       ∙ each-same (λ k. each (λ o. wordPart (cellAt k o)) (upTo rowCells)) (λ k. each (λ o. only (isPart (settingOf F) (rolesIn F) k o) (record { role = k; lead = o })) (upTo (F .operations))) 0 (F .roles) (λ k a b. role-words k (omega arith))
 
-  once-part : (rules : List Lines) → ((ls : Lines) → ls isIn rules → (c : RuleCommand) → c isIn ls → Is (legal (settingOf F) (rolesIn F) c)) → (p : ℕ) → p < partCount (settingOf F) (rolesIn F)
+  once-part : (rules : List Lines) → ((ls : Lines) → ls isIn rules → (c : RuleCommand) → c isIn ls → Is (legal (besideOf F) c)) → (p : ℕ) → p < partCount (settingOf F) (rolesIn F)
       → onceIn (seenTable rules) (againTable rules) (partAt (settingOf F) (rolesIn F) p .role) (partAt (settingOf F) (rolesIn F) p .lead) ≡ eqb (listings (settingOf F) (rolesIn F) rules p) 1
   once-part rules h p l =
       let i = part-in (settingOf F) (rolesIn F) p l in
@@ -334,7 +337,7 @@ module _ (F : Policy) (Z : Sized F) where
       once-listed rules (q .role) (q .lead) (part-role F Z i) (omega (arith, b)) ∙ ap (λ (t : ℕ). eqb t 1) (times-listings rules h p l)
 
   -- THE LAW of the verdict: the first part that is not listed exactly once
-  pub stray-means : (rules : List Lines) → ((ls : Lines) → ls isIn rules → (c : RuleCommand) → c isIn ls → Is (legal (settingOf F) (rolesIn F) c))
+  pub stray-means : (rules : List Lines) → ((ls : Lines) → ls isIn rules → (c : RuleCommand) → c isIn ls → Is (legal (besideOf F) c))
       → strayOf (recordOf F .holders) (permissionTable F) (F .roles) (F .operations) (seenTable rules) (againTable rules) ≡ strayPartOf (firstStrayPart (settingOf F) (rolesIn F) rules)
   unfolding strayOf firstStrayPart partCount partAt wordPart
   stray-means rules h =

@@ -11,6 +11,7 @@ use mathlib.Core.Path.{_≡_, refl, sym, ap, ap₂, _∙_}
 use native.Mathlib.Omega.{arith}
 use Rattle.role_admit.specs.AdmitLaws.{column-known}
 use Rattle.role_record.specs.Record.{Sized, numberOr, knownTable, valueTable, recordWith, recordOf}
+use Rattle.files.specs.Beside.{besideOf}
 use Rattle.files.specs.RoleFile.{sideBy}
 use Rattle.files.specs.RuleFile.{ownValue, legal, value}
 use Rattle.role_record.specs.RecordLaws.{table-get, value-shown}
@@ -86,7 +87,7 @@ module _ (F : Policy) (Z : Sized F) where
   number-met v x = same (eqb x v) (eqb v x) (λ h. eq-eqb v x (sym (eqb-true x v h))) (λ h. eq-eqb x v (sym (eqb-true v x h))) ∙ sym (or-false (eqb v x))
 
   -- THE LAW: who meets a legal listed value
-  pub meeting-means : (side : ℕ) (set : Bool) (a v : ℕ) → side < 2 → Is (legal (settingOf F) (rolesIn F) (value (sideBy side) set a v))
+  pub meeting-means : (side : ℕ) (set : Bool) (a v : ℕ) → side < 2 → Is (legal (besideOf F) (value (sideBy side) set a v))
       → meetingOf side set a v (F .table (sideBy side) .count) (F .roles) (knownTable F) (valueTable F) (recordOf F .holders) ≡ maskOf (F .table (sideBy side) .count) (meets (settingOf F .side (sideBy side)) a (v ∷ []))
   unfolding meetingOf legal settingOf sideOf isSetAt rolesIn
   meeting-means side set a v hs h = go (eqb a own) refl h

@@ -8,6 +8,7 @@ use mathlib.Core.List.{List}
 use mathlib.Core.Path.{_≡_, refl, sym, ap, _∙_, subst}
 use native.Mathlib.Omega.{arith}
 use Rattle.role_record.specs.Record.{Sized, attributeTable, kindTable}
+use Rattle.files.specs.Beside.{besideOf}
 use Rattle.files.specs.RoleFile.{sideBy}
 use Rattle.files.specs.RuleFile.{legal, value, link}
 use Rattle.rule_operands.specs.Checked.{legalIf, valueCommand, atomOf, checkedValue, checkedOperations, checkedLink, checkedPart, checkedOf, checkedBeside}
@@ -95,7 +96,7 @@ module _ (F : Policy) (Z : Sized F) where
     command : RuleCommand
     stands : ruleMeaning command ≡ commandOf b x y
     sided : Sided command
-    answer : checkedBeside F b x y ≡ legalIf (legal (settingOf F) (rolesIn F) (commandOf b x y)) command
+    answer : checkedBeside F b x y ≡ legalIf (legal (besideOf F) (commandOf b x y)) command
 
   -- a command that lists a value
   value-answered : (side : ℕ) (set : Bool) (a v : ℕ) {b : ℕ} → side < 2 → commandOf b a v ≡ value (sideBy side) set a v → checkedBeside F b a v ≡ checkedValue side set a v (F .roles) (F .table resource .count) (attributeTable F) (kindTable F) → Answered b a v
@@ -104,7 +105,7 @@ module _ (F : Policy) (Z : Sized F) where
     command = valueCommand side set a v;
     stands = sym e;
     sided = h;
-    answer = k ∙ ap (λ (t : Bool). legalIf t (valueCommand side set a v)) (value-means F Z side set a v h ∙ ap (legal (settingOf F) (rolesIn F)) (sym e));
+    answer = k ∙ ap (λ (t : Bool). legalIf t (valueCommand side set a v)) (value-means F Z side set a v h ∙ ap (legal (besideOf F)) (sym e));
   }
 
   answered : {b x y : ℕ} → Shape b x y → Answered b x y
@@ -125,12 +126,12 @@ module _ (F : Policy) (Z : Sized F) where
   answered shape-ends = record { command = Ends; stands = refl; sided = tt; answer = refl }
 
   -- THE LAWS
-  pub checked-illegal : {b x y : ℕ} → Shape b x y → checkedBeside F b x y ≡ Illegal → legal (settingOf F) (rolesIn F) (commandOf b x y) ≡ false
-  checked-illegal {b} {x} {y} s e = let t = answered s in answer-illegal (legal (settingOf F) (rolesIn F) (commandOf b x y)) (t .command) (sym (t .answer) ∙ e)
+  pub checked-illegal : {b x y : ℕ} → Shape b x y → checkedBeside F b x y ≡ Illegal → legal (besideOf F) (commandOf b x y) ≡ false
+  checked-illegal {b} {x} {y} s e = let t = answered s in answer-illegal (legal (besideOf F) (commandOf b x y)) (t .command) (sym (t .answer) ∙ e)
 
   pub checked-legal : {b x y : ℕ} → Shape b x y → (c : RuleCommand) → checkedBeside F b x y ≡ Legal c
-      → Is (legal (settingOf F) (rolesIn F) (commandOf b x y)) × (ruleMeaning c ≡ commandOf b x y) × Sided c
+      → Is (legal (besideOf F) (commandOf b x y)) × (ruleMeaning c ≡ commandOf b x y) × Sided c
   checked-legal {b} {x} {y} s c e =
       let t = answered s in
-      let k = answer-legal (legal (settingOf F) (rolesIn F) (commandOf b x y)) (t .command) c (sym (t .answer) ∙ e) in
+      let k = answer-legal (legal (besideOf F) (commandOf b x y)) (t .command) c (sym (t .answer) ∙ e) in
       (k .0, ap ruleMeaning (sym (k .1)) ∙ t .stands, subst Sided (k .1) (t .sided))

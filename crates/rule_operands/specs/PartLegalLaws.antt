@@ -10,6 +10,7 @@ use native.Mathlib.Omega.{arith}
 use Rattle.role_record.specs.Cells.{rowCells, cellAt}
 use Rattle.role_record.specs.Record.{Sized, permissionTable, recordWith, recordOf}
 use Rattle.role_admit.specs.RoleTableLaws.{permittedOn, row-shown, holders-shown, holder-within}
+use Rattle.files.specs.Beside.{besideOf}
 use Rattle.files.specs.RuleFile.{legal, part}
 use Rattle.rule_legal.specs.Operands.{partLegal}
 use Rattle.grant_parts.specs.PartTableLaws.{class-shown}
@@ -125,6 +126,6 @@ module _ (F : Policy) (Z : Sized F) where
               lead-lowest m (lowestFrom (bit m) 0 64) (p .lead) has (λ q lq. ap (λ (x : ℕ). bit x q) em ∙ t .class-lowest q lq) (least-most (bit m) 64 (p .lead) has) (lowestFrom-some (bit m) 0 64 (p .lead) (omega arith) (omega arith) has)
 
   -- THE LAW
-  pub part-means : (k m : ℕ) → partLegal k m (F .roles) (F .operations) (recordOf F .holders) (permissionTable F) ≡ legal (settingOf F) (rolesIn F) (part k m)
+  pub part-means : (k m : ℕ) → partLegal k m (F .roles) (F .operations) (recordOf F .holders) (permissionTable F) ≡ legal (besideOf F) (part k m)
   unfolding legal
   part-means k m = same (partLegal k m (F .roles) (F .operations) (recordOf F .holders) (permissionTable F)) (any (λ p. eqb k (p .role) && eqb m (classOf (settingOf F) (rolesIn F) p)) (parts (settingOf F) (rolesIn F))) (names-there k m) (line-there k m)

@@ -9,10 +9,11 @@ use mathlib.Core.List.{List}
 use mathlib.Core.Path.{_≡_, refl, sym, ap, ap₂, _∙_, subst}
 use Rattle.role_record.specs.Cells.{userCells}
 use Rattle.role_record.specs.Record.{emptyRecord, attributeTable, recordWith, recordOf, WithinLimits, FewAttributes}
+use Rattle.files.specs.Beside.{besideOf}
 use Rattle.files.specs.Answer.{Answer, andThen, refused, accepted}
 use Rattle.files.specs.Calls.{readBoth}
 use Rattle.files.specs.RoleFile.{readRoles}
-use Rattle.files.specs.RuleFile.{ruleFormat}
+use Rattle.files.specs.RuleFile.{ruleFormat, readRules}
 use Rattle.grant_grids.specs.Grid.{gridOf}
 use Rattle.grant_grids.specs.Links.{linkTable, linksOf}
 use Rattle.rule_operands.specs.Checked.{checkedOf, checkedBeside}
@@ -33,7 +34,7 @@ use Rattle.rule_notes.specs.declared.Tally.{Tally}
 use native.Mathlib.Omega.{arith}
 use Rattle.files.specs.Bytes.{read}
 use Rattle.rule_reading.specs.TurnLaws.{Refuses, cut, strange, unfinished, late, misplaced, illegal, Closing, Lining}
-use Rattle.rule_reading.specs.Turns.{closesRule, sizesOf, Beside, bothWith, readBeside}
+use Rattle.rule_reading.specs.Turns.{closesRule, sizesOf, Tabled, bothWith, readBeside}
 use Rattle.role_record.specs.declared.Sizes.{Sizes}
 use Rattle.rule_commands.specs.declared.Raw.the-variants.{Whole}
 
@@ -54,10 +55,10 @@ refused-with n f e = ap (λ (g : RoleFile). record { code = n; file = g; rules =
 module _ (file rules : List ℕ) (l : Loaded) (e : l ≡ loadedOf (readRoles 2 file)) where
   -- it was refused
   pub roles-refused : (l .code ≡ 0 → ⊥) → nothingRead (l .code) ≡ bothOf (readBoth 2 file rules)
-  unfolding readBoth readBeside bothOf loadedOf refusal
+  unfolding readBoth bothOf loadedOf refusal
   roles-refused h = go (readRoles 2 file) e
     where
-      go : (r : Answer Policy) → l ≡ loadedOf r → nothingRead (l .code) ≡ bothOf (andThen r (λ F. readBeside F rules))
+      go : (r : Answer Policy) → l ≡ loadedOf r → nothingRead (l .code) ≡ bothOf (andThen r (λ F. andThen (readRules 2 (besideOf F) rules) (λ ls. accepted (F, ls))))
       go (refused d) q = ap (λ (m : Loaded). nothingRead (m .code)) q
       go (accepted F) q = absurd (h (ap (λ (m : Loaded). m .code) q))
 
@@ -68,19 +69,18 @@ module _ (file rules : List ℕ) (l : Loaded) (e : l ≡ loadedOf (readRoles 2 f
     roles-bounds = let r = loaded-policy file l e h in subst (λ (f : RoleFile). (f .resources ≤ 64) × (f .roles ≤ 32)) (sym (r .3)) (r .1 .many resource, r .1 .few)
 
     module _ (links : List ℕ) (q : links ≡ linkTable (l .file .known) (l .file .values) (l .file .kinds) (l .file .domains) (l .file .resources)) where
-      -- reading the rule file beside it is reading both
-      pub roles-beside : (F : Policy) × Beside F (l .file) (sizesOf (l .file)) links × (bothOf (readBeside F rules) ≡ bothOf (readBoth 2 file rules))
-      unfolding readBoth readBeside
-      roles-beside =
+      -- its record and tables are those of the policy that it states
+      pub roles-tabled : (F : Policy) × Tabled F (l .file) (sizesOf (l .file)) links × (readRoles 2 file ≡ accepted F)
+      roles-tabled =
           let r = loaded-policy file l e h in
-          (r .0, record { sized = r .1; shown = r .3; counted = refl; linked = q ∙ ap (λ (f : RoleFile). linkTable (f .known) (f .values) (f .kinds) (f .domains) (f .resources)) (r .3) }, rw (r .2) refl)
+          (r .0, record { sized = r .1; shown = r .3; counted = refl; linked = q ∙ ap (λ (f : RoleFile). linkTable (f .known) (f .values) (f .kinds) (f .domains) (f .resources)) (r .3) }, r .2)
 
 -- ---- the rule file
 
 pub reads-begun : (F : Policy) (rules : List ℕ) (k : Tally) → k ≡ begunWith → State F rules k (replicate 14 0) (replicate userCells 0) (replicate userCells 0) (replicate 32 0) (replicate 32 0) 0
 reads-begun F rules k p = subst (λ (n : Tally). State F rules n (replicate 14 0) (replicate userCells 0) (replicate userCells 0) (replicate 32 0) (replicate 32 0) 0) (sym p) (begin F rules)
 
-module _ (F : Policy) (f : RoleFile) (sizes : Sizes) (links : List ℕ) (v : Beside F f sizes links) where
+module _ (F : Policy) (f : RoleFile) (sizes : Sizes) (links : List ℕ) (v : Tabled F f sizes links) where
   -- what holds for the record, the sizes and the links of the policy holds for those of the code
   at-record : (Q : RoleFile → Sizes → List ℕ → Type 0) → Q (recordOf F) (sizesOf (recordOf F)) (linksOf F) → Q f sizes links
   at-record Q q =
@@ -118,7 +118,7 @@ module _ (F : Policy) (f : RoleFile) (sizes : Sizes) (links : List ℕ) (v : Bes
     pub reads-refused : (n : ℕ) → Refuses k (drop at rules) sizes (f .attributes) (f .kinds) (f .domains) (f .holders) (f .permissions) n → nothingRead n ≡ bothOf (readBeside F rules)
     reads-refused n r = go n r ∙ outcome-beside F rules
       where
-        go : (n : ℕ) → Refuses k (drop at rules) sizes (f .attributes) (f .kinds) (f .domains) (f .holders) (f .permissions) n → nothingRead n ≡ outcome F (read (ruleFormat 2 (settingOf F) (rolesIn F)) start rules)
+        go : (n : ℕ) → Refuses k (drop at rules) sizes (f .attributes) (f .kinds) (f .domains) (f .holders) (f .permissions) n → nothingRead n ≡ outcome F (read (ruleFormat 2 (besideOf F)) start rules)
         go _ (cut e) = turn-cut F (v .sized) rules k met listed grid seen again at t e
         go _ (strange e) = turn-strange F (v .sized) rules k met listed grid seen again at t e
         go _ (unfinished b x y w e h m) = close-refused F (v .sized) rules k met listed grid seen again at t b x y w e h m

@@ -6,8 +6,9 @@ use lib.ListN.{length}
 use mathlib.Core.Bool.{Bool, cond, _||_}
 use mathlib.Core.List.{List}
 use mathlib.Core.Path.{_≡_}
+use Rattle.files.specs.Beside.{besideOf}
 use Rattle.files.specs.Answer.{Answer, andThen, accepted}
-use Rattle.files.specs.RuleFile.{Lines, readRules}
+use Rattle.files.specs.RuleFile.{Lines, readBody}
 use Rattle.grant_grids.specs.Links.{linksOf}
 use Rattle.policy.specs.Policy.{Policy, settingOf, rolesIn}
 use Rattle.role_record.specs.Record.{Sized, recordOf}
@@ -57,7 +58,7 @@ abbrev pub sizesOf : RoleFile → Sizes
 sizesOf f = record { users = f .users; resources = f .resources; operations = f .operations; roles = f .roles }
 
 -- a record, its sizes and its links are those of a policy
-pub record Beside (F : Policy) (f : RoleFile) (sizes : Sizes) (links : List ℕ) : Type 0 where
+pub record Tabled (F : Policy) (f : RoleFile) (sizes : Sizes) (links : List ℕ) : Type 0 where
   pub sized : Sized F
   pub shown : f ≡ recordOf F
   pub counted : sizes ≡ sizesOf f
@@ -67,6 +68,6 @@ pub record Beside (F : Policy) (f : RoleFile) (sizes : Sizes) (links : List ℕ)
 abbrev pub bothWith : RoleFile → Tally → List ℕ → List ℕ → List ℕ → BothFiles
 bothWith f k grid seen again = record { code = 0; file = f; rules = k .rules; grid = grid; strays = k .strays; stray = k .stray; seen = seen; again = again }
 
--- reading a rule file, as reading both files does it when the role file was accepted
+-- reading what stands behind the first command of a rule file, as reading both files does it when the role file was accepted
 unfoldable pub readBeside : Policy → List ℕ → Answer (Policy × List Lines)
-readBeside F rules = andThen (readRules 2 (settingOf F) (rolesIn F) rules) (λ ls. accepted (F, ls))
+readBeside F rules = andThen (readBody 2 (besideOf F) rules) (λ ls. accepted (F, ls))

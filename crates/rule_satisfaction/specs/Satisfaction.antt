@@ -6,6 +6,7 @@ use lib.ListN.{length}
 use mathlib.Core.Bool.{Bool, _&&_}
 use mathlib.Core.List.{List}
 use mathlib.Core.Path.{_≡_}
+use Rattle.files.specs.Beside.{Beside, besideOf}
 use Rattle.files.specs.RoleFile.{sideBy}
 use Rattle.files.specs.RuleFile.{RuleCommand, Lines, valuesIn, legal}
 use Rattle.policy.specs.Policy.{Policy, settingOf, rolesIn}
@@ -18,8 +19,8 @@ use Rattle.sets.specs.Sets.{bit, maskOf}
 use Rattle.sets.specs.Tests.{Is, imp, iff, _isIn_}
 
 -- every line of a rule is legal
-abbrev pub Legal : (P : Setting) → Roles → Lines → Type 0
-Legal P R ls = (c : RuleCommand) → c isIn ls → Is (legal P R c)
+abbrev pub Legal : Beside → Lines → Type 0
+Legal B ls = (c : RuleCommand) → c isIn ls → Is (legal B c)
 
 -- somebody of a side meets what is listed for an attribute, if anything is
 unfoldable pub asks : Policy → Lines → Which → ℕ → ℕ → Bool
@@ -36,7 +37,7 @@ askedAs set kinds asked = maskOf 64 (λ i. bit asked i && iff set (bit (setPlace
 -- the summary of a rule is that of legal lines of a policy, the kinds are the policy's, and so many there are on side 0 or 1
 pub record SummedUp (F : Policy) (ls : Lines) (met : List ℕ) (asked : ℕ) (kinds : List ℕ) (side count : ℕ) : Type 0 where
   pub sized : Sized F
-  pub lawful : Legal (settingOf F) (rolesIn F) ls
+  pub lawful : Legal (besideOf F) ls
   pub met-so : met ≡ metTable (settingOf F) ls
   pub asked-so : asked ≡ askedPlaces (settingOf F) ls
   pub kinds-so : kinds ≡ recordOf F .kinds

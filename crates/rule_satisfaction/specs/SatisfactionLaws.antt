@@ -14,9 +14,10 @@ use native.Mathlib.Omega.{arith}
 use Rattle.rule_conjuncts.specs.SummaryLineLaws.{only-none}
 use Rattle.rule_conjuncts.specs.Summary.{valuesFor, metFor, metTable, askedPlaces, metByAll}
 use Rattle.rule_conjuncts.specs.SummaryLaws.{side-met}
+use Rattle.files.specs.Beside.{Beside, besideOf}
 use Rattle.files.specs.LineLaws.{same-side}
 use Rattle.files.specs.RoleFile.{sideBy, sameSide}
-use Rattle.files.specs.RuleFile.{RuleCommand, Lines, listed, valuesIn, conjunctsIn, legal, opens, value, operations, link, part, ends}
+use Rattle.files.specs.RuleFile.{RuleCommand, Lines, listed, valuesIn, conjunctsIn, legal, reshapes, opens, value, operations, link, part, ends}
 use Rattle.role_record.specs.Places.{placeSide, placeAttribute, setPlace}
 use Rattle.role_record.specs.PlacesLaws.{set-means}
 use Rattle.role_record.specs.Record.{Sized, recordOf}
@@ -36,8 +37,8 @@ use Rattle.sets.specs.Sets.{narrowing, subset, bit, maskOf}
 use Rattle.sets.specs.TestLaws.{and-l, and-r, test, fails, same, imp-in, all-out, all-in, upTo-in, upTo-out, any-ext}
 use Rattle.sets.specs.Tests.{Is, imp, iff, all, keep, upTo}
 
-pub legal-rest : (P : Setting) (R : Roles) (c : RuleCommand) (ls : Lines) → Legal P R (c ∷ ls) → Legal P R ls
-legal-rest P R c ls h d m = h d (List·Memᴰ·tail m)
+pub legal-rest : (B : Beside) (c : RuleCommand) (ls : Lines) → Legal B (c ∷ ls) → Legal B ls
+legal-rest B c ls h d m = h d (List·Memᴰ·tail m)
 
 -- all conjuncts of a side hold for somebody exactly if every attribute of the side asks no more
 pub conjuncts-ask : (F : Policy) (ls : Lines) (w : Which) (u r : ℕ) → all (λ c. holds (settingOf F) c u r) (conjunctsIn (settingOf F) ls w) ≡ all (asks F ls w (by w u r)) (attrsOf (settingOf F .side w) true)
@@ -128,8 +129,9 @@ and-where false a b h = refl
 module _ (F : Policy) (Z : Sized F) where
   -- ---- no value is listed for an attribute that is not there
 
-  not-listed : (w : Which) (a : ℕ) → (a ≡ own → ⊥) → length (F .table w .kinds) ≤ a → (s : Bool) (c : RuleCommand) → Is (legal (settingOf F) (rolesIn F) c) → listed w s a c ≡ []
+  not-listed : (w : Which) (a : ℕ) → (a ≡ own → ⊥) → length (F .table w .kinds) ≤ a → (s : Bool) (c : RuleCommand) → Is (legal (besideOf F) c) → listed w s a c ≡ []
   unfolding legal settingOf sideOf
+  not-listed w a n k s reshapes h = refl
   not-listed w a n k s opens h = refl
   not-listed w a n k s (value x t b v) h = only-none (sameSide w x && (iff s t && eqb a b)) v (fails _ there)
     where
@@ -146,14 +148,14 @@ module _ (F : Policy) (Z : Sized F) where
   not-listed w a n k s (part x m) h = refl
   not-listed w a n k s ends h = refl
 
-  none-listed : (w : Which) (a : ℕ) → (a ≡ own → ⊥) → length (F .table w .kinds) ≤ a → (ls : Lines) → Legal (settingOf F) (rolesIn F) ls → valuesIn (settingOf F) ls w a ≡ []
+  none-listed : (w : Which) (a : ℕ) → (a ≡ own → ⊥) → length (F .table w .kinds) ≤ a → (ls : Lines) → Legal (besideOf F) ls → valuesIn (settingOf F) ls w a ≡ []
   unfolding valuesIn
   none-listed w a n k [] h = refl
   none-listed w a n k (c ∷ ls) h =
       ap (λ t. t ++ valuesIn (settingOf F) ls w a) (not-listed w a n k (settingOf F .side w .isSet a) c (h c (List·Memᴰ·head refl)))
-      ∙ none-listed w a n k ls (legal-rest (settingOf F) (rolesIn F) c ls h)
+      ∙ none-listed w a n k ls (legal-rest (besideOf F) c ls h)
 
-  module _ (ls : Lines) (h : Legal (settingOf F) (rolesIn F) ls) where
+  module _ (ls : Lines) (h : Legal (besideOf F) ls) where
     -- ---- the conjuncts of a side
 
     none-asks : (w : Which) (x a : ℕ) → valuesIn (settingOf F) ls w a ≡ [] → Is (asks F ls w x a)
@@ -274,7 +276,7 @@ summed F ls met kinds asked side count s Q q =
 
 -- who meets the conjuncts of a kind is who satisfies that half, of every policy whose tables these are
 pub half-so : (set : Bool) (met kinds : List ℕ) (asked side count p m r : ℕ) (f : Policy → Lines → ℕ → Bool)
-    → ((F : Policy) (Z : Sized F) (ls : Lines) → Legal (settingOf F) (rolesIn F) ls → metByAll (metTable (settingOf F) ls) (askedAs set (recordOf F .kinds) (askedPlaces (settingOf F) ls)) side (settingOf F .side (sideBy side) .count) ≡ maskOf (settingOf F .side (sideBy side) .count) (f F ls))
+    → ((F : Policy) (Z : Sized F) (ls : Lines) → Legal (besideOf F) ls → metByAll (metTable (settingOf F) ls) (askedAs set (recordOf F .kinds) (askedPlaces (settingOf F) ls)) side (settingOf F .side (sideBy side) .count) ≡ maskOf (settingOf F .side (sideBy side) .count) (f F ls))
     → p ≡ setPlaces kinds → m ≡ maskOf 64 (λ k. bit asked k && iff set (bit p k)) → r ≡ metByAll met m side count
     → (r ≡ metByAll met (askedAs set kinds asked) side count) × ((F : Policy) → (ls : Lines) → SummedUp F ls met asked kinds side count → r ≡ maskOf count (f F ls))
 unfolding askedAs

@@ -27,6 +27,7 @@ fn size_of(b: usize) -> usize
         rule_byte::USER_SET | rule_byte::RESOURCE_SET => 10,
         rule_byte::OPERATIONS => 3,
         rule_byte::LINK => 3,
+        rule_byte::SHAPE => 7,
         _ => 1,
     }
 }

@@ -6,6 +6,7 @@ use mathlib.Core.Bool.{_&&_}
 use mathlib.Core.List.{List, [], _∷_, _++_}
 use mathlib.Core.Path.{_≡_}
 use Rattle.rule_conjuncts.specs.Summary.{metTable, askedPlaces, atomPlaces}
+use Rattle.files.specs.Beside.{besideOf}
 use Rattle.files.specs.Calls.{isTriple, rulesGrant, partsGrant, firstStrayRule}
 use Rattle.files.specs.RuleFile.{Lines, isPartLine, operationsIn}
 use Rattle.grant_grids.specs.Grid.{gridOf}
@@ -25,7 +26,7 @@ module _ (F : Policy) where
 
   -- of the rules that are complete
   pub record Stored (rules : List Lines) (k : Tally) (grid seen again : List ℕ) : Type 0 where
-    pub all-legal : (ls : Lines) → ls isIn rules → Legal (settingOf F) (rolesIn F) ls
+    pub all-legal : (ls : Lines) → ls isIn rules → Legal (besideOf F) ls
     pub grid-shown : grid ≡ gridOf (grantedWithin rules)
     pub rules-counted : k .rules ≡ length rules
     pub strays-shown : k .strays ≡ isSome (firstStrayRule (settingOf F) (rolesIn F) rules)
@@ -35,8 +36,8 @@ module _ (F : Policy) where
 
   -- of those and of the lines of the one that is open; no lines if none is
   pub record Shows (rules : List Lines) (ls : Lines) (k : Tally) (met listed grid seen again : List ℕ) : Type 0 where
-    pub all-legal : (ls : Lines) → ls isIn rules → Legal (settingOf F) (rolesIn F) ls
-    pub legal-open : Legal (settingOf F) (rolesIn F) ls
+    pub all-legal : (ls : Lines) → ls isIn rules → Legal (besideOf F) ls
+    pub legal-open : Legal (besideOf F) ls
     pub met-shown : met ≡ metTable (settingOf F) ls
     pub asked-shown : k .asked ≡ askedPlaces (settingOf F) ls
     pub atoms-shown : k .atoms ≡ atomPlaces ls

@@ -15,10 +15,11 @@ use Rattle.role_record.specs.Places.{placeOf}
 use Rattle.role_record.specs.Record.{Sized, numberOr, tableOf, marked, knownTable, valueTable, permissionTable, recordOf}
 use Rattle.rule_conjuncts.specs.SummaryLineLaws.{met-kept, asked-kept, NoValue, met-line, asked-line, atoms-line, atoms-kept, operations-line, operations-kept, met-none, asked-none, atoms-none}
 use Rattle.rule_conjuncts.specs.Summary.{metTable, askedPlaces, atomPlaces, isAtom}
+use Rattle.files.specs.Beside.{besideOf}
 use Rattle.files.specs.Calls.{isTriple, rulesGrant, partsGrant, firstStrayRule}
 use Rattle.files.specs.RoleFile.{sideBy}
 use Rattle.files.specs.LineLaws.{operationsOr}
-use Rattle.files.specs.RuleFile.{RuleCommand as Line, Lines, isOperations, isPartLine, operationsIn, ruleIn, whole, follows, legal, ownValue, opens, value, operations, link, part, ends}
+use Rattle.files.specs.RuleFile.{RuleCommand as Line, Lines, isOperations, isPartLine, operationsIn, ruleIn, whole, follows, legal, ownValue, reshapes, opens, value, operations, link, part, ends}
 use Rattle.grant_grids.specs.Grid.{gridOf, inGrid, gridDifference, differenceOf, isSame}
 use Rattle.grant_grids.specs.GridLaws.{in-grid, grid-same, grids-same}
 use Rattle.rule_listings.specs.Listed.{seenAfter, againAfter, seenTable, againTable}
@@ -181,7 +182,7 @@ module _ (F : Policy) (Z : Sized F) where
     pub stored-closed : Stored F (rules ++ (ls ∷ [])) (closedWith k met listed (linksOf F) (F .table user .count) (F .table resource .count) (F .operations)) (joinedGrid (ruleGrid k met (linksOf F) (F .table user .count) (F .table resource .count)) grid) seen again
     unfolding closedWith
     stored-closed = record {
-      all-legal = λ t m. ⊎-elim (λ i. s .all-legal t i) (λ i. subst (Legal (settingOf F) (rolesIn F)) (sym (one-of ls i)) (s .legal-open)) (List·Memᴰ·append-cases rules m);
+      all-legal = λ t m. ⊎-elim (λ i. s .all-legal t i) (λ i. subst (Legal (besideOf F)) (sym (one-of ls i)) (s .legal-open)) (List·Memᴰ·append-cases rules m);
       grid-shown = joined-shown;
       rules-counted = counted .0 ∙ sym (length-append rules (ls ∷ []));
       strays-shown = counted .1 ∙ ap isSome (sym one-more);
@@ -205,7 +206,7 @@ module _ (F : Policy) (Z : Sized F) where
 -- ---- a line of the open rule
 
 -- a legal line's attribute has a place, and its kind is the one that the line says
-module _ (F : Policy) (Z : Sized F) (side : ℕ) (kind : Bool) (a v : ℕ) (hs : side < 2) (h : Is (legal (settingOf F) (rolesIn F) (value (sideBy side) kind a v))) where
+module _ (F : Policy) (Z : Sized F) (side : ℕ) (kind : Bool) (a v : ℕ) (hs : side < 2) (h : Is (legal (besideOf F) (value (sideBy side) kind a v))) where
   value-declared : eqb a own ≡ false → Is (ltb a (length (F .table (sideBy side) .kinds)) && iff (isSetAt F (sideBy side) a) kind)
   unfolding legal settingOf sideOf
   value-declared e = rw e at h
@@ -251,7 +252,7 @@ module _ (F : Policy) (Z : Sized F) (side : ℕ) (kind : Bool) (a v : ℕ) (hs :
     unfolding settingOf sideOf
     asked-after = ap (marked (askedPlaces (settingOf F) ls)) value-place ∙ asked-line side a hs value-placed (settingOf F) ls kind v value-kind (Z .many (sideBy side))
 
-module _ (F : Policy) (Z : Sized F) (a b : ℕ) (h : Is (legal (settingOf F) (rolesIn F) (link a b))) where
+module _ (F : Policy) (Z : Sized F) (a b : ℕ) (h : Is (legal (besideOf F) (link a b))) where
   link-low : (a < 6) × (b < 6)
   unfolding legal settingOf sideOf
   link-low =
@@ -267,7 +268,7 @@ module _ (F : Policy) (Z : Sized F) (a b : ℕ) (h : Is (legal (settingOf F) (ro
 
 module _ (F : Policy) (Z : Sized F) where
   -- a legal part's role has a place in the tables
-  pub part-within : (c : RuleCommand) → Is (legal (settingOf F) (rolesIn F) (ruleMeaning c)) → PartWithin c
+  pub part-within : (c : RuleCommand) → Is (legal (besideOf F) (ruleMeaning c)) → PartWithin c
   unfolding PartWithin legal rolesIn
   part-within Opens h = tt
   part-within (Value v) h = tt
@@ -284,16 +285,17 @@ module _ (F : Policy) (Z : Sized F) where
   module _ (rules : List Lines) (ls : Lines) (k : Tally) (met listed grid seen again : List ℕ) (s : Shows F rules ls k met listed grid seen again) where
     -- ---- where commands may stand
 
-    some-operations : (m : ℕ) → Is (legal (settingOf F) (rolesIn F) (operations m)) → true ≡ not (eqb m 0)
+    some-operations : (m : ℕ) → Is (legal (besideOf F) (operations m)) → true ≡ not (eqb m 0)
     unfolding legal
     some-operations m q = ap not (sym (ne-eqb m 0 (let l = ltb-true 0 m (and-l (ltb 0 m) _ q) in λ z. omega arith)))
 
     -- a 26 is there if there are operations: a legal one is not zero
-    operations-there : (t : Lines) → Legal (settingOf F) (rolesIn F) t → any isOperations t ≡ not (eqb (operationsIn t) 0)
+    operations-there : (t : Lines) → Legal (besideOf F) t → any isOperations t ≡ not (eqb (operationsIn t) 0)
     operations-there [] h = refl
     operations-there (c ∷ t) h = one c (h c (List·Memᴰ·head refl)) (operations-there t (λ d m. h d (List·Memᴰ·tail m)))
       where
-        one : (c : Line) → Is (legal (settingOf F) (rolesIn F) c) → any isOperations t ≡ not (eqb (operationsIn t) 0) → (isOperations c || any isOperations t) ≡ not (eqb (operationsOr c (operationsIn t)) 0)
+        one : (c : Line) → Is (legal (besideOf F) c) → any isOperations t ≡ not (eqb (operationsIn t) 0) → (isOperations c || any isOperations t) ≡ not (eqb (operationsOr c (operationsIn t)) 0)
+        one reshapes q e = e
         one opens q e = e
         one (value w x a v) q e = e
         one (operations m) q e = some-operations m q
@@ -329,7 +331,7 @@ module _ (F : Policy) (Z : Sized F) where
     -- ---- the line itself
 
     module _ (b x y : ℕ) where
-      assembled : (c : Line) → Is (legal (settingOf F) (rolesIn F) c) → InOrder b x y (ls ++ (c ∷ []))
+      assembled : (c : Line) → Is (legal (besideOf F) c) → InOrder b x y (ls ++ (c ∷ []))
           → (asks joins acts : ℕ) (lists : Bool) (met₁ listed₁ seen₁ again₁ : List ℕ)
           → met₁ ≡ metTable (settingOf F) (ls ++ (c ∷ [])) → asks ≡ askedPlaces (settingOf F) (ls ++ (c ∷ [])) → joins ≡ atomPlaces (ls ++ (c ∷ [])) → acts ≡ operationsIn (ls ++ (c ∷ []))
           → lists ≡ any isPartLine (ls ++ (c ∷ [])) → listed₁ ≡ gridOf (partsGrant (settingOf F) (rolesIn F) (ls ++ (c ∷ [])))
@@ -337,7 +339,7 @@ module _ (F : Policy) (Z : Sized F) where
           → Shows F rules (ls ++ (c ∷ [])) (tallyWith k asks joins acts lists b x y) met₁ listed₁ grid seen₁ again₁
       assembled c h o asks joins acts lists met₁ listed₁ seen₁ again₁ e1 e2 e3 e4 e5 e6 e7 e8 = record {
         all-legal = s .all-legal;
-        legal-open = λ d m. ⊎-elim (λ i. s .legal-open d i) (λ i. subst (λ (t : Line). Is (legal (settingOf F) (rolesIn F) t)) (sym (one-of c i)) h) (List·Memᴰ·append-cases ls m);
+        legal-open = λ d m. ⊎-elim (λ i. s .legal-open d i) (λ i. subst (λ (t : Line). Is (legal (besideOf F) t)) (sym (one-of c i)) h) (List·Memᴰ·append-cases ls m);
         met-shown = e1;
         asked-shown = e2;
         atoms-shown = e3;
@@ -379,7 +381,7 @@ module _ (F : Policy) (Z : Sized F) where
       again-same c h = s .again-shown ∙ other-line rules ls c h .1
 
       -- a line of an attribute's value
-      value-line : (side : ℕ) (kind : Bool) (a v : ℕ) → side < 2 → Is (legal (settingOf F) (rolesIn F) (value (sideBy side) kind a v)) → InOrder b x y (ls ++ (value (sideBy side) kind a v ∷ []))
+      value-line : (side : ℕ) (kind : Bool) (a v : ℕ) → side < 2 → Is (legal (besideOf F) (value (sideBy side) kind a v)) → InOrder b x y (ls ++ (value (sideBy side) kind a v ∷ []))
           → Shows F rules (ls ++ (value (sideBy side) kind a v ∷ [])) (tallyWith k (marked (k .asked) (placeBy side a)) (k .atoms) (k .operations) (k .listing) b x y)
           (metMore met (placeBy side a) (meetingOf side kind a v (F .table (sideBy side) .count) (F .roles) (knownTable F) (valueTable F) (recordOf F .holders))) listed grid seen again
       value-line side kind a v hs h o =
@@ -390,7 +392,7 @@ module _ (F : Policy) (Z : Sized F) where
           (atoms-same c (λ i. refl)) (operations-same c (λ n. refl)) (listing-same c refl) (listed-same c refl) (seen-same c refl) (again-same c refl)
 
       -- a line of an atom
-      link-line : (a j : ℕ) → Is (legal (settingOf F) (rolesIn F) (link a j)) → InOrder b x y (ls ++ (link a j ∷ []))
+      link-line : (a j : ℕ) → Is (legal (besideOf F) (link a j)) → InOrder b x y (ls ++ (link a j ∷ []))
           → Shows F rules (ls ++ (link a j ∷ [])) (tallyWith k (k .asked) (marked (k .atoms) (pairNumber a j)) (k .operations) (k .listing) b x y) met listed grid seen again
       link-line a j h o =
           let c = link a j in
@@ -399,12 +401,12 @@ module _ (F : Policy) (Z : Sized F) where
           (operations-same c (λ n. refl)) (listing-same c refl) (listed-same c refl) (seen-same c refl) (again-same c refl)
 
       -- a line that changes nothing
-      idle-line : (c : Line) → Is (legal (settingOf F) (rolesIn F) c) → InOrder b x y (ls ++ (c ∷ [])) → NoValue c → ((i : ℕ) → isAtom i c ≡ false) → ((n : ℕ) → operationsOr c n ≡ n) → isPartLine c ≡ false
+      idle-line : (c : Line) → Is (legal (besideOf F) c) → InOrder b x y (ls ++ (c ∷ [])) → NoValue c → ((i : ℕ) → isAtom i c ≡ false) → ((n : ℕ) → operationsOr c n ≡ n) → isPartLine c ≡ false
           → Shows F rules (ls ++ (c ∷ [])) (tallyWith k (k .asked) (k .atoms) (k .operations) (k .listing) b x y) met listed grid seen again
       idle-line c h o p q r t =
           assembled c h o _ _ _ _ _ _ _ _ (met-same c p) (asked-same c p) (atoms-same c q) (operations-same c r) (listing-same c t) (listed-same c t) (seen-same c t) (again-same c t)
 
-      linked : (t : Atom) → Is (legal (settingOf F) (rolesIn F) (linkMeaning t)) → InOrder b x y (ls ++ (linkMeaning t ∷ []))
+      linked : (t : Atom) → Is (legal (besideOf F) (linkMeaning t)) → InOrder b x y (ls ++ (linkMeaning t ∷ []))
           → Shows F rules (ls ++ (linkMeaning t ∷ [])) (tallyWith k (k .asked) (marked (k .atoms) (atomNumber t)) (k .operations) (k .listing) b x y) met listed grid seen again
       unfolding atomNumber
       linked (SetContainsSet a j) h o = link-line a j h o
@@ -415,7 +417,7 @@ module _ (F : Policy) (Z : Sized F) where
       count-shown side = test (eqb side 0) (λ e. rw e refl) (λ e. rw e refl)
 
       -- THE LAW of a line
-      pub shows-line : (c : RuleCommand) → Sided c → Is (legal (settingOf F) (rolesIn F) (ruleMeaning c)) → InOrder b x y (ls ++ (ruleMeaning c ∷ [])) → (isOperations (ruleMeaning c) ≡ true → any isOperations ls ≡ false)
+      pub shows-line : (c : RuleCommand) → Sided c → Is (legal (besideOf F) (ruleMeaning c)) → InOrder b x y (ls ++ (ruleMeaning c ∷ [])) → (isOperations (ruleMeaning c) ≡ true → any isOperations ls ≡ false)
           → Shows F rules (ls ++ (ruleMeaning c ∷ [])) (notedWith k c b x y)
           (metAfter (F .table user .count) (F .table resource .count) (F .roles) (knownTable F) (valueTable F) (recordOf F .holders) met c)
           (listedAfter (recordOf F .holders) (permissionTable F) listed c) grid (seenBy seen c) (againBy seen again c)

@@ -6,19 +6,20 @@ use lib.ListN.{getD}
 use mathlib.Core.Bool.{Bool, cond, _&&_, _||_}
 use mathlib.Core.List.{List}
 use mathlib.Core.Path.{_≡_}
+use Rattle.files.specs.Beside.{besideOf}
 use Rattle.files.specs.Answer.{accepted}
 use Rattle.files.specs.RoleFile.{readRoles}
-use Rattle.files.specs.RuleFile.{Lines, readRules}
+use Rattle.files.specs.RuleFile.{Lines, readBody}
 use Rattle.policy.specs.Policy.{Policy, settingOf, rolesIn}
 use Rattle.digits.specs.Digits.{isWithin}
 
--- a rule file that was accepted beside a role file
+-- what stands behind the first command of a rule file that was accepted beside a role file
 pub record AcceptedRules (s : List ℕ) : Type 0 where
   pub policy : Policy
   pub file : List ℕ
   pub stated : readRoles 2 file ≡ accepted policy
   pub rules : List Lines
-  pub accepts : readRules 2 (settingOf policy) (rolesIn policy) s ≡ accepted rules
+  pub accepts : readBody 2 (besideOf policy) s ≡ accepted rules
 
 -- a line that states a condition: a value of a conjunct, 22 to 25, or an atom, 27
 abbrev pub isCondition : ℕ → Bool

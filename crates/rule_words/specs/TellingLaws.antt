@@ -1,6 +1,6 @@
 -- Telling a legal rule file line by line: behind each 21 that is met stand the lines of the rule whose number is told.
 -- Assumes nothing.
-use Prim.Native.Nat.{ℕ, zero, suc, _+_}
+use Prim.Native.Nat.{ℕ, zero, suc, _+_, _≤_}
 use lib.ListN.{length, drop}
 use lib.Seq.{drop-drop}
 use mathlib.Core.Bool.{Bool, true, false}
@@ -10,14 +10,16 @@ use mathlib.Core.Option.{Option, none, some}
 use mathlib.Core.Path.{_≡_, refl, sym, ap, _∙_, subst}
 use native.Mathlib.Omega.{arith}
 use Rattle.rule_words.specs.Telling.{AcceptedRules}
+use Rattle.files.specs.Beside.{besideOf}
 use Rattle.files.specs.Answer.{Answer, andThen, unless, rulesOrder, rulesOperand, refused, accepted}
 use Rattle.files.specs.BytesLaws.{number-positive}
 use Rattle.files.specs.Calls.{readBoth}
 use Rattle.files.specs.RoleFile.{readRoles}
-use Rattle.files.specs.RuleFile.{RuleCommand, Lines, Reading, whole, finished, follows, legal, addLine, obeyRule, endsFile, readRules, opens, ends}
+use Rattle.files.specs.RuleFile.{RuleCommand, Lines, Reading, whole, finished, follows, legal, addLine, obeyRule, endsFile, readBody, readRules, opens, ends}
 use Rattle.policy.specs.Policy.{Policy, settingOf, rolesIn}
 use Rattle.rule_commands.specs.Raw.{rawOf, commandOf, Shape, shape-opens, shape-user-single, shape-user-set, shape-resource-single, shape-resource-set, shape-operations, shape-link, shape-part, shape-ends}
-use Rattle.rule_commands.specs.RawLaws.{raw-whole}
+use Rattle.rule_opening.specs.OpeningLaws.{accepted-body}
+use Rattle.rule_commands.specs.RawLaws.{raw-whole, accepted-shape}
 use Rattle.rule_reading.specs.BothFiles.{nothingRead, bothOf}
 use Rattle.rule_commands.specs.declared.Raw.{Raw}
 use Rattle.rule_reading.specs.declared.BothFiles.{BothFiles}
@@ -48,7 +50,7 @@ module _ (F : Policy) (rules : List Lines) where
     abbrev now : Reading
     now = record { complete = complete; current = current }
 
-    opening : (rest : List ℕ) → onFrom F n opens rest (obeyRule (settingOf F) (rolesIn F) now opens) ≡ accepted rules → Next n number 0x21 rest
+    opening : (rest : List ℕ) → onFrom F n opens rest (obeyRule (besideOf F) now opens) ≡ accepted rules → Next n number 0x21 rest
     unfolding obeyRule finished
     opening rest q = go current c q
       where
@@ -62,7 +64,7 @@ module _ (F : Policy) (rules : List Lines) where
         go none e k = inl (refl, complete, sym e, k)
         go (some ls) e k = closing ls (whole ls) e k
 
-    ending : (rest : List ℕ) → onFrom F n ends rest (obeyRule (settingOf F) (rolesIn F) now ends) ≡ accepted rules → Next n number 0x2F rest
+    ending : (rest : List ℕ) → onFrom F n ends rest (obeyRule (besideOf F) now ends) ≡ accepted rules → Next n number 0x2F rest
     unfolding obeyRule
     ending rest q = inr ((λ z. omega arith), over (go n (finished now) rest q))
       where
@@ -72,7 +74,7 @@ module _ (F : Policy) (rules : List Lines) where
         go zero (accepted d) (x ∷ xs) k = refuted F k
         go (suc n) (accepted d) (x ∷ xs) k = refuted F k
 
-    lining : (b : ℕ) (d : RuleCommand) (rest : List ℕ) → (b ≡ 0x21 → ⊥) → endsFile d ≡ false → onFrom F n d rest (addLine (settingOf F) (rolesIn F) now d) ≡ accepted rules → Next n number b rest
+    lining : (b : ℕ) (d : RuleCommand) (rest : List ℕ) → (b ≡ 0x21 → ⊥) → endsFile d ≡ false → onFrom F n d rest (addLine (besideOf F) now d) ≡ accepted rules → Next n number b rest
     unfolding addLine
     lining b d rest other e q = inr (other, go current c q)
       where
@@ -83,11 +85,11 @@ module _ (F : Policy) (rules : List Lines) where
         added ls false l h k = refuted F k
 
         go : (o : Option Lines) → number ≡ begunOf complete o
-            → onFrom F n d rest (elim o [ none ↦ refused rulesOrder | some ls ↦ unless (follows ls d) rulesOrder (unless (legal (settingOf F) (rolesIn F) d) rulesOperand (accepted (record { complete = complete; current = some (ls ++ (d ∷ [])) }))) ]) ≡ accepted rules → Onward n number rest
+            → onFrom F n d rest (elim o [ none ↦ refused rulesOrder | some ls ↦ unless (follows ls d) rulesOrder (unless (legal (besideOf F) d) rulesOperand (accepted (record { complete = complete; current = some (ls ++ (d ∷ [])) }))) ]) ≡ accepted rules → Onward n number rest
         go none h k = refuted F k
-        go (some ls) h k = added ls (follows ls d) (legal (settingOf F) (rolesIn F) d) h k
+        go (some ls) h k = added ls (follows ls d) (legal (besideOf F) d) h k
 
-    by-shape : {b x y : ℕ} → Shape b x y → (rest : List ℕ) → onFrom F n (commandOf b x y) rest (obeyRule (settingOf F) (rolesIn F) now (commandOf b x y)) ≡ accepted rules → Next n number b rest
+    by-shape : {b x y : ℕ} → Shape b x y → (rest : List ℕ) → onFrom F n (commandOf b x y) rest (obeyRule (besideOf F) now (commandOf b x y)) ≡ accepted rules → Next n number b rest
     unfolding commandOf obeyRule
     by-shape shape-opens rest q = opening rest q
     by-shape (shape-user-single a v) rest q = lining 0x22 _ rest (λ z. omega arith) refl q
@@ -104,8 +106,8 @@ module _ (F : Policy) (rules : List Lines) where
     in-front s q Short e h = absurd (h refl)
     in-front s q Unknown e h = absurd (h refl)
     in-front s q (Whole b x y w) e h =
-        let f = raw-whole (settingOf F) (rolesIn F) n now s b x y w e in
-        by-shape (f .shape) (drop w s) (sym (ap (λ (a : Answer Reading). andThen a (λ u. accepted (u .complete))) (f .turned)) ∙ q)
+        let f = raw-whole (besideOf F) n now s b x y w e in
+        by-shape (accepted-shape (besideOf F) n now s b x y w f (λ u. accepted (u .complete)) rules q) (drop w s) (sym (ap (λ (a : Answer Reading). andThen a (λ u. accepted (u .complete))) (f .turned)) ∙ q)
 
 -- the state of telling: so many rules were told up to here
 pub record Telling (s : List ℕ) (number at : ℕ) : Type 0 where
@@ -114,7 +116,7 @@ pub record Telling (s : List ℕ) (number at : ℕ) : Type 0 where
   pub onward : Onward (legal .policy) (legal .rules) fuel number (drop at s)
 
 pub telling-begun : (s : List ℕ) → AcceptedRules s → Telling s 0 0
-unfolding readRules
+unfolding readBody
 telling-begun s l = record { legal = l; fuel = suc (length s); onward = going [] none refl (l .accepts) }
 
 module _ (s : List ℕ) (number at : ℕ) (t : Telling s number at) (l : Line) (found : l ≡ lineOf (drop at s)) (there : l .width ≡ 0 → ⊥) where
@@ -162,15 +164,15 @@ module _ (s : List ℕ) (number at : ℕ) (t : Telling s number at) (l : Line) (
       go n (inl k) = absurd (e (k .0))
       go n (inr k) = record { legal = t .legal; fuel = n; onward = k .1 }
 
--- two files that were read
-pub both-legal : (file s : List ℕ) (b : BothFiles) → b ≡ bothOf (readBoth 2 file s) → b .code ≡ 0 → AcceptedRules s
+-- two files that were read: behind the seven bytes of the first command stand the rules
+pub both-legal : (file s : List ℕ) (b : BothFiles) → b ≡ bothOf (readBoth 2 file s) → b .code ≡ 0 → (7 ≤ length s) × AcceptedRules (drop 7 s)
 unfolding bothOf nothingRead readBoth
 both-legal file s b e h = roles (readRoles 2 file) refl e
   where
-    rules : (F : Policy) → readRoles 2 file ≡ accepted F → (a : Answer (List Lines)) → readRules 2 (settingOf F) (rolesIn F) s ≡ a → b ≡ bothOf (andThen a (λ ls. accepted (F, ls))) → AcceptedRules s
+    rules : (F : Policy) → readRoles 2 file ≡ accepted F → (a : Answer (List Lines)) → readRules 2 (besideOf F) s ≡ a → b ≡ bothOf (andThen a (λ ls. accepted (F, ls))) → (7 ≤ length s) × AcceptedRules (drop 7 s)
     rules F q (refused d) k z = absurd (number-positive d (ap (λ (m : BothFiles). m .code) (sym z) ∙ h))
-    rules F q (accepted ls) k z = record { policy = F; file = file; stated = q; rules = ls; accepts = k }
+    rules F q (accepted ls) k z = let r = accepted-body (besideOf F) s ls k in (r .0, record { policy = F; file = file; stated = q; rules = ls; accepts = r .1 })
 
-    roles : (a : Answer Policy) → readRoles 2 file ≡ a → b ≡ bothOf (andThen a (λ F. andThen (readRules 2 (settingOf F) (rolesIn F) s) (λ ls. accepted (F, ls)))) → AcceptedRules s
+    roles : (a : Answer Policy) → readRoles 2 file ≡ a → b ≡ bothOf (andThen a (λ F. andThen (readRules 2 (besideOf F) s) (λ ls. accepted (F, ls)))) → (7 ≤ length s) × AcceptedRules (drop 7 s)
     roles (refused d) q z = absurd (number-positive d (ap (λ (m : BothFiles). m .code) (sym z) ∙ h))
-    roles (accepted F) q z = rules F q (readRules 2 (settingOf F) (rolesIn F) s) refl z
+    roles (accepted F) q z = rules F q (readRules 2 (besideOf F) s) refl z

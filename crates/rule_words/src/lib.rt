@@ -159,7 +159,7 @@ pub fn tell_files(program: &[u8], file: &[u8], rules: &[u8], first: usize, last:
         roles: f.roles,
     };
     let told = tell_rules(
-        rules,
+        &rules[rule_opening::BYTES..],
         first,
         last,
         sizes,

@@ -95,6 +95,8 @@ fn groups(s: &[u8]) {
     }
 }
 
+const SHAPE: u8 = rule_byte::SHAPE as u8;
+
 const OPENS: u8 = rule_byte::OPENS as u8;
 
 const OPERATIONS: u8 = rule_byte::OPERATIONS as u8;
@@ -106,21 +108,28 @@ const ENDS: u8 = rule_byte::ENDS as u8;
 // As many rules of eight bytes as make a rule file longer than a role file may be.
 const RULES: usize = (RoleFile::BYTES + 1) / 8;
 
-const LAST: usize = 8 * RULES;
+const FIRST: usize = rule_opening::BYTES;
+
+const LAST: usize = FIRST + 8 * RULES;
 
 const LENGTH: usize = LAST + 1;
 
-// Rules that list the one part there is, and the end; and a zero behind it.
+// The 20 of a role file with one of everything and no attributes, rules that list the one part there is, and the end; and a zero behind it.
 fn many_rules() -> [u8; LENGTH + 1]
-    ensures { λ r. ⌜ 65538 ≡ length r ⌝ }
+    ensures { λ r. ⌜ 65545 ≡ length r ⌝ }
 {
     let mut s = [0u8; LENGTH + 1];
+    s[0] = SHAPE;
+    s[1] = 1;
+    s[2] = 1;
+    s[3] = 1;
+    s[4] = 1;
     for k in 0..RULES {
-        s[8 * k] = OPENS;
-        s[8 * k + 1] = OPERATIONS;
-        s[8 * k + 2] = 1;
-        s[8 * k + 4] = PART;
-        s[8 * k + 6] = 1;
+        s[FIRST + 8 * k] = OPENS;
+        s[FIRST + 8 * k + 1] = OPERATIONS;
+        s[FIRST + 8 * k + 2] = 1;
+        s[FIRST + 8 * k + 4] = PART;
+        s[FIRST + 8 * k + 6] = 1;
     }
     s[LAST] = ENDS;
     s
@@ -128,7 +137,7 @@ fn many_rules() -> [u8; LENGTH + 1]
 
 // Prints the lines of a long rule file: whole, a byte less and a byte more.
 fn print_long(file: &[u8], s: &[u8])
-    requires { ⌜ 65538 ≡ length (now s) ⌝ }
+    requires { ⌜ 65545 ≡ length (now s) ⌝ }
 {
     print_answers(file, &s[0..LENGTH], 0, 0, 0);
     print_answers(file, &s[0..LAST], 0, 0, 0);

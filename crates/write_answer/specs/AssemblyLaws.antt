@@ -1,6 +1,6 @@
 -- The tables that mining works out of a record are those of its policy, and so is what comes of them.
 -- Assumes nothing.
-use Prim.Native.Nat.{ℕ, _≤_}
+use Prim.Native.Nat.{ℕ, _+_, _*_, _≤_}
 use lib.ListN.{length, getD}
 use mathlib.Core.List.{List, [], _∷_}
 use mathlib.Core.Path.{_≡_, refl, sym, ap, _∙_, subst}
@@ -15,10 +15,15 @@ use Rattle.mine_matches.specs.Matches.{matchTable, knownPlaces}
 use Rattle.write_file.specs.FileLaws.{file-means, measure-means}
 use Rattle.write_kept.specs.Kept.{keptTable}
 use Rattle.write_measure.specs.FileTable.{fileBytes, measuredOf}
+use Rattle.write_measure.specs.MeasureLaws.{file-most}
+use Rattle.write_shape.specs.ShapedFile.{shapedBytes}
+use Rattle.rule_opening.specs.Opening.{shapeIn}
+use Rattle.rule_opening.specs.OpeningLaws.{shape-so}
+use Rattle.role_record.specs.Cells.{roleCells}
+use Rattle.role_record.specs.declared.Sizes.{Sizes}
 use Rattle.write_answer.specs.MineLaws.{written}
 use Rattle.write_answer.specs.Stages.{OfRecord, Outcome, keptFor, MergedBy, WrittenBy}
 use Rattle.write_lines.specs.Writing.{wrote}
-use Rattle.write_lines.specs.WritingLaws.{length-wrote}
 use Rattle.policy.specs.Policy.{Policy}
 use Rattle.policy.specs.Rules.{user, resource}
 use Rattle.policy.specs.declared.Weights.{Weights}
@@ -70,7 +75,7 @@ module _ (F : Policy) (known values kinds domains attributes holders permissions
     of-roles = s .of-roles;
   }
 
-  pub written-by : (kept t : List ℕ) → Merged F t → kept ≡ keptFor F t → WrittenBy F kept distinct having inside kinds permissions operations t
+  pub written-by : (kept t : List ℕ) → Merged F t → kept ≡ keptFor F t → WrittenBy F kept distinct having inside kinds permissions (record { users = users; resources = resources; operations = operations; roles = roles }) attributes t
   written-by kept t M k = record {
     merged = M;
     of-kept = k;
@@ -80,6 +85,7 @@ module _ (F : Policy) (known values kinds domains attributes holders permissions
     of-kinds = s .of-kinds;
     of-permissions = s .of-permissions;
     of-operations = s .of-operations;
+    of-shape = rw (s .of-users, s .of-resources, s .of-operations, s .of-roles, s .of-attributes) (shape-so F);
   }
 
 -- ---- merging
@@ -113,20 +119,24 @@ module _ (F : Policy) (known kinds domains attributes holders permissions distin
 
 -- ---- writing
 
-module _ (F : Policy) (Z : Sized F) (kept distinct having inside kinds permissions : List ℕ) (operations : ℕ) (t : List ℕ) (w : WrittenBy F kept distinct having inside kinds permissions operations t) where
-  pub file-so : fileBytes kept distinct having inside kinds permissions operations t ≡ minedBytes 2 F
-  file-so = rw (w .of-kept, w .of-distinct, w .of-having, w .of-inside, w .of-kinds, w .of-permissions, w .of-operations) (file-means F Z t (w .merged))
+module _ (F : Policy) (Z : Sized F) (kept distinct having inside kinds permissions : List ℕ) (sizes : Sizes) (attributes t : List ℕ) (w : WrittenBy F kept distinct having inside kinds permissions sizes attributes t) where
+  pub file-so : shapedBytes (shapeIn sizes attributes) (fileBytes kept distinct having inside kinds permissions (sizes .operations) t) ≡ minedBytes 2 F
+  file-so =
+      ap (λ (shape : List ℕ). shapedBytes shape (fileBytes kept distinct having inside kinds permissions (sizes .operations) t)) (w .of-shape)
+      ∙ rw (w .of-kept, w .of-distinct, w .of-having, w .of-inside, w .of-kinds, w .of-permissions, w .of-operations) (file-means F Z t (w .merged))
 
-  pub measured-so : (m : Measured) → m ≡ measuredOf kept distinct having inside kinds permissions operations t
-      → (m .bytes ≡ length (minedBytes 2 F)) × ((weights : Weights) → minedCounts 2 F weights ≡ record { size = m .bytes; parts = m .parts; rules = m .rules; merges = seatMerges F; cost = weighed weights (m .sums) })
+  pub measured-so : (m : Measured) → m ≡ measuredOf kept distinct having inside kinds permissions (sizes .operations) t
+      → (7 + m .bytes ≡ length (minedBytes 2 F)) × ((weights : Weights) → minedCounts 2 F weights ≡ record { size = 7 + m .bytes; parts = m .parts; rules = m .rules; merges = seatMerges F; cost = weighed weights (m .sums) })
   measured-so m e =
       measure-means F Z t (w .merged) m (e ∙ rw (w .of-kept, w .of-distinct, w .of-having, w .of-inside, w .of-kinds, w .of-permissions, w .of-operations) refl)
 
--- what was measured is as long as what is written
+-- what was measured is as long as the rules that are written, and not long
 pub measured-long : (kept distinct having inside kinds permissions : List ℕ) (operations : ℕ) (t : List ℕ) (m : Measured) → m ≡ measuredOf kept distinct having inside kinds permissions operations t
-    → m .bytes ≡ length (fileBytes kept distinct having inside kinds permissions operations t)
+    → (m .bytes ≡ length (fileBytes kept distinct having inside kinds permissions operations t)) × (m .bytes ≤ 12288 * roleCells + 1)
 unfolding measuredOf
-measured-long kept distinct having inside kinds permissions operations t m e = ap (λ (x : Measured). x .bytes) e
+measured-long kept distinct having inside kinds permissions operations t m e =
+    let l = ap (λ (x : Measured). x .bytes) e in
+    (l, omega (arith, l, file-most kept distinct having inside kinds permissions operations t))
 
 -- the sizes of a loaded record
 pub record-sizes : (F : Policy) → Sized F → (f : RoleFile) → f ≡ recordOf F → ((f .users ≤ 64) × (f .resources ≤ 64) × (f .operations ≤ 16) × (f .roles ≤ 32)) × (getD (f .attributes) 0 0 ≤ 6) × (getD (f .attributes) 1 0 ≤ 6)
@@ -137,18 +147,11 @@ record-sizes F Z f e =
 
 -- the answer once the file is written
 pub answered : (file : List ℕ) (scratch : ℕ) (former : List ℕ) → 4096 ≤ scratch → (F : Policy) → readRoles 2 file ≡ accepted F → (m : Measured) (merges : ℕ)
-    → ((weights : Weights) → minedCounts 2 F weights ≡ record { size = m .bytes; parts = m .parts; rules = m .rules; merges = seatMerges F; cost = weighed weights (m .sums) }) → merges ≡ seatMerges F → length (minedBytes 2 F) ≤ length former
-    → (bytes out : List ℕ) → bytes ≡ minedBytes 2 F → out ≡ wrote bytes former → Outcome file scratch former (Rules (m .bytes) (m .parts) (m .rules) merges (m .sums)) out
+    → ((weights : Weights) → minedCounts 2 F weights ≡ record { size = 7 + m .bytes; parts = m .parts; rules = m .rules; merges = seatMerges F; cost = weighed weights (m .sums) }) → merges ≡ seatMerges F → length (minedBytes 2 F) ≤ length former
+    → (bytes out : List ℕ) → bytes ≡ minedBytes 2 F → out ≡ wrote bytes former → Outcome file scratch former (Rules (7 + m .bytes) (m .parts) (m .rules) merges (m .sums)) out
 answered file scratch former h F q m merges e g l bytes out b o =
-    written file scratch former h F q l out (o ∙ ap (λ (x : List ℕ). wrote x former) b) (Rules (m .bytes) (m .parts) (m .rules) merges (m .sums))
-    (λ weights. ap (λ (k : ℕ). 0 ∷ m .bytes ∷ m .parts ∷ m .rules ∷ k ∷ weighed weights (m .sums) ∷ []) g ∙ ap (λ (c : Counts). 0 ∷ countValues c) (sym (e weights)))
-
--- writing leaves the output as long as it was
-pub wrote-long : (kept distinct having inside kinds permissions : List ℕ) (operations : ℕ) (t : List ℕ) (m : Measured) → m ≡ measuredOf kept distinct having inside kinds permissions operations t
-    → (former out : List ℕ) → out ≡ wrote (fileBytes kept distinct having inside kinds permissions operations t) former → m .bytes ≤ length former → length out ≡ length former
-wrote-long kept distinct having inside kinds permissions operations t m e former out w q =
-    let p = measured-long kept distinct having inside kinds permissions operations t m e in
-    ap length w ∙ length-wrote (fileBytes kept distinct having inside kinds permissions operations t) former (omega (arith, p, q))
+    written file scratch former h F q l out (o ∙ ap (λ (x : List ℕ). wrote x former) b) (Rules (7 + m .bytes) (m .parts) (m .rules) merges (m .sums))
+    (λ weights. ap (λ (k : ℕ). 0 ∷ (7 + m .bytes) ∷ m .parts ∷ m .rules ∷ k ∷ weighed weights (m .sums) ∷ []) g ∙ ap (λ (c : Counts). 0 ∷ countValues c) (sym (e weights)))
 
 -- the answer that is told
 pub told-so : (file : List ℕ) (scratch : ℕ) (former : List ℕ) {out : List ℕ} {r s : Wrote} → r ≡ s → Outcome file scratch former s out → Outcome file scratch former r out

@@ -7,6 +7,7 @@ use lib.ListN.{length, drop, take}
 use mathlib.Core.Bool.{Bool, true, false}
 use mathlib.Core.List.{List, _∷_, _++_}
 use mathlib.Core.Path.{_≡_, refl, sym, ap, _∙_, subst}
+use Rattle.files.specs.Beside.{besideOf}
 use Rattle.files.specs.Answer.{Refusal, numberOf, Answer, told, unless, andThen, smallScratch, shortOutput, refused, accepted}
 use Rattle.files.specs.BytesLaws.{Bytes}
 use Rattle.files.specs.CallLaws.{third-demand}
@@ -76,14 +77,14 @@ module _ (file : List ℕ) (scratch : ℕ) (former : List ℕ) where
 
   -- the third demand, of the first bytes of the output
   pub demanded : Bytes file → (weights : Weights) (out : List ℕ) → out ≡ mineOutput 2 file scratch former → (c : Counts) → mineAnswer 2 file weights scratch (length former) ≡ accepted c
-      → (F : Policy) × (readRoles 2 file ≡ accepted F) × Demand3 2 weights (settingOf F) (rolesIn F) (take (c .size) out) c
+      → (F : Policy) × (readRoles 2 file ≡ accepted F) × Demand3 2 weights (besideOf F) (take (c .size) out) c
   demanded b weights out e c h =
-      subst (λ (o : List ℕ). (F : Policy) × (readRoles 2 file ≡ accepted F) × Demand3 2 weights (settingOf F) (rolesIn F) (take (c .size) o) c) (sym e) (third-demand 2 file b weights scratch former c h)
+      subst (λ (o : List ℕ). (F : Policy) × (readRoles 2 file ≡ accepted F) × Demand3 2 weights (besideOf F) (take (c .size) o) c) (sym e) (third-demand 2 file b weights scratch former c h)
 
   -- all three together, of what is told of what was written
   pub promised : Bytes file → (weights : Weights) (r : Mined) (w : Wrote) (out : List ℕ) → minedNumbers r ≡ wroteNumbers weights w → Outcome file scratch former w out
       → (minedNumbers r ≡ told countValues (mineAnswer 2 file weights scratch (length former))) × (out ≡ mineOutput 2 file scratch former)
-      × ((c : Counts) → mineAnswer 2 file weights scratch (length former) ≡ accepted c → (F : Policy) × (readRoles 2 file ≡ accepted F) × Demand3 2 weights (settingOf F) (rolesIn F) (take (c .size) out) c)
+      × ((c : Counts) → mineAnswer 2 file weights scratch (length former) ≡ accepted c → (F : Policy) × (readRoles 2 file ≡ accepted F) × Demand3 2 weights (besideOf F) (take (c .size) out) c)
   promised b weights r w out n o = (n ∙ o .0 weights, o .1, demanded b weights out (o .1))
 
 -- a role file that is refused has no rule file

@@ -8,9 +8,12 @@ use mathlib.Core.List.{List, [], _∷_}
 use mathlib.Core.Path.{_≡_}
 use Rattle.mine_distinct.specs.InsideValues.{distinctIn, havingIn, insideIn}
 use Rattle.files.specs.Answer.{Answer, told, refused, accepted}
+use Rattle.files.specs.Beside.{shapeOf}
 use Rattle.files.specs.Calls.{countValues, minedBytes, mineAnswer, mineOutput}
 use Rattle.files.specs.RoleFile.{readRoles}
 use Rattle.role_record.specs.Record.{recordOf}
+use Rattle.role_record.specs.declared.Sizes.{Sizes}
+use Rattle.rule_opening.specs.Opening.{shapeIn}
 use Rattle.policy.specs.Policy.{Policy}
 use Rattle.policy.specs.declared.Weights.{Weights}
 use Rattle.write_answer.specs.declared.Wrote.{Wrote}
@@ -63,8 +66,8 @@ pub record MergedBy (F : Policy) (known kinds domains attributes holders permiss
 abbrev pub keptFor : Policy → List ℕ → List ℕ
 keptFor F = keptTable (linksOf F) (matchesIn F) (knownIn F) (recordOf F .attributes) (recordOf F .users) (recordOf F .resources) (recordOf F .operations)
 
--- rules are written by what they keep of the merged groups, and by tables of the policy
-pub record WrittenBy (F : Policy) (kept distinct having inside kinds permissions : List ℕ) (operations : ℕ) (t : List ℕ) : Type 0 where
+-- rules are written by what they keep of the merged groups, and by tables of the policy, its sizes and its numbers of attributes
+pub record WrittenBy (F : Policy) (kept distinct having inside kinds permissions : List ℕ) (sizes : Sizes) (attributes t : List ℕ) : Type 0 where
   pub merged : Merged F t
   pub of-kept : kept ≡ keptFor F t
   pub of-distinct : distinct ≡ distinctIn F
@@ -72,7 +75,8 @@ pub record WrittenBy (F : Policy) (kept distinct having inside kinds permissions
   pub of-inside : inside ≡ insideIn F
   pub of-kinds : kinds ≡ recordOf F .kinds
   pub of-permissions : permissions ≡ recordOf F .permissions
-  pub of-operations : operations ≡ recordOf F .operations
+  pub of-operations : sizes .operations ≡ recordOf F .operations
+  pub of-shape : shapeIn sizes attributes ≡ shapeOf F
 
 -- what is told, by some weights, of what was written: a refusal's number; or 0, length, parts, rules and merges, and what the sums come to
 abbrev pub wroteNumbers : Weights → Wrote → List ℕ

@@ -1,10 +1,9 @@
 // The answer of mining: the rules of merged groups measured, and written where there is room for them.
-ghost use Prim.Native.Nat.{_≤_};
 ghost use lib.Dec.{ltb};
 ghost use lib.ListN.{length};
 ghost use mathlib.Core.Path.{_≡_};
 ghost use Rattle.mine_seats.specs.Seats.{scratchWords};
-ghost use Rattle.role_record.specs.Record.{Sized};
+ghost use Rattle.role_record.specs.Record.{Sized, WithinLimits, FewAttributes};
 ghost use Rattle.files.specs.Calls.{minedBytes};
 ghost use Rattle.policy.specs.Policy.{Policy};
 ghost use Rattle.write_answer.specs.MinedNumbers.{minedNumbers};
@@ -16,7 +15,9 @@ use policy::Weights;
 use role_record::ByPlaceMember;
 use role_record::ByRoleOperation;
 use role_record::BySide;
+use role_record::CountBySide;
 use role_record::RoleFile;
+use role_record::Sizes;
 use write_cost::Sums;
 use write_measure::Measured;
 
@@ -65,14 +66,14 @@ fn lacks_room(room: usize, bytes: usize) -> bool
     room < bytes
 }
 
-// The answer where the rules are written.
-fn written(m: Measured, made: usize) -> Attempt
+// The answer where the rule file, of so many bytes, is written.
+fn written(m: Measured, bytes: usize, made: usize) -> Attempt
     ensures { λ r. ⌜
-        (r .wrote ≡ Rules (m .bytes) (m .parts) (m .rules) made (m .sums)) × (r .bytes ≡ m .bytes) ⌝ }
+        (r .wrote ≡ Rules bytes (m .parts) (m .rules) made (m .sums)) × (r .bytes ≡ bytes) ⌝ }
 {
     let sums = m.sums;
     let wrote = Wrote::Rules {
-        length: m.bytes,
+        length: bytes,
         parts: m.parts,
         rules: m.rules,
         merges: made,
@@ -80,7 +81,7 @@ fn written(m: Measured, made: usize) -> Attempt
     };
     Attempt {
         wrote: wrote,
-        bytes: m.bytes,
+        bytes: bytes,
     }
 }
 
@@ -114,16 +115,18 @@ pub fn write_groups<'a>(
     inside: &'a ByPlaceMember,
     kinds: &'a BySide,
     permissions: &'a ByRoleOperation,
-    operations: usize,
+    sizes: Sizes,
+    attributes: &'a CountBySide,
     scratch: &'a [u64],
     out: &mut [u8],
 ) -> Attempt
-    requires { ⌜ (operations ≤ 16) × (length (now scratch) ≡ scratchWords) ⌝ }
+    requires { ⌜
+        WithinLimits sizes × FewAttributes (now attributes) × (length (now scratch) ≡ scratchWords) ⌝ }
     ensures { λ r. ⌜
         ((F : Policy)
         → Sized F
         → WrittenBy F (merging .kept) (now (distinct .entry)) (now (having .entry)) (now (inside .entry))
-        (now (kinds .entry)) (now (permissions .entry)) operations (now (scratch .entry))
+        (now (kinds .entry)) (now (permissions .entry)) sizes (now (attributes .entry)) (now (scratch .entry))
         → merging .made ≡ seatMerges F
         → Result F (now (out .entry)) (r .wrote) (now (out .exit)) × (r .bytes ≡ length (minedBytes 2 F))) ⌝ }
 {
@@ -137,16 +140,17 @@ pub fn write_groups<'a>(
         kinds,
         permissions,
         &group_roles,
-        operations,
+        sizes.operations,
         scratch,
     );
-    if lacks_room(out.len(), m.bytes) {
+    let bytes = rule_opening::BYTES + m.bytes;
+    if lacks_room(out.len(), bytes) {
         return Attempt {
             wrote: Wrote::Nothing(refusal::SHORT_OUTPUT),
-            bytes: m.bytes,
+            bytes: bytes,
         };
     }
-    write_file::write_rules(
+    write_shape::write_shaped(
         &merging.kept,
         distinct,
         having,
@@ -154,9 +158,10 @@ pub fn write_groups<'a>(
         kinds,
         permissions,
         &group_roles,
-        operations,
+        sizes,
+        attributes,
         scratch,
         out,
     );
-    written(m, merging.made)
+    written(m, bytes, merging.made)
 }

@@ -8,6 +8,7 @@ use mathlib.Core.Path.{_≡_, refl, sym, ap, _∙_}
 use native.Mathlib.Omega.{arith}
 use Rattle.role_record.specs.Cells.{roleCells}
 use Rattle.role_record.specs.Record.{Sized, recordOf}
+use Rattle.files.specs.Beside.{shapeOf}
 use Rattle.files.specs.Calls.{minedBytes, minedCounts}
 use Rattle.files.specs.RuleFile.{encode, encodeAll, opens}
 use Rattle.write_kept.specs.Kept.{keptAt, keptHead, keptTable}
@@ -87,12 +88,13 @@ module _ (F : Policy) (Z : Sized F) (t : List ℕ) (M : Merged F t) where
   unfolding encodeAll encode
   all-encoded = ap (λ r. r ++ (0x2F ∷ [])) (sym (each-map (λ ls. each (encode 2) (opens ∷ ls)) (seatLines F) (seatGroups F)))
 
-  -- THE LAW: the bytes
-  pub file-means : fileBytes keptIn (distinctIn F) (havingIn F) (insideIn F) (recordOf F .kinds) (recordOf F .permissions) (recordOf F .operations) t ≡ minedBytes 2 F
+  -- THE LAW: the bytes, behind the 20
+  pub file-means : 0x20 ∷ (shapeOf F ++ fileBytes keptIn (distinctIn F) (havingIn F) (insideIn F) (recordOf F .kinds) (recordOf F .permissions) (recordOf F .operations) t) ≡ minedBytes 2 F
   unfolding fileBytes ruleWith
   file-means =
-      ap (λ r. r ++ (0x2F ∷ [])) (each-if (isHeadAt t) bytesOf (upTo roleCells) ∙ heads-each F t M (λ g. each (encode 2) (opens ∷ seatLines F g)) bytesOf rule-so)
-      ∙ all-encoded
+      ap (λ (l : List ℕ). 0x20 ∷ (shapeOf F ++ l))
+      (ap (λ r. r ++ (0x2F ∷ [])) (each-if (isHeadAt t) bytesOf (upTo roleCells) ∙ heads-each F t M (λ g. each (encode 2) (opens ∷ seatLines F g)) bytesOf rule-so)
+      ∙ all-encoded)
       ∙ sym (bytes-seats F (Z .few) (Z .operable))
 
   abbrev tables-measured : Measured
@@ -110,14 +112,16 @@ module _ (F : Policy) (Z : Sized F) (t : List ℕ) (M : Merged F t) where
 
   -- THE LAW: the counts
   pub measure-means : (measured-of : Measured) → measured-of ≡ measuredOf keptIn (distinctIn F) (havingIn F) (insideIn F) (recordOf F .kinds) (recordOf F .permissions) (recordOf F .operations) t
-      → (measured-of .bytes ≡ length (minedBytes 2 F))
-      × ((weights : Weights) → minedCounts 2 F weights ≡ record { size = measured-of .bytes; parts = measured-of .parts; rules = measured-of .rules; merges = seatMerges F; cost = weighed weights (measured-of .sums) })
+      → (7 + measured-of .bytes ≡ length (minedBytes 2 F))
+      × ((weights : Weights) → minedCounts 2 F weights ≡ record { size = 7 + measured-of .bytes; parts = measured-of .parts; rules = measured-of .rules; merges = seatMerges F; cost = weighed weights (measured-of .sums) })
   unfolding measuredOf
   measure-means m e =
-      let sized : m .bytes ≡ length (minedBytes 2 F) = ap (λ (x : Measured). x .bytes) e ∙ ap length file-means in
+      let of-rules : m .bytes ≡ length tables-bytes = ap (λ (x : Measured). x .bytes) e in
+      let of-file : length (0x20 ∷ (shapeOf F ++ tables-bytes)) ≡ length (minedBytes 2 F) = ap length file-means in
+      let sized : 7 + m .bytes ≡ length (minedBytes 2 F) = omega (arith, of-rules, of-file) in
       let ruled : m .rules ≡ length (seatGroups F) = ap (λ (x : Measured). x .rules) e ∙ heads-count F t M in
       let parted : m .parts ≡ length (seatsOf F) = ap (λ (x : Measured). x .parts) e ∙ parts-count F t M in
-      let long : length (encodeAll 2 (map (seatLines F) (seatGroups F))) ≡ m .bytes = ap length (sym (bytes-seats F (Z .few) (Z .operable))) ∙ sym sized in (
+      let long : length (0x20 ∷ (shapeOf F ++ encodeAll 2 (map (seatLines F) (seatGroups F)))) ≡ 7 + m .bytes = ap length (sym (bytes-seats F (Z .few) (Z .operable))) ∙ sym sized in (
         sized,
         λ weights.
             let costed : weighed weights (m .sums) ≡ sum (λ g. ruleCost (settingOf F) weights (seatRule F g)) (seatGroups F) = ap (λ (x : Measured). weighed weights (x .sums)) e ∙ weighed-groups weights in

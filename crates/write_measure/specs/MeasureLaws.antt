@@ -7,7 +7,7 @@ use mathlib.Core.List.{List, [], _∷_, _++_}
 use mathlib.Core.Path.{_≡_, refl, sym, ap, ap₂, _∙_, subst}
 use native.Mathlib.Omega.{arith}
 use Rattle.write_measure.specs.FileTable.{ruleAt, sumsAt, fileBytes, measuredOf, sumsWith, ruleWith}
-use Rattle.write_theory.specs.SectionLaws.{bytes-most}
+use Rattle.write_theory.specs.SectionLaws.{bytes-most, runs-most}
 use Rattle.write_lines.specs.Writing.{wrote}
 use Rattle.write_lines.specs.WritingLaws.{length-wrote, Runs, runs-end}
 use Rattle.role_record.specs.Cells.{roleCells}
@@ -171,3 +171,10 @@ module _ (kept distinct having inside kinds permissions : List ℕ) (operations 
       let l = w .long in
       let x = r .0 in
       (omega (arith, k, l, x), f, ap length f ∙ length-wrote (fileBytes kept distinct having inside kinds permissions operations t) o h)
+
+  -- the rules' bytes are not many
+  pub file-most : length (fileBytes kept distinct having inside kinds permissions operations t) ≤ 12288 * roleCells + 1
+  unfolding fileBytes
+  file-most =
+      let m = runs-most 12288 rule roleCells (λ i. rule-most distinct having inside kinds permissions operations t i (getD kept i 0)) in
+      omega (arith, m, length-append (each rule (upTo roleCells)) (0x2F ∷ []))

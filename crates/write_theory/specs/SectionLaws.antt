@@ -151,7 +151,7 @@ section-on whole o out left e at k tail w p = subst (λ (n : ℕ). Writing whole
 -- ---- how long it may become
 
 -- a run for each number below a bound
-runs-most : (m : ℕ) (f : ℕ → List ℕ) (n : ℕ) → ((i : ℕ) → length (f i) ≤ m) → length (each f (upTo n)) ≤ m * n
+pub runs-most : (m : ℕ) (f : ℕ → List ℕ) (n : ℕ) → ((i : ℕ) → length (f i) ≤ m) → length (each f (upTo n)) ≤ m * n
 runs-most m f n h = within (length-each f (upTo n)) (sum-most m (λ i. length (f i)) (upTo n) (λ i k. h i)) (from-length 0 n)
   where
     within : {x y z : ℕ} → x ≡ y → y ≤ m * z → z ≡ n → x ≤ m * n

@@ -1,6 +1,6 @@
 //! The files of a case, all made from its seed.
 
-use crate::{loads, roles, rules, tally::Tally, REV};
+use crate::{loads, roles, rules, shapes, tally::Tally, REV};
 use second_miner::{makers, random::Random, world::World};
 
 /// One case in so many is of a profile with files of the largest sizes, which take the second miner
@@ -18,29 +18,37 @@ pub fn seeded(seed: u64, tally: &mut Tally) -> Result<(), String> {
     let profile = profile(seed, &mut random);
     let file = makers::role_file(profile, random.next(), REV);
     let damaged = makers::damage_roles(&file, random.next(), REV);
+    let mut mined = None;
     for file in [file, damaged] {
-        beside(&file, &mut random, tally)
+        mined = beside(&file, mined, &mut random, tally)
             .map_err(|what| format!("seed {seed}, profile {profile}\n{what}"))?;
     }
     loads::seeded(&mut random, tally).map_err(|what| format!("seed {seed}\n{what}"))
 }
 
-/// Everything about a role file and, if it is accepted, about rule files beside it.
-fn beside(file: &[u8], random: &mut Random, tally: &mut Tally) -> Result<(), String> {
+/// Everything about a role file and, if it is accepted, about rule files beside it, among them another
+/// role file's. Returns its own.
+fn beside(
+    file: &[u8],
+    others: Option<Vec<u8>>,
+    random: &mut Random,
+    tally: &mut Tally,
+) -> Result<Option<Vec<u8>>, String> {
     let in_file = |what| format!("role file {}\n{what}", hex(file));
     let Some((world, mined)) = roles::compare(file, random, tally).map_err(in_file)? else {
-        return rules::refused_beside(file, tally).map_err(in_file);
+        return rules::refused_beside(file, tally).map(|()| None).map_err(in_file);
     };
-    for rules in rule_files(&world, mined, random) {
+    for rules in rule_files(&world, &mined, random).into_iter().chain(others) {
         rules::compare(file, &world, &rules, random, tally)
             .map_err(|what| in_file(format!("rule file {}\n{what}", hex(&rules))))?;
     }
-    Ok(())
+    Ok(Some(mined))
 }
 
-/// The mined one, two that the second miner's maker makes, and these damaged.
-fn rule_files(world: &World, mined: Vec<u8>, random: &mut Random) -> Vec<Vec<u8>> {
-    let mut files = vec![mined];
+/// The mined one and four with another 20, two that the second miner's maker makes, and these damaged.
+fn rule_files(world: &World, mined: &[u8], random: &mut Random) -> Vec<Vec<u8>> {
+    let mut files = shapes::others(mined, random);
+    files.push(mined.to_vec());
     for _ in 0..2 {
         let made = makers::rule_file(world, random.next(), REV);
         files.push(makers::damage_rules(&made, random.next(), REV));

@@ -4,9 +4,9 @@
 //!     tests/differential/run SEED COUNT
 //!
 //! Case n has the seed SEED + n: a role file of one of the second miner's profiles, the same file
-//! damaged, and beside each that is accepted five rule files; and a role file that both make from a
-//! seed and sizes. Where the two disagree, the case's seed, the files in hexadecimal and both answers
-//! are printed, and the status is 1.
+//! damaged, and beside each that is accepted nine rule files, beside the damaged one also the rules of
+//! the other; and a role file that both make from a seed and sizes. Where the two disagree, the case's
+//! seed, the files in hexadecimal and both answers are printed, and the status is 1.
 //!
 //! Files at the limit of length, circles of every length, a cost of more than 32 bits, and loads at the
 //! limits are tried on every run.
@@ -20,6 +20,7 @@ mod parts;
 mod questions;
 mod roles;
 mod rules;
+mod shapes;
 mod tally;
 
 use std::process::ExitCode;
@@ -27,7 +28,7 @@ use std::thread::{available_parallelism, scope};
 use tally::Tally;
 
 /// How many of the change requests have landed: the second miner is asked as of then.
-pub const REV: second_miner::revision::Rev = 6;
+pub const REV: second_miner::revision::Rev = 7;
 
 /// Both sides must say the same.
 pub fn same<T: PartialEq + std::fmt::Debug>(what: &str, ours: T, theirs: T) -> Result<(), String> {

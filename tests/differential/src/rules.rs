@@ -44,7 +44,7 @@ pub fn compare(
 
 /// Beside a role file that is refused, so is every rule file, whatever stands in it.
 pub fn refused_beside(file: &[u8], tally: &mut Tally) -> Result<(), String> {
-    for rules in [&[0x2F][..], &[], &[0x00]] {
+    for rules in [&[0x2F][..], &[], &[0x00], &[0x20, 0, 0, 0, 0, 0, 0, 0x2F]] {
         tally.rule_files += 1;
         judged(file, rules, judge(file, rules, REV).map_err(usize::from), tally)?;
         rule_question(file, rules, questions::FIRST, tally)?;

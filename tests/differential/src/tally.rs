@@ -11,8 +11,8 @@ pub struct Tally {
     pub shown: usize,
     pub circles: usize,
     pub loads: usize,
-    /// By number: how often the library accepted (0) or refused (1 to 15).
-    answers: [usize; 16],
+    /// By number: how often the library accepted (0) or refused (1 to 16).
+    answers: [usize; 17],
     verdicts: [usize; 4],
 }
 

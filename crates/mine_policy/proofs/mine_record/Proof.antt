@@ -9,7 +9,7 @@ write-groups-requires : tie.Need-write-groups-requires
 write-groups-requires c κs =
     let merged = c .before .before .before .before .before .before .before in
     let s = merged .before .before .before .before .before .before .before .before .before .before .before .before .before in
-    (s .pre .0 .2, merged .merge-parts .ensures .0)
+    (s .pre .0, (s .pre .1, s .pre .2), merged .merge-parts .ensures .0)
 
 same-length : tie.Need-same-length
 same-length c =

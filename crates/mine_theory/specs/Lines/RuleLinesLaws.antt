@@ -9,7 +9,7 @@ use mathlib.Core.Logic.{_⊎_, inl, inr}
 use mathlib.Core.Path.{_≡_, refl, sym, ap, ap₂, _∙_, subst}
 use native.Mathlib.Omega.{arith}
 use Rattle.files.specs.ReadBackLaws.{lines-strict}
-use Rattle.files.specs.RuleFile.{RuleCommand, valueByte, byteOf, operandsOf, precedes, isPartLine, Lines, condLines, opens, value, operations, link, part, ends}
+use Rattle.files.specs.RuleFile.{RuleCommand, valueByte, byteOf, operandsOf, precedes, isPartLine, Lines, condLines, reshapes, opens, value, operations, link, part, ends}
 use Rattle.policy.specs.Covering.{fits, levelOf}
 use Rattle.policy.specs.MergeLaws.{Every}
 use Rattle.policy.specs.RuleLaws.{Lawful}
@@ -128,6 +128,7 @@ byte-more b n {s} {t} l r e f =
     go c (inr m) = let q = f .1 c m in omega arith
 
 part-byte : (c : RuleCommand) → Is (isPartLine c) → byteOf c ≡ 0x28
+part-byte reshapes h = absurd (false≢true h)
 part-byte opens h = absurd (false≢true h)
 part-byte (value w set a v) h = absurd (false≢true h)
 part-byte (operations m) h = absurd (false≢true h)

@@ -13,13 +13,13 @@ use Rattle.rule_commands.specs.Raw.{Sided}
 use Rattle.rule_reading.specs.ReadsLaws.{reads-begun, within-limits, inside, command-bytes, reads-refused, reads-opened, reads-ended, line-within, reads-line, few-attributes}
 use Rattle.rule_reading.specs.RuleStateLaws.{State}
 use Rattle.rule_reading.specs.TurnLaws.{Closing, Lining, turned-refused, turned-opens, turned-ends, turned-line}
-use Rattle.rule_reading.specs.Turns.{turnOf, Beside}
+use Rattle.rule_reading.specs.Turns.{turnOf, Tabled}
 use Rattle.rule_notes.specs.LineSteps.{PartWithin}
 use Rattle.rule_file.proofs.read_rules.Statement.{statement}
 use Rattle.rule_file.proofs.read_rules.Tie as tie
 
 abbrev Inv-loop : tie.InvT-loop
-Inv-loop sizes links rules f k₀ met₀ listed₀ grid₀ seen₀ again₀ at₀ k met listed grid seen again at = (F : Policy) → Beside F f sizes links → State F rules k met listed grid seen again at
+Inv-loop sizes links rules f k₀ met₀ listed₀ grid₀ seen₀ again₀ at₀ k met listed grid seen again at = (F : Policy) → Tabled F f sizes links → State F rules k met listed grid seen again at
 
 abbrev μ-loop : tie.MeasureT-loop
 μ-loop sizes links rules f k₀ met₀ listed₀ grid₀ seen₀ again₀ at₀ k met listed grid seen again at = length rules - at

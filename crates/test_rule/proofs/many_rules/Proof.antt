@@ -7,7 +7,7 @@ use Rattle.test_rule.proofs.many_rules.Statement.{statement}
 use Rattle.test_rule.proofs.many_rules.Tie as tie
 
 abbrev Inv-loop : tie.InvT-loop
-Inv-loop s₀ k₀ s k = (k ≤ 8192) × (65538 ≡ length s)
+Inv-loop s₀ k₀ s k = (k ≤ 8192) × (65545 ≡ length s)
 
 abbrev μ-loop : tie.MeasureT-loop
 μ-loop s₀ k₀ s k = 8192 - k
@@ -18,6 +18,16 @@ many-rules-spec =
     (tie.spec
     Inv-loop
     μ-loop
+    (λ c. search needs)
+    (λ c. search needs)
+    (λ c. search needs)
+    (λ c. search needs)
+    (λ c. search needs)
+    (λ c. search needs)
+    (λ c. search needs)
+    (λ c. search needs)
+    (λ c. search needs)
+    (λ c. search needs)
     (λ c. search needs)
     (λ c. search needs)
     (λ c. search needs)

@@ -5,62 +5,53 @@ use denote.Ref.{now}
 use lib.ListN.{length}
 use mathlib.Core.Path.{sym, _∙_}
 use native.Mathlib.Omega.{arith}
-use Rattle.write_answer.specs.AssemblyLaws.{file-so, measured-so, answered, measured-long, wrote-long, told-so}
+use Prim.Native.Nat.{_+_}
+use Rattle.write_answer.specs.AssemblyLaws.{file-so, measured-so, answered, measured-long, told-so}
 use Rattle.write_answer.specs.MineLaws.{short}
 use Rattle.write_answer.proofs.write_groups.Statement.{statement}
 use Rattle.write_answer.proofs.write_groups.Tie as tie
 
-measure-requires : tie.Need-measure-requires
-measure-requires c κs =
-    let roles = c .before .before .before in
-    let s = roles .before .before .before .before in
-    (s .pre .0, s .pre .1, roles .roles-of-groups .ensures)
+add-bytes : tie.Need-add-bytes
+add-bytes c = let m = c .before in omega (arith, measured-long _ _ _ _ _ _ _ _ (m .measure .result) (m .measure .ensures) .1)
 
 returns : tie.Need-returns
 returns c F Z W e =
-    let m = c .before .before in
+    let m = c .before .before .before in
     let a = m .before .before .before .before .before .before .before .before .args in
-    let r = measured-so F Z (a .t1 .kept) (a .distinct .now) (a .having .now) (a .inside .now) (a .kinds .now) (a .permissions .now) (a .operations) (a .scratch .now) W (m .measure .result) (m .measure .ensures) .0 in
-    let l = ltb-true (length (now (a .out))) (m .measure .result .bytes) (sym (c .before .lacks-room .ensures) ∙ c .if1 .taken) in
+    let r = measured-so F Z (a .t1 .kept) (a .distinct .now) (a .having .now) (a .inside .now) (a .kinds .now) (a .permissions .now) (a .sizes) (a .attributes .now) (a .scratch .now) W (m .measure .result) (m .measure .ensures) .0 in
+    let l = ltb-true (length (now (a .out))) (7 + m .measure .result .bytes) (sym (c .before .lacks-room .ensures) ∙ c .if1 .taken) in
     (λ file n h q. short file n (now (a .out)) h F q (omega (arith, l, r)), r)
 
-write-rules-requires : tie.Need-write-rules-requires
-write-rules-requires c κs =
+write-shaped-requires : tie.Need-write-shaped-requires
+write-shaped-requires c κs =
     let d = c .before .before .before .before in
-    let m = d .before .before in
+    let m = d .before .before .before in
     let roles = m .before .before .before .before in
     let s = roles .before .before .before .before in
-    let e = measured-long _ _ _ _ _ _ _ _ (m .measure .result) (m .measure .ensures) in
-    let l = ltb-false (length (now (s .args .out))) (m .measure .result .bytes) (sym (d .before .lacks-room .ensures) ∙ d .if1 .left) in
-    (s .pre .0, s .pre .1, roles .roles-of-groups .ensures, omega (arith, l, e))
-
-same-length : tie.Need-same-length
-same-length c =
-    let d = c .before .before .before .before .before .before .before .before in
-    let m = d .before .before in
-    let s = m .before .before .before .before .before .before .before .before in
-    let l = ltb-false (length (now (s .args .out))) (m .measure .result .bytes) (sym (d .before .lacks-room .ensures) ∙ d .if1 .left) in
-    wrote-long _ _ _ _ _ _ _ _ (m .measure .result) (m .measure .ensures) _ _ (c .before .before .before .write-rules .ensures) (omega (arith, l))
+    let e = measured-long _ _ _ _ _ _ _ _ (m .measure .result) (m .measure .ensures) .0 in
+    let l = ltb-false (length (now (s .args .out))) (7 + m .measure .result .bytes) (sym (d .before .lacks-room .ensures) ∙ d .if1 .left) in
+    (s .pre .0, s .pre .1, s .pre .2, roles .roles-of-groups .ensures, omega (arith, l, e))
 
 returns-2 : tie.Need-returns-2
 returns-2 c F Z W e =
     let d = c .before .before .before .before .before .before .before .before in
-    let m = d .before .before in
+    let m = d .before .before .before in
     let a = m .before .before .before .before .before .before .before .before .args in
-    let t = measured-so F Z (a .t1 .kept) (a .distinct .now) (a .having .now) (a .inside .now) (a .kinds .now) (a .permissions .now) (a .operations) (a .scratch .now) W (m .measure .result) (m .measure .ensures) in
-    let l = ltb-false (length (now (a .out))) (m .measure .result .bytes) (sym (d .before .lacks-room .ensures) ∙ d .if1 .left) in
+    let t = measured-so F Z (a .t1 .kept) (a .distinct .now) (a .having .now) (a .inside .now) (a .kinds .now) (a .permissions .now) (a .sizes) (a .attributes .now) (a .scratch .now) W (m .measure .result) (m .measure .ensures) in
+    let l = ltb-false (length (now (a .out))) (7 + m .measure .result .bytes) (sym (d .before .lacks-room .ensures) ∙ d .if1 .left) in
     let r = t .0 in
-    (λ file n h q. told-so file n (now (a .out)) (c .written .ensures .0) (answered file n (now (a .out)) h F q (m .measure .result) (a .t1 .made) (t .1) e (omega (arith, l, r)) _ _ (file-so F Z (a .t1 .kept) (a .distinct .now) (a .having .now) (a .inside .now) (a .kinds .now) (a .permissions .now) (a .operations) (a .scratch .now) W) (c .before .before .before .write-rules .ensures)), c .written .ensures .1 ∙ r)
+    (λ file n h q. told-so file n (now (a .out)) (c .written .ensures .0) (answered file n (now (a .out)) h F q (m .measure .result) (a .t1 .made) (t .1) e (omega (arith, l, r)) _ _ (file-so F Z (a .t1 .kept) (a .distinct .now) (a .having .now) (a .inside .now) (a .kinds .now) (a .permissions .now) (a .sizes) (a .attributes .now) (a .scratch .now) W) (c .before .before .before .write-shaped .ensures)), c .written .ensures .1 ∙ r)
 
 pub write-groups-spec : {M : Type 1} → statement M
 write-groups-spec =
     tie.close
     (tie.spec
     (λ c κs. search needs)
-    measure-requires
+    (λ c κs. search needs)
+    add-bytes
     (λ c κs. search needs)
     returns
-    write-rules-requires
+    write-shaped-requires
     (λ c κs. search needs)
-    same-length
+    (λ c. search needs)
     returns-2)

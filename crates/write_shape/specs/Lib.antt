@@ -1,0 +1,2 @@
+pub mod ShapedFile
+pub mod ShapedFileLaws
