@@ -1,6 +1,7 @@
 /*
  * Fichtengarn for C: reading role files, mining them into attribute rules, judging, asking and
- * showing rule files, and making role files from a seed. "01" below is the paper that settles what is right.
+ * showing rule files, making role files from a seed, and a standing summary of what the roles grant.
+ * "01" below is the paper that settles what is right.
  *
  *     rt staticlib fichtengarn          proves the library and writes target/staticlib/libfichtengarn.a
  *     cc -Iinclude program.c target/staticlib/libfichtengarn.a
@@ -12,7 +13,8 @@
  *
  *   - It ends, on every input: any bytes, any lengths, any numbers. No input is asked to be good.
  *   - It returns 0, or the number of a refusal; the call that shows one rule stores it in a lent
- *     byte. Where two refusals could be given, 01 and the requests say which.
+ *     byte, and those that make a record return the record behind it. Where two refusals could be
+ *     given, 01 and the requests say which.
  *   - A refusal gives only its number: after a refusal lent memory holds its former bytes, save the
  *     byte that carries the answer's number of the call that shows one rule. Scratch alone is free.
  *   - It writes to the memory that it is lent without 'const', as said at each call, and to its
@@ -32,7 +34,7 @@
  *     it is overwritten; and a frame of this size may step over a guard page. Today's archive touches
  *     the pages of a frame one after the other and so runs into it, but nothing promises that.
  *
- * Lengths of files and of output are in bytes, that of scratch is in words of 64 bits. Users,
+ * Lengths of files and of output are in bytes, those of scratch and of a table in words of 64 bits. Users,
  * resources, operations, roles, rules and parts are numbered from 0.
  *
  * Attributes have domains. In a role file command 08 (side, kind, domain, a byte each) declares an
@@ -69,8 +71,9 @@ enum {
     FICHTENGARN_UNKNOWN_COMMAND = 3, /* a byte that is no command */
     FICHTENGARN_OUT_OF_PLACE = 4,    /* a command where it may not stand, or a byte after the end */
     FICHTENGARN_BEYOND = 5,          /* an operand beyond its limit or declared size, a seventh
-                                        attribute; a question's number beyond the sizes; or a size
-                                        of a file to be made beyond its limit */
+                                        attribute; a question's or an edit's number beyond the
+                                        sizes; or sizes of a record, or of a file to be made,
+                                        beyond the limits */
     FICHTENGARN_WRONG_KIND = 6,      /* a value of the wrong kind, or one given twice */
     FICHTENGARN_OWN_SENIOR = 7,      /* a role is its own senior */
 
@@ -94,14 +97,19 @@ enum {
     FICHTENGARN_ZERO_SEED = 15, /* the seed is 0 */
 
     /* of a rule file beside its role file */
-    FICHTENGARN_WRONG_SHAPE = 16 /* operands of the 20 that are unlike the role file's */
+    FICHTENGARN_WRONG_SHAPE = 16, /* operands of the 20 that are unlike the role file's */
+
+    /* of the table lent to the standing summary */
+    FICHTENGARN_WRONG_TABLE = 17 /* it has other than FICHTENGARN_TABLE_WORDS */
 };
 
 /* Sizes of lent memory, and limits of a role file. Output is as long as the caller likes. */
 enum {
     FICHTENGARN_MOST_ROLE_BYTES = 65535, /* of a role file, read or made */
     FICHTENGARN_MOST_ROLES = 32,         /* of a role file, and so of a circle */
-    FICHTENGARN_SCRATCH_WORDS = 4096     /* of 64 bits: 32,768 bytes */
+    FICHTENGARN_SCRATCH_WORDS = 4096,    /* of 64 bits: 32,768 bytes */
+    FICHTENGARN_TABLE_WORDS = 1024,      /* of 64 bits, of the standing summary: 8,192 bytes */
+    FICHTENGARN_USER_WORDS = 16          /* of these, those of one user: one for each operation */
 };
 
 /*
@@ -259,6 +267,72 @@ size_t fichtengarn_mine(const uint8_t *file, size_t file_length,
                         uint64_t *scratch, size_t scratch_words,
                         uint8_t *output, size_t output_length,
                         uint64_t counts[5]);
+
+/*
+ * What a role file says, as one record that the caller keeps and passes by value: 11,520 bytes of
+ * plain numbers. Sets are masks: bit n says that n is in the set. Any numbers may stand in it, and
+ * no call goes wrong by them. Sides are 0 for users and 1 for resources; of two or more things the
+ * last goes fastest.
+ */
+typedef struct {
+    size_t users;
+    size_t resources;
+    size_t operations;
+    size_t roles;
+    size_t attributes[2];      /* by side: how many */
+    uint64_t kinds[2];         /* by side: which of them are sets */
+    uint64_t domains[12];      /* by side and attribute, six a side */
+    uint64_t known[12];        /* by side and attribute: who has a value */
+    uint64_t values[768];      /* by side, attribute and user or resource, 64 of these */
+    uint64_t assigned[32];     /* by role: the users assigned */
+    uint64_t lines[32];        /* by role: its seniors by a line 07 */
+    uint64_t permissions[512]; /* by role and operation, 16 of these: the resources */
+    uint64_t seniors[32];      /* by role, worked out: all its seniors */
+    uint64_t holders[32];      /* by role, worked out: its holders */
+} fichtengarn_record;
+
+/* 0 and a record, or the number of a refusal and a record. */
+typedef struct {
+    size_t code;
+    fichtengarn_record record;
+} fichtengarn_recorded;
+
+/*
+ * The record of a role file. The code is 0, or 1 to 7, and then all of the record is 0.
+ * Stack: 42 KB.
+ */
+fichtengarn_recorded fichtengarn_read_record(const uint8_t *file, size_t file_length);
+
+/*
+ * The standing summary of rights: fills a table beside a record. table[16 * user + operation] is then
+ * the set of the resources that the roles grant the user under the operation, by the record's
+ * assignments, seniors and permissions; for a user or an operation beyond the sizes it is empty. So a
+ * question costs one word: table[FICHTENGARN_USER_WORDS * user + operation] >> resource & 1.
+ *
+ * Returns 0; or 17 if the table has other than FICHTENGARN_TABLE_WORDS words; then 5 if the record has
+ * more than 64 users, 64 resources, 16 operations or 32 roles. Writes all of the table, whatever it
+ * held, and nothing else; after a refusal not even that. Stack: 40 KB, the record passed among them.
+ *
+ * From there on the two edits below keep it. After every list of them, refused ones among them, that
+ * starts from the record of a role file and its filled table, the record and the table are those of
+ * the assignments that the list leaves: filling would write the same.
+ */
+size_t fichtengarn_fill(fichtengarn_record record, uint64_t *table, size_t table_words);
+
+/*
+ * Assigns a user to a role, or takes the assignment away. Hands back the record after the edit, its
+ * holders worked out anew. Assigning who is assigned, and taking away what is not there, changes
+ * neither record nor table.
+ *
+ * The code is 0; or 17 or 5 as above; then 5 if there is no such role or user; after a refusal the
+ * record is the one passed. Where an assignment changes, the 16 words of the user are worked out
+ * afresh, whatever they held, and no others are written; else none is. Stack: 75 KB, the records
+ * passed and handed back among them.
+ */
+fichtengarn_recorded fichtengarn_assign(fichtengarn_record record, uint64_t *table, size_t table_words,
+                                        size_t role, size_t user);
+fichtengarn_recorded fichtengarn_withdraw(fichtengarn_record record, uint64_t *table, size_t table_words,
+                                          size_t role, size_t user);
 
 #ifdef __cplusplus
 }

@@ -30,6 +30,8 @@ CALLS = [
     ("rule_show", "show"),
     ("role_circle", "circle"),
     ("load_file", "generate"),
+    ("right_edits", "fill"),
+    ("right_edits", "edit"),
     ("mining", "mine"),
     ("mining", "rule_bytes"),
     ("fichtengarn", None),

@@ -1,5 +1,5 @@
 #!/usr/bin/env python3
-"""Use the programs mine, judge, ask, explain, show, circle and load, rightly and wrongly, and compare all that they print and write.
+"""Use the programs mine, judge, ask, explain, show, circle, load and rights, rightly and wrongly, and compare all that they print and write.
 
     tests/programs.py [FOLDER]      FOLDER has the programs; target/bin if left out
 
@@ -41,7 +41,7 @@ from rolefiles import (
 
 HERE = os.path.dirname(os.path.abspath(__file__))
 SAMPLES = os.path.join(os.path.dirname(HERE), "samples")
-PROGRAMS = ["mine", "judge", "ask", "explain", "show", "circle", "load"]
+PROGRAMS = ["mine", "judge", "ask", "explain", "show", "circle", "load", "rights"]
 
 # Where the tests run as root, who may write everything, the programs run as somebody who may not.
 NOBODY_ID = 65534
@@ -731,6 +731,78 @@ def load_saving():
     yield loading("0 2 2 2 2", output=os.open("/dev/full", os.O_WRONLY), err=full)
 
 
+# ---- rights
+
+
+# User 0 is in role 0, which is senior to role 1, and user 1 in role 2. Role 1 may do operation 1 on all resources, role 2
+# operation 0 on resource 1.
+DESKS = joined(
+    sizes(2, 3, 2, 3),
+    *[assign(0, 0), assign(2, 1), line(1, 0)],
+    *[permit(1, 0, 1), permit(1, 1, 1), permit(1, 2, 1), permit(2, 1, 0)],
+    END,
+)
+
+# What these two users may do.
+BY_SENIOR = "user 0, operation 1: resources 0, 1, 2\n"
+BY_ROLE = "user 1, operation 0: resources 1\n"
+
+RIGHTS_USAGE = "usage: rights ROLES [+ROLE,USER | -ROLE,USER].., numbers from 0\n"
+
+
+def keeping(roles, *edits, **other):
+    return Use("rights", "roles", *edits, files={"roles": roles}, **other)
+
+
+def kept():
+    """A line for each user and operation with a right, behind an answer for each edit."""
+    yield keeping(DESKS, out=BY_SENIOR + BY_ROLE)
+    given = "+1,1: user 1 is assigned to role 1\n"
+    yield keeping(DESKS, "+1,1", out=given + BY_SENIOR + BY_ROLE + "user 1, operation 1: resources 0, 1, 2\n")
+    taken = "-0,0: user 0 is not assigned to role 0\n"
+    yield keeping(DESKS, "-0,0", out=taken + BY_ROLE)
+    itself = "+1,0: user 0 is assigned to role 1\n"
+    yield keeping(DESKS, "+1,0", "-0,0", out=itself + taken + BY_SENIOR + BY_ROLE)
+    through = "-1,0: user 0 is not assigned to role 1\n"
+    yield keeping(DESKS, "+1,0", "-1,0", out=itself + through + BY_SENIOR + BY_ROLE)
+    # what is so already, and what is not there
+    yield keeping(DESKS, "+0,0", out="+0,0: user 0 is assigned to role 0\n" + BY_SENIOR + BY_ROLE)
+    yield keeping(DESKS, "-1,1", out="-1,1: user 1 is not assigned to role 1\n" + BY_SENIOR + BY_ROLE)
+    yield keeping(DESKS, "-0,0", "-2,1", out=taken + "-2,1: user 1 is not assigned to role 2\nno rights\n")
+    largest = joined(sizes(64, 64, 16, 32), assign(31, 63), permit(31, 63, 15), permit(31, 0, 15), END)
+    yield keeping(largest, out="user 63, operation 15: resources 0, 63\n")
+    for roles in [NOBODY, joined(sizes(1, 1, 1, 1), permit(0, 0, 0), END)]:
+        yield keeping(roles, out="no rights\n")
+
+
+def rights_refusals():
+    for n, roles in REFUSED_ROLES.items():
+        yield keeping(roles, out=refused(n))
+        yield keeping(roles, "+0,0", out=refused(n))
+    for edit in ["+3,0", "-3,0", "+0,2", "-0,2", "+3,2", "+" + "9" * 2000 + "," + "9" * 2000]:
+        yield keeping(DESKS, edit, out=f"{edit}: {refused(5)}" + BY_SENIOR + BY_ROLE)
+    # refused edits among others
+    some = f"+3,0: {refused(5)}-0,0: user 0 is not assigned to role 0\n+9,9: {refused(5)}"
+    yield keeping(DESKS, "+3,0", "-0,0", "+9,9", out=some + BY_ROLE)
+
+
+def rights_wrongly():
+    yield Use("rights", err=RIGHTS_USAGE)
+    yield Use("rights", "--help", err="rights: --help: No such file or directory\n")
+    wrong = ["", "+", "-", ",", "0,0", "+0", "+0,", "+,0", "+0,0,0", "+0 0", "+ 0,0", "++0,0", "+-0,0", "*0,0", "+x,0", "+0,x"]
+    wrong += ["+" + "9" * 5000 + ",0"]
+    for edit in wrong:
+        shown = edit if len(edit) < 4097 else edit[:40]
+        err = f"rights: {shown}: an edit is +ROLE,USER or -ROLE,USER\n" + RIGHTS_USAGE
+        yield keeping(DESKS, edit, err=err)
+        # none is answered, and no file is looked for
+        yield keeping(DESKS, "+1,1", edit, err=err)
+        yield Use("rights", "none", edit, err=err)
+    err = "rights: cannot print the answer: No space left on device\n"
+    for roles, edits in [(DESKS, []), (DESKS, ["+1,1", "+9,9"]), (NOBODY, []), (END, [])]:
+        yield keeping(roles, *edits, output=os.open("/dev/full", os.O_WRONLY), err=err)
+
+
 def uses():
     yield from mined()
     yield from mine_refusals()
@@ -763,6 +835,11 @@ def uses():
     yield from load_refusals()
     yield from load_wrongly()
     yield from load_saving()
+    yield from kept()
+    yield from rights_refusals()
+    yield from file_errors("rights", names=("roles",))
+    yield from file_errors("rights", "+0,0", names=("roles",))
+    yield from rights_wrongly()
 
 
 # ---- running

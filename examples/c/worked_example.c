@@ -1,13 +1,13 @@
 /*
  * A worked example of include/fichtengarn.h: reads a role file, mines it, reads the rules back,
  * judges them, shows one, asks a question of both, reads the rules beside a file that they were not
- * made for, shows the circle of a file that has one, makes a role file from a seed and mines it, and
- * prints the answers.
+ * made for, shows the circle of a file that has one, keeps a summary of rights through edits, makes a
+ * role file from a seed and mines it, and prints the answers.
  *
  *     worked_example FILE
  *
  * All memory is set aside beforehand, as firmware would do it: 64 KB for the role file, 64 KB for
- * the rules, 32 KB of scratch.
+ * the rules, 32 KB of scratch, 20 KB for the record and the table of rights.
  */
 #include <inttypes.h>
 #include <stdio.h>
@@ -18,6 +18,8 @@
 static uint8_t file[FICHTENGARN_MOST_ROLE_BYTES + 1];
 static uint8_t rules[65536];
 static uint64_t scratch[FICHTENGARN_SCRATCH_WORDS];
+static fichtengarn_recorded kept;
+static uint64_t table[FICHTENGARN_TABLE_WORDS];
 
 /* A role file of another shape: it has no users, no resources, and so on. */
 static const uint8_t nobody[] = {0x01, 0, 0, 0, 0, 0x0F};
@@ -101,6 +103,32 @@ static void circle(const uint8_t *roles, size_t roles_length)
     printf("\n");
 }
 
+/* Prints the word of a user and an operation. */
+static void print_rights(size_t user, size_t operation)
+{
+    printf("user %zu, operation %zu: %" PRIx64 "\n", user, operation, table[FICHTENGARN_USER_WORDS * user + operation]);
+}
+
+/* Keeps a summary of rights: fills it, and edits. */
+static void keep(size_t file_length)
+{
+    kept = fichtengarn_read_record(file, file_length);
+    if (!told("read record", kept.code))
+        return;
+    if (!told("fill", fichtengarn_fill(kept.record, table, FICHTENGARN_TABLE_WORDS)))
+        return;
+    print_rights(0, 0);
+    print_rights(1, 0);
+    kept = fichtengarn_assign(kept.record, table, FICHTENGARN_TABLE_WORDS, 1, 0);
+    told("assign", kept.code);
+    print_rights(0, 0);
+    kept = fichtengarn_assign(kept.record, table, FICHTENGARN_TABLE_WORDS, 2, 0);
+    told("assign", kept.code);
+    kept = fichtengarn_withdraw(kept.record, table, FICHTENGARN_TABLE_WORDS, 0, 0);
+    told("withdraw", kept.code);
+    print_rights(0, 0);
+}
+
 /* Mines with the memory set aside for it. */
 static size_t mine(size_t file_length, fichtengarn_weights weights, uint64_t counts[5])
 {
@@ -148,6 +176,7 @@ static void work(size_t file_length)
     ask(file_length, rules_length, 0, 0, 1);
     told("read rules elsewhere", fichtengarn_read_rules(nobody, sizeof nobody, rules, rules_length, &count));
     circle(circular, sizeof circular);
+    keep(file_length);
     load(0);
     load(1);
 }

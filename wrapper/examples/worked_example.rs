@@ -1,7 +1,7 @@
 //! A worked example of the wrapper, and the same as `examples/c/worked_example.c`: reads a role
 //! file, mines it, reads the rules back, judges them, shows one, asks a question of both, reads the
-//! rules beside a file that they were not made for, shows the circle of a file that has one, makes a
-//! role file from a seed and mines it, and prints the answers.
+//! rules beside a file that they were not made for, shows the circle of a file that has one, keeps a
+//! summary of rights through edits, makes a role file from a seed and mines it, and prints the answers.
 //!
 //!     cargo run --example worked_example FILE
 
@@ -89,6 +89,27 @@ fn load(seed: u32) -> Option<()> {
     Some(())
 }
 
+/// Prints the word of a user and an operation.
+fn print_rights(table: &[u64], user: usize, operation: usize) {
+    let word = table[fichtengarn::USER_WORDS * user + operation];
+    println!("user {user}, operation {operation}: {word:x}");
+}
+
+/// Keeps a summary of rights: fills it, and edits.
+fn keep(file: &[u8]) -> Option<()> {
+    let mut table = [0; fichtengarn::TABLE_WORDS];
+    let mut record = told("read record", fichtengarn::read_record(file))?;
+    told("fill", record.fill(&mut table))?;
+    print_rights(&table, 0, 0);
+    print_rights(&table, 1, 0);
+    told("assign", record.assign(&mut table, 1, 0));
+    print_rights(&table, 0, 0);
+    told("assign", record.assign(&mut table, 2, 0));
+    told("withdraw", record.withdraw(&mut table, 0, 0));
+    print_rights(&table, 0, 0);
+    Some(())
+}
+
 /// Goes on with what each call answers; ends where one is refused.
 fn work(file: &[u8]) -> Option<()> {
     let mut scratch = [0; fichtengarn::SCRATCH_WORDS];
@@ -112,6 +133,7 @@ fn work(file: &[u8]) -> Option<()> {
     ask(file, rules, Triple { user: 0, resource: 0, operation: 1 });
     told("read rules elsewhere", fichtengarn::read_rules(&NOBODY, rules));
     circle(&CIRCULAR);
+    keep(file)?;
     load(0);
     load(1);
     Some(())

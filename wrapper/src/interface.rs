@@ -20,6 +20,41 @@ pub struct Weights {
     pub atoms: u16,
 }
 
+/// What a role file says, as plain numbers. Sets are masks: bit n says that n is in the set. Sides
+/// are 0 for users and 1 for resources; of two or more things the last goes fastest.
+#[repr(C)]
+#[derive(Clone, Copy, PartialEq, Eq, Debug)]
+pub struct Record {
+    pub users: usize,
+    pub resources: usize,
+    pub operations: usize,
+    pub roles: usize,
+    /// By side: how many attributes there are, and which of them are sets.
+    pub attributes: [usize; 2],
+    pub kinds: [u64; 2],
+    /// By side and attribute, six a side: the domain, and who has a value.
+    pub domains: [u64; 12],
+    pub known: [u64; 12],
+    /// By side, attribute and user or resource, 64 of these.
+    pub values: [u64; 768],
+    /// By role: the users assigned, and the seniors by a line 07.
+    pub assigned: [u64; 32],
+    pub lines: [u64; 32],
+    /// By role and operation, 16 of these: the resources.
+    pub permissions: [u64; 512],
+    /// By role, worked out: all seniors, and the holders.
+    pub seniors: [u64; 32],
+    pub holders: [u64; 32],
+}
+
+/// 0 and a record, or the number of a refusal and a record.
+#[repr(C)]
+#[derive(Clone, Copy)]
+pub struct Recorded {
+    pub code: usize,
+    pub record: Record,
+}
+
 unsafe extern "C" {
     pub fn fichtengarn_read_roles(file: *const u8, file_length: usize) -> usize;
 
@@ -97,4 +132,24 @@ unsafe extern "C" {
         output_length: usize,
         counts: *mut [u64; 5],
     ) -> usize;
+
+    pub fn fichtengarn_read_record(file: *const u8, file_length: usize) -> Recorded;
+
+    pub fn fichtengarn_fill(record: Record, table: *mut u64, table_words: usize) -> usize;
+
+    pub fn fichtengarn_assign(
+        record: Record,
+        table: *mut u64,
+        table_words: usize,
+        role: usize,
+        user: usize,
+    ) -> Recorded;
+
+    pub fn fichtengarn_withdraw(
+        record: Record,
+        table: *mut u64,
+        table_words: usize,
+        role: usize,
+        user: usize,
+    ) -> Recorded;
 }

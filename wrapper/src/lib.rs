@@ -11,13 +11,21 @@
 
 pub mod interface;
 
-pub use interface::Weights;
+use interface::Recorded;
+pub use interface::{Record, Weights};
 
 /// The words of scratch that mining asks for.
 pub const SCRATCH_WORDS: usize = 4096;
 
 /// The most bytes that a role file may have, read or made.
 pub const MOST_ROLE_BYTES: usize = 65535;
+
+/// The words of the table that the standing summary of rights asks for: one for each user and
+/// operation.
+pub const TABLE_WORDS: usize = 1024;
+
+/// Of these, the words of one user.
+pub const USER_WORDS: usize = 16;
 
 /// The most roles that a role file may have.
 pub const MOST_ROLES: usize = 32;
@@ -38,8 +46,8 @@ pub enum Refusal {
     UnknownCommand = 3,
     /// A command where it may not stand, or a byte after the end.
     OutOfPlace = 4,
-    /// An operand beyond its limit or declared size, a seventh attribute, a question's number
-    /// beyond the sizes, or a size of a role file to be made beyond its limit.
+    /// An operand beyond its limit or declared size, a seventh attribute, a question's or an edit's
+    /// number beyond the sizes, or sizes of a record, or of a role file to be made, beyond the limits.
     Beyond = 5,
     /// A value of the wrong kind, or one given twice.
     WrongKind = 6,
@@ -65,10 +73,12 @@ pub enum Refusal {
     /// The rule file was made for a role file of another shape: one of the six operands of its 20 is
     /// not the role file's.
     WrongShape = 16,
+    /// A table of other than `TABLE_WORDS`.
+    WrongTable = 17,
 }
 
 impl Refusal {
-    const ALL: [Refusal; 16] = [
+    const ALL: [Refusal; 17] = [
         Refusal::TooLong,
         Refusal::CutOff,
         Refusal::UnknownCommand,
@@ -85,6 +95,7 @@ impl Refusal {
         Refusal::NoSuchRule,
         Refusal::ZeroSeed,
         Refusal::WrongShape,
+        Refusal::WrongTable,
     ];
 
     /// 01's number.
@@ -303,4 +314,41 @@ pub fn mine(
     let [length, parts, rules, merges, cost] = counts;
     let [length, parts, rules, merges] = [length, parts, rules, merges].map(|count| count as usize);
     Ok(Mined { length, parts, rules, merges, cost })
+}
+
+/// The record of a role file.
+pub fn read_record(file: &[u8]) -> Result<Record, Refusal> {
+    let read = unsafe { interface::fichtengarn_read_record(file.as_ptr(), file.len()) };
+    told(read.code)?;
+    Ok(read.record)
+}
+
+impl Record {
+    /// Fills a table of `TABLE_WORDS` with the standing summary of rights, whatever it held: word
+    /// `USER_WORDS * user + operation` is the set of the resources granted. The edits keep it from
+    /// there on.
+    pub fn fill(&self, table: &mut [u64]) -> Result<(), Refusal> {
+        told(unsafe { interface::fichtengarn_fill(*self, table.as_mut_ptr(), table.len()) })
+    }
+
+    /// Assigns a user to a role. Where that changes something, the words of the user are worked out
+    /// afresh; nothing else of the table is written. A refusal changes nothing.
+    pub fn assign(&mut self, table: &mut [u64], role: usize, user: usize) -> Result<(), Refusal> {
+        self.kept(unsafe {
+            interface::fichtengarn_assign(*self, table.as_mut_ptr(), table.len(), role, user)
+        })
+    }
+
+    /// Takes the assignment of a user to a role away, in the same way.
+    pub fn withdraw(&mut self, table: &mut [u64], role: usize, user: usize) -> Result<(), Refusal> {
+        self.kept(unsafe {
+            interface::fichtengarn_withdraw(*self, table.as_mut_ptr(), table.len(), role, user)
+        })
+    }
+
+    /// The record after an edit; after a refusal it is the one there was.
+    fn kept(&mut self, edited: Recorded) -> Result<(), Refusal> {
+        *self = edited.record;
+        told(edited.code)
+    }
 }

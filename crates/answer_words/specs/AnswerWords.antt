@@ -7,7 +7,7 @@ use lib.ListN.{length, getD, take}
 use mathlib.Core.Bool.{Bool, true, false}
 use mathlib.Core.List.{List, [], _∷_}
 use mathlib.Core.Path.{_≡_}
-use Rattle.files.specs.Answer.{Refusal, tooLong, cutOff, unknownCommand, outOfPlace, beyond, wrongKind, ownSenior, smallScratch, shortOutput, rulesCutOff, rulesUnknown, rulesOrder, rulesOperand, noSuchRule, zeroSeed, wrongShape}
+use Rattle.files.specs.Answer.{Refusal, tooLong, cutOff, unknownCommand, outOfPlace, beyond, wrongKind, ownSenior, smallScratch, shortOutput, rulesCutOff, rulesUnknown, rulesOrder, rulesOperand, noSuchRule, zeroSeed, wrongShape, wrongTable}
 use Rattle.files.specs.Calls.{Verdict, differ, strayRule, strayPart, sound}
 
 -- a text as bytes
@@ -40,11 +40,13 @@ causeWords rulesOperand = "the rule file has an operand beyond its size or of th
 causeWords noSuchRule = "the rule file has no rule of this number"
 causeWords zeroSeed = "the seed is 0"
 causeWords wrongShape = "the rule file was made for other sizes or numbers of attributes than the role file's"
+causeWords wrongTable = "the table has other than 1,024 words"
 
 unfoldable pub refusalTable : List String
 refusalTable =
     "no refusal has this number" ∷ causeWords tooLong ∷ causeWords cutOff ∷ causeWords unknownCommand ∷ causeWords outOfPlace ∷ causeWords beyond ∷ causeWords wrongKind ∷ causeWords ownSenior
-    ∷ causeWords smallScratch ∷ causeWords shortOutput ∷ causeWords rulesCutOff ∷ causeWords rulesUnknown ∷ causeWords rulesOrder ∷ causeWords rulesOperand ∷ causeWords noSuchRule ∷ causeWords zeroSeed ∷ causeWords wrongShape ∷ []
+    ∷ causeWords smallScratch ∷ causeWords shortOutput ∷ causeWords rulesCutOff ∷ causeWords rulesUnknown ∷ causeWords rulesOrder ∷ causeWords rulesOperand ∷ causeWords noSuchRule
+    ∷ causeWords zeroSeed ∷ causeWords wrongShape ∷ causeWords wrongTable ∷ []
 
 -- the words of a refusal by its number
 unfoldable pub refusalWords : ℕ → List ℕ

@@ -58,6 +58,7 @@ pub fn refusal_words(n: usize, out: &mut [u8]) -> usize
             b"the rule file was made for other sizes or numbers of attributes than the role file's",
             out,
         ),
+        refusal::WRONG_TABLE => put(b"the table has other than 1,024 words", out),
         _ => put(b"no refusal has this number", out),
     }
 }

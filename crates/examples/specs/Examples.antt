@@ -4,12 +4,13 @@
 use Prim.Native.Nat.{ℕ, zero, suc}
 use Prim.Native.String.{String}
 use lib.Dec.{eqb}
-use lib.ListN.{take}
+use lib.ListN.{length, getD, take}
 use mathlib.Core.Bool.{Bool, true, false, _&&_, not}
 use mathlib.Core.List.{List, [], _∷_, _++_, map}
 use Rattle.examples.specs.Hex.{noByte, spelt, hex}
-use Rattle.files.specs.Answer.{told}
+use Rattle.files.specs.Answer.{andThen, told, accepted}
 use Rattle.files.specs.Calls.{Verdict, countValues, yesNo, verdictNumber, verdictValues, mineAnswer, mineOutput, roleQuestion, readBoth, ruleQuestion, judge, shownPlace, shownPart, shownByte, circleAnswer, circleOutput}
+use Rattle.files.specs.Edits.{Edit, mayFill, editAnswer, summaryWord, summaryAnswer, editedBy}
 use Rattle.files.specs.Load.{xorshift, loadAnswer, loadOutput}
 use Rattle.files.specs.RoleFile.{readRoles}
 use Rattle.files.specs.RuleFile.{Lines, valuesIn, ruleIn}
@@ -92,6 +93,33 @@ loading seed u r o k room = told (λ n. n ∷ []) (loadAnswer 2 seed u r o k roo
 
 abbrev pub loadedInto : (seed users resources operations roles room : ℕ) → List ℕ
 loadedInto seed u r o k room = loadOutput 2 seed u r o k (memory room)
+
+-- the edits of request 8; what one answers beside a table of so many words
+abbrev pub gives : ℕ → ℕ → Edit
+gives k u = record { gives = true; role = k; user = u }
+
+abbrev pub takes : ℕ → ℕ → Edit
+takes k u = record { gives = false; role = k; user = u }
+
+abbrev pub editing : List ℕ → ℕ → Edit → List ℕ
+editing file words e = told (λ (F : Policy). []) (andThen (readRoles 2 file) (λ F. editAnswer F words e))
+
+-- after a list of edits: the word of a user and an operation, whether a user is assigned to a role, and those words of a table of so many words, filled, that
+-- are not 0, each behind its number
+abbrev pub rights : List ℕ → List Edit → ℕ → ℕ → List ℕ
+rights file es u o = told (λ (F : Policy). summaryWord (editedBy F es) u o ∷ []) (readRoles 2 file)
+
+abbrev pub assignment : List ℕ → List Edit → ℕ → ℕ → List ℕ
+assignment file es k u = told (λ (F : Policy). yesNo (editedBy F es .assigned k u)) (readRoles 2 file)
+
+abbrev pub filling : List ℕ → List Edit → ℕ → List ℕ
+filling file es words =
+    told (λ (t : List ℕ). each (λ i. each (λ w. i ∷ w ∷ []) (keep (λ w. not (eqb w 0)) (getD t i 0 ∷ []))) (upTo (length t)))
+    (andThen (readRoles 2 file) (λ F. summaryAnswer (editedBy F es) words))
+
+-- filling a table of so many words from a record of these sizes
+abbrev pub sized : ℕ → ℕ → ℕ → ℕ → ℕ → List ℕ
+sized words u r o k = told (λ (n : ℕ). []) (mayFill words u r o k (accepted 0))
 
 -- the test of a user or a resource against each rule of a rule file: the half of the single attributes, that of the sets, and the whole
 abbrev pub halves : Policy → Which → Expression → ℕ → List ℕ
@@ -544,6 +572,13 @@ threeRoles = hex "01 00 00 00 03 07 02 01 07 01 00 07 00 02 0F"
 abbrev pub twoCircles : List ℕ
 twoCircles = hex "01 00 00 00 05 07 04 02 07 02 04 07 01 03 07 03 01 07 00 01 07 01 02 07 02 00 0F"
 
+-- ---- a standing summary (request 8)
+
+-- user 0 is in role 0, which is senior to role 1, and user 1 in role 2; role 1 may do operation 1 on both resources, role 2 operation 0 on
+-- resource 1
+abbrev pub threeDesks : List ℕ
+threeDesks = hex "01 02 02 02 03 05 00 00 05 02 01 07 01 00 06 01 00 01 06 01 01 01 06 02 01 00 0F"
+
 -- ---- satisfaction (request 4)
 
 -- users 0 to 3 have 5 and {1, 2}, 5 and {2}, 7 and {1, 2}, nothing; resources 0 to 3 have 5 and {1}, 5 and {1, 2}, 7 and {1}, nothing;
@@ -995,6 +1030,44 @@ table =
     ∷ row "a second 20: behind 2F" (judging fileA (forA ++ rulesA ++ hex "20")) (12 ∷ [])
     -- rule 0 begins behind the 20
     ∷ row "show: where rule 0 of A stands" (placing fileA (forA ++ rulesA) 0) (7 ∷ 22 ∷ [])
+    -- ---- request 8: "one for each user and operation, each the set of resources granted; word 16 × user + operation"
+    ∷ row "summary: three desks, filled" (filling threeDesks [] 1024) (0 ∷ 1 ∷ 3 ∷ 16 ∷ 2 ∷ [])
+    ∷ row "summary: nobody's is empty" (filling nobody [] 1024) (0 ∷ [])
+    ∷ row "summary: a right through a senior" (rights inherits [] 0 0) (0 ∷ 1 ∷ [])
+    ∷ row "summary: an operation beyond the sizes" (rights threeDesks [] 0 2) (0 ∷ 0 ∷ [])
+    ∷ row "summary: a user beyond the sizes" (rights threeDesks [] 2 1) (0 ∷ 0 ∷ [])
+    -- "assign a user to a role, and take the assignment away"
+    ∷ row "summary: user 1 assigned to role 1" (filling threeDesks (gives 1 1 ∷ []) 1024) (0 ∷ 1 ∷ 3 ∷ 16 ∷ 2 ∷ 17 ∷ 3 ∷ [])
+    ∷ row "summary: assigned to a senior" (rights threeDesks (gives 0 1 ∷ []) 1 1) (0 ∷ 3 ∷ [])
+    ∷ row "summary: the senior taken away" (rights threeDesks (takes 0 0 ∷ []) 0 1) (0 ∷ 0 ∷ [])
+    ∷ row "summary: taken away, still held through the senior" (rights threeDesks (gives 1 0 ∷ takes 1 0 ∷ []) 0 1) (0 ∷ 3 ∷ [])
+    ∷ row "summary: the senior taken away, held itself" (rights threeDesks (gives 1 0 ∷ takes 0 0 ∷ []) 0 1) (0 ∷ 3 ∷ [])
+    ∷ row "summary: first taken, then given" (rights threeDesks (takes 2 1 ∷ gives 2 1 ∷ []) 1 0) (0 ∷ 2 ∷ [])
+    ∷ row "summary: first given, then taken" (rights threeDesks (gives 2 1 ∷ takes 2 1 ∷ []) 1 0) (0 ∷ 0 ∷ [])
+    ∷ row "summary: another user's words" (rights threeDesks (takes 0 0 ∷ []) 1 0) (0 ∷ 2 ∷ [])
+    -- "repeating one, or taking away what isn't there, changes nothing"
+    ∷ row "summary: given again" (rights threeDesks (gives 0 0 ∷ []) 0 1) (0 ∷ 3 ∷ [])
+    ∷ row "summary: given twice, taken once" (rights threeDesks (gives 2 1 ∷ gives 2 1 ∷ takes 2 1 ∷ []) 1 0) (0 ∷ 0 ∷ [])
+    ∷ row "summary: taken where there is none" (rights threeDesks (takes 1 0 ∷ []) 0 1) (0 ∷ 3 ∷ [])
+    ∷ row "summary: given again, its answer" (editing threeDesks 1024 (gives 0 0)) (0 ∷ [])
+    ∷ row "summary: taken where there is none, its answer" (editing threeDesks 1024 (takes 1 0)) (0 ∷ [])
+    -- "17 for a table of other than 1,024 words, then 5 for a record whose sizes pass the limits or for numbers beyond its sizes"
+    ∷ row "summary: a table of 1,023 words" (sized 1023 2 2 2 3) (17 ∷ [])
+    ∷ row "summary: a table of 1,025 words" (sized 1025 2 2 2 3) (17 ∷ [])
+    ∷ row "summary: an edit beside 1,023 words" (editing threeDesks 1023 (gives 0 0)) (17 ∷ [])
+    ∷ row "summary: 17 before 5, for sizes" (sized 0 65 2 2 3) (17 ∷ [])
+    ∷ row "summary: 17 before 5, for numbers" (editing threeDesks 1025 (gives 3 2)) (17 ∷ [])
+    ∷ row "summary: the largest sizes" (sized 1024 64 64 16 32) (0 ∷ [])
+    ∷ row "summary: 65 users" (sized 1024 65 64 16 32) (5 ∷ [])
+    ∷ row "summary: 65 resources" (sized 1024 64 65 16 32) (5 ∷ [])
+    ∷ row "summary: 17 operations" (sized 1024 64 64 17 32) (5 ∷ [])
+    ∷ row "summary: 33 roles" (sized 1024 64 64 16 33) (5 ∷ [])
+    ∷ row "summary: no such role" (editing threeDesks 1024 (gives 3 0)) (5 ∷ [])
+    ∷ row "summary: no such user" (editing threeDesks 1024 (takes 0 2)) (5 ∷ [])
+    ∷ row "summary: the last role and user" (editing threeDesks 1024 (gives 2 1)) (0 ∷ [])
+    -- "refused edits among them", "either leaves record and table untouched"
+    ∷ row "summary: refused edits among others" (rights threeDesks (takes 3 0 ∷ takes 0 0 ∷ gives 0 2 ∷ gives 1 0 ∷ gives 9 9 ∷ []) 0 1) (0 ∷ 3 ∷ [])
+    ∷ row "summary: a refused edit assigns nobody" (assignment threeDesks (gives 3 0 ∷ []) 3 0) (0 ∷ 0 ∷ [])
     -- ---- the bytes of these rows: what is no digit, half a byte, and two bytes without a blank are no bytes
     ∷ row "hex: digits" (hex "00 09 0A 0F 10 F0 FF") (0 ∷ 9 ∷ 10 ∷ 15 ∷ 16 ∷ 240 ∷ 255 ∷ [])
     ∷ row "hex: no digit" (spelt "0G 0a") (noByte ∷ noByte ∷ [])

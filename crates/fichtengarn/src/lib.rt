@@ -1,13 +1,15 @@
 // The calls for C and Rust: each call of 01 and of the requests as a function of the static library, in numbers and lent memory alone.
 //
-// Each returns 0, or the number of the refusal. The values that go with a 0 are stored in lent memory, from its front; a refusal
-// stores none. The call that shows one rule returns where its part stands, and stores that number in a lent byte. include/fichtengarn.h
-// says the same to C.
+// Each returns 0, or the number of the refusal. The values that go with a 0 are stored in lent memory, from its front; a
+// refusal stores none. The call that shows one rule returns where its part stands, and stores that number in a lent byte;
+// those that make a record return it behind the number. include/fichtengarn.h says the same to C.
 ghost use lib.ListN.{length, take};
 ghost use Prim.Native.Nat.{ℕ, _+_, _<_};
+ghost use mathlib.Core.Bool.{true, false};
 ghost use mathlib.Core.List.{List};
 ghost use mathlib.Core.Path.{_≡_};
-ghost use Rattle.files.specs.Answer.{told, accepted};
+ghost use Rattle.files.specs.Answer.{told, codeOf, leftBy, accepted};
+ghost use Rattle.files.specs.Edits.{Edit};
 ghost use Rattle.files.specs.Calls.{Counts, countValues, yesNo, roleQuestion, readBoth, ruleQuestion, judge, mineAnswer, mineOutput, verdictTold, shownPlace, shownByte, circleAnswer, circleOutput};
 ghost use Rattle.files.specs.Beside.{besideOf};
 ghost use Rattle.files.specs.Demand3.{Demand3};
@@ -16,11 +18,18 @@ ghost use Rattle.files.specs.RoleFile.{readRoles, readCommands};
 ghost use Rattle.policy.specs.Circles.{closes, Circle};
 ghost use Rattle.policy.specs.Policy.{Policy};
 ghost use Rattle.load_file.specs.GeneratedNumbers.{bytesWritten};
+ghost use Rattle.right_edits.specs.EveryList.{LoadedFrom, EveryList};
+ghost use Rattle.right_edits.specs.Standing.{standing, fillAnswer, standingAnswer};
+ghost use Rattle.right_record.specs.Reassigned.{anEdit};
+ghost use Rattle.role_file.specs.Reading.{loadedOf};
 ghost use Rattle.role_circle.specs.CircledNumbers.{rolesListed};
 ghost use Rattle.sets.specs.Tests.{Is, _isIn_};
 ghost use Rattle.answers.specs.Numbers.{noValues};
 ghost use Rattle.answers.specs.Numbers.{returned, stored, rulesTold};
 use policy::Weights;
+use right_edits::Edited;
+use role_file::Loaded;
+use role_record::RoleFile;
 use role_record::Sizes;
 
 // Whether a role file may be read: 0, or 1 to 7.
@@ -201,4 +210,62 @@ pub extern "C" fn fichtengarn_mine(
         × Demand3 2 weights (besideOf F) (take (c .size) (now (out .exit))) c) ⌝ }
 {
     answers::store_mined(mining::mine(file, weights, scratch, out), counts)
+}
+
+// A role file read into a record, which the caller keeps: 0 and the record, or 1 to 7 and the empty one.
+#[no_mangle]
+pub extern "C" fn fichtengarn_read_record(file: &[u8]) -> Loaded
+    ensures { λ r. ⌜ r ≡ loadedOf (readRoles 2 (now (file .entry))) ⌝ }
+{
+    role_file::read(file)
+}
+
+// The standing summary of rights: fills a table from a record, any record.
+#[no_mangle]
+pub extern "C" fn fichtengarn_fill(loaded: RoleFile, table: &mut [u64]) -> usize
+    ensures { λ r. ⌜
+        (r ≡ codeOf (fillAnswer loaded (length (now (table .entry)))))
+        × (now (table .exit) ≡ leftBy (now (table .entry)) (fillAnswer loaded (length (now (table .entry)))))
+        × ((file : List ℕ)
+        → (F : Policy)
+        → LoadedFrom file F loaded
+        → r ≡ 0
+        → (es : List Edit)
+        → EveryList F (standing loaded (now (table .exit))) es) ⌝ }
+{
+    right_edits::fill(loaded, table)
+}
+
+// Assigns a user to a role: the record and the table after it, or both as they were.
+#[no_mangle]
+pub extern "C" fn fichtengarn_assign(
+    loaded: RoleFile,
+    table: &mut [u64],
+    role: usize,
+    user: usize,
+) -> Edited
+    ensures { λ r. ⌜
+        (r .code ≡ codeOf (standingAnswer (standing loaded (now (table .entry))) (anEdit true role user)))
+        × (standing (r .file) (now (table .exit))
+        ≡ leftBy (standing loaded (now (table .entry)))
+        (standingAnswer (standing loaded (now (table .entry))) (anEdit true role user))) ⌝ }
+{
+    right_edits::edit(loaded, table, true, role, user)
+}
+
+// Takes the assignment of a user to a role away: the same.
+#[no_mangle]
+pub extern "C" fn fichtengarn_withdraw(
+    loaded: RoleFile,
+    table: &mut [u64],
+    role: usize,
+    user: usize,
+) -> Edited
+    ensures { λ r. ⌜
+        (r .code ≡ codeOf (standingAnswer (standing loaded (now (table .entry))) (anEdit false role user)))
+        × (standing (r .file) (now (table .exit))
+        ≡ leftBy (standing loaded (now (table .entry)))
+        (standingAnswer (standing loaded (now (table .entry))) (anEdit false role user))) ⌝ }
+{
+    right_edits::edit(loaded, table, false, role, user)
 }

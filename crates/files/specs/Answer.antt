@@ -38,6 +38,8 @@ pub data Refusal : Type 0 where
   zeroSeed : Refusal
   -- request 7: "operands unlike the role file's, after the role file's refusals and after 20 itself has been read whole"
   wrongShape : Refusal
+  -- request 8: "17 for a table of other than 1,024 words"
+  wrongTable : Refusal
 
 -- 01's number of each
 abbrev pub numberOf : Refusal → ℕ
@@ -57,6 +59,7 @@ numberOf rulesOperand = 13
 numberOf noSuchRule = 14
 numberOf zeroSeed = 15
 numberOf wrongShape = 16
+numberOf wrongTable = 17
 
 -- "Every refusal here and below returns only its number."
 pub data Answer (A : Type 0) : Type 0 where
@@ -77,3 +80,13 @@ unless false e r = refused e
 abbrev pub andThen : {A B : Type 0} → Answer A → (A → Answer B) → Answer B
 andThen (refused e) f = refused e
 andThen (accepted a) f = f a
+
+-- the number that an answer without values returns: that of the refusal, or 0
+abbrev pub codeOf : {A : Type 0} → Answer A → ℕ
+codeOf (refused e) = numberOf e
+codeOf (accepted a) = 0
+
+-- what there is after a call: what it comes to, or after a refusal what there was before
+abbrev pub leftBy : {A : Type 0} → A → Answer A → A
+leftBy former (refused e) = former
+leftBy former (accepted a) = a

@@ -7,6 +7,7 @@ pub mod RulePart
 pub mod Calls
 pub mod Load
 pub mod BytesLaws
+pub mod AnswerLaws
 pub mod ReadBackLaws
 pub mod LineLaws
 pub mod WriteLaws
@@ -17,3 +18,4 @@ pub mod CallLaws
 pub mod CircleCallLaws
 pub mod RulePartLaws
 pub mod LoadLaws
+pub mod Edits

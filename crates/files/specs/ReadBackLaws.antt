@@ -13,7 +13,7 @@ use Rattle.files.specs.Answer.{Answer, andThen, accepted}
 use Rattle.files.specs.Beside.{Beside}
 use Rattle.files.specs.Bytes.{operands, spreadAll}
 use Rattle.files.specs.BytesLaws.{Fit, Reads, reads-on, reads-end}
-use Rattle.files.specs.RuleFile.{RuleCommand, byteOf, operandsOf, ruleCommand, precedes, isOperations, Lines, Reading, endsFile, whole, finished, follows, legal, addLine, obeyRule, alike, openedBy, widthsOr, ruleWidths, encode, encodeAll, encodeFile, opened, ruleFormat, readBody, readRules, reshapes, opens, value, operations, link, part, ends}
+use Rattle.files.specs.RuleFile.{RuleCommand, byteOf, operandsOf, ruleCommand, precedes, isOperations, Lines, Reading, endsFile, whole, finished, follows, legal, addLine, obeyRule, sameNumbers, openedBy, widthsOr, ruleWidths, encode, encodeAll, encodeFile, opened, ruleFormat, readBody, readRules, reshapes, opens, value, operations, link, part, ends}
 use Rattle.policy.specs.MergeLaws.{Every}
 use Rattle.policy.specs.Rules.{user, resource}
 use Rattle.sets.specs.Sorted.{Rising, and-then}
@@ -68,14 +68,14 @@ ones-read zero (x ∷ xs) rest h = absurd (omega arith)
 ones-read (suc n) [] rest h = absurd (omega arith)
 ones-read (suc n) (x ∷ xs) rest h = rw (ones-read n xs rest (omega arith)) (ap (λ (y : ℕ). some (y ∷ xs, rest)) (omega arith))
 
-pub alike-same : (xs : List ℕ) → Is (alike xs xs)
-alike-same [] = refl
-alike-same (x ∷ xs) = and-in (eq-eqb x x refl) (alike-same xs)
+pub numbers-same : (xs : List ℕ) → Is (sameNumbers xs xs)
+numbers-same [] = refl
+numbers-same (x ∷ xs) = and-in (eq-eqb x x refl) (numbers-same xs)
 
 -- behind a 20 with the shape that is asked for stands the rest
 pub opened-written : (W : ℕ) (shape rest : List ℕ) → length shape ≡ 6 → opened W shape (0x20 ∷ (shape ++ rest)) ≡ accepted rest
 unfolding opened
-opened-written W shape rest l = rw (ones-read 6 shape rest l, alike-same shape) refl
+opened-written W shape rest l = rw (ones-read 6 shape rest l, numbers-same shape) refl
 
 module _ (W : ℕ) where
   pub widths-of : (c : RuleCommand) → ruleWidths W (byteOf c) ≡ some (widthsOr (ruleWidths W (byteOf c)))

@@ -229,17 +229,17 @@ module _ (B : Beside) where
       (addLine s c) c
 
 -- two lists of numbers are the same
-abbrev pub alike : List ℕ → List ℕ → Bool
-alike [] [] = true
-alike [] (y ∷ ys) = false
-alike (x ∷ xs) [] = false
-alike (x ∷ xs) (y ∷ ys) = eqb x y && alike xs ys
+abbrev pub sameNumbers : List ℕ → List ℕ → Bool
+sameNumbers [] [] = true
+sameNumbers [] (y ∷ ys) = false
+sameNumbers (x ∷ xs) [] = false
+sameNumbers (x ∷ xs) (y ∷ ys) = eqb x y && sameNumbers xs ys
 
 -- the first command, with its operands and the bytes behind it, which are handed on: cut off; "A file whose first command is a known one other than
 -- 20 gets 12, in the place of out of order"; "16 for operands unlike the role file's, ... after 20 itself has been read whole"
 abbrev pub openedBy : List ℕ → ℕ → Option (List ℕ × List ℕ) → Answer (List ℕ)
 openedBy shape b none = refused rulesCutOff
-openedBy shape b (some p) = unless (eqb b 0x20) rulesOrder (unless (alike (p .0) shape) wrongShape (accepted (p .1)))
+openedBy shape b (some p) = unless (eqb b 0x20) rulesOrder (unless (sameNumbers (p .0) shape) wrongShape (accepted (p .1)))
 
 abbrev pub widthsOr : Option (List ℕ) → List ℕ
 widthsOr none = []

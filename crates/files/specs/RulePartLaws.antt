@@ -19,7 +19,7 @@ use Rattle.files.specs.BytesLaws.{Bytes, Carries, unless-carries, then-c
 use Rattle.files.specs.Calls.{readBoth, showAnswer, shownPlace, shownPart}
 use Rattle.files.specs.ReadBackLaws.{inner, ones}
 use Rattle.files.specs.RoleFile.{readRoles}
-use Rattle.files.specs.RuleFile.{RuleCommand, byteOf, operandsOf, ruleCommand, Lines, Reading, endsFile, whole, finished, follows, legal, addLine, obeyRule, alike, openedBy, widthsOr, ruleWidths, encode, encodeAll, encodeFile, opened, ruleFormat, readBody, readRules, reshapes, opens, value, operations, link, part, ends}
+use Rattle.files.specs.RuleFile.{RuleCommand, byteOf, operandsOf, ruleCommand, Lines, Reading, endsFile, whole, finished, follows, legal, addLine, obeyRule, sameNumbers, openedBy, widthsOr, ruleWidths, encode, encodeAll, encodeFile, opened, ruleFormat, readBody, readRules, reshapes, opens, value, operations, link, part, ends}
 use Rattle.files.specs.RulePart.{sizeOf, marksOn, ruleStart}
 use Rattle.policy.specs.Policy.{Policy}
 use Rattle.policy.specs.Rules.{user, resource}
@@ -210,11 +210,11 @@ ones-back (suc n) (b ∷ bs) = go (operands (ones n) bs) (ones-back n bs)
     go none k = tt
     go (some q) k = ap₂ _∷_ (omega arith) k
 
-alike-out : (xs ys : List ℕ) → Is (alike xs ys) → xs ≡ ys
-alike-out [] [] h = refl
-alike-out [] (y ∷ ys) h = absurd (false≢true h)
-alike-out (x ∷ xs) [] h = absurd (false≢true h)
-alike-out (x ∷ xs) (y ∷ ys) h = ap₂ _∷_ (eqb-true x y (and-l (eqb x y) (alike xs ys) h)) (alike-out xs ys (and-r (eqb x y) (alike xs ys) h))
+numbers-out : (xs ys : List ℕ) → Is (sameNumbers xs ys) → xs ≡ ys
+numbers-out [] [] h = refl
+numbers-out [] (y ∷ ys) h = absurd (false≢true h)
+numbers-out (x ∷ xs) [] h = absurd (false≢true h)
+numbers-out (x ∷ xs) (y ∷ ys) h = ap₂ _∷_ (eqb-true x y (and-l (eqb x y) (sameNumbers xs ys) h)) (numbers-out xs ys (and-r (eqb x y) (sameNumbers xs ys) h))
 
 -- the bytes of a file whose first command was taken: 20, the shape, and those behind
 opened-back : (W : ℕ) (shape bytes : List ℕ) → Carries (λ rest. bytes ≡ 0x20 ∷ (shape ++ rest)) (opened W shape bytes)
@@ -225,11 +225,11 @@ opened-back W shape (b ∷ bs) = known-so (ruleWidths W b) refl
     taken-so : (ws : List ℕ) → ruleWidths W b ≡ some ws → (o : Option (List ℕ × List ℕ)) → operands ws bs ≡ o → Carries (λ rest. b ∷ bs ≡ 0x20 ∷ (shape ++ rest)) (openedBy shape b o)
     taken-so ws e none q = tt
     taken-so ws e (some p) q =
-        unless-carries (λ rest. b ∷ bs ≡ 0x20 ∷ (shape ++ rest)) (eqb b 0x20) rulesOrder (unless (alike (p .0) shape) wrongShape (accepted (p .1))) λ y.
-        unless-carries (λ rest. b ∷ bs ≡ 0x20 ∷ (shape ++ rest)) (alike (p .0) shape) wrongShape (accepted (p .1)) λ z.
+        unless-carries (λ rest. b ∷ bs ≡ 0x20 ∷ (shape ++ rest)) (eqb b 0x20) rulesOrder (unless (sameNumbers (p .0) shape) wrongShape (accepted (p .1))) λ y.
+        unless-carries (λ rest. b ∷ bs ≡ 0x20 ∷ (shape ++ rest)) (sameNumbers (p .0) shape) wrongShape (accepted (p .1)) λ z.
         let six : ones 6 ≡ ws = ap widthsOr (ap (ruleWidths W) (sym (eqb-true b 0x20 y)) ∙ e) in
         let back : p .0 ++ p .1 ≡ bs = subst (OnesBack bs) q (subst (λ (l : List ℕ). OnesBack bs (operands l bs)) six (ones-back 6 bs)) in
-        ap₂ _∷_ (eqb-true b 0x20 y) (sym back ∙ ap (λ (l : List ℕ). l ++ p .1) (alike-out (p .0) shape z))
+        ap₂ _∷_ (eqb-true b 0x20 y) (sym back ∙ ap (λ (l : List ℕ). l ++ p .1) (numbers-out (p .0) shape z))
 
     known-so : (o : Option (List ℕ)) → ruleWidths W b ≡ o → Carries (λ rest. b ∷ bs ≡ 0x20 ∷ (shape ++ rest)) (elim o [ none ↦ refused rulesUnknown | some ws ↦ openedBy shape b (operands ws bs) ])
     known-so none e = tt

@@ -30,3 +30,5 @@ pub const NO_SUCH_RULE: usize = 14;
 pub const ZERO_SEED: usize = 15;
 
 pub const WRONG_SHAPE: usize = 16;
+
+pub const WRONG_TABLE: usize = 17;

@@ -70,12 +70,12 @@ module _ (n : ℕ) (w : ℕ → ℕ → ℕ) where
 
 -- ---- a loop over the words from s on
 
-span-in : (s n i : ℕ) → s ≤ i → i < s + n → span s n i ≡ true
+pub span-in : (s n i : ℕ) → s ≤ i → i < s + n → span s n i ≡ true
 unfolding span
 span-in s n i a b = and-in (not-in (ltb i s) (le-ltb i s a)) (lt-ltb i (s + n) b)
 
 -- what it says of a number to be in a span
-span-out : (s n i : ℕ) → span s n i ≡ true → (s ≤ i) × (i < s + n)
+pub span-out : (s n i : ℕ) → span s n i ≡ true → (s ≤ i) × (i < s + n)
 unfolding span
 span-out s n i h = (ltb-false i s (not-true (ltb i s) (and-l (not (ltb i s)) (ltb i (s + n)) h)), ltb-true i (s + n) (and-r (not (ltb i s)) (ltb i (s + n)) h))
 

@@ -9,7 +9,7 @@ use mathlib.Core.Bool.{Bool, true, false, cond, _&&_, not}
 use mathlib.Core.List.{List, [], _∷_, _++_}
 use mathlib.Core.Path.{_≡_, refl, sym, ap, _∙_, subst}
 use native.Mathlib.Omega.{arith}
-use Rattle.files.specs.Answer.{Refusal, numberOf, Answer, told, unless, andThen, tooLong, beyond, shortOutput, zeroSeed, refused, accepted}
+use Rattle.files.specs.Answer.{Refusal, numberOf, Answer, told, codeOf, unless, andThen, tooLong, beyond, shortOutput, zeroSeed, refused, accepted}
 use Rattle.files.specs.BytesLaws.{number-positive}
 use Rattle.files.specs.Load.{loadBytes, loadAnswer, loadOutput, Readable}
 use Rattle.files.specs.LoadLaws.{load-kept, load-written, load-demand}
@@ -20,7 +20,7 @@ use Rattle.load_file.specs.declared.Generated.{Generated}
 use Rattle.load_file.specs.declared.Generated.the-variants.{Refused, Written}
 use Rattle.policy.specs.Policy.{Policy}
 use Rattle.role_admit.specs.Admit.{sizesCode}
-use Rattle.role_admit.specs.AdmitLaws.{codeOf, sizes-code}
+use Rattle.role_admit.specs.AdmitLaws.{sizes-code}
 use Rattle.sets.specs.TestLaws.{never, and-l, and-r, and-three}
 use Rattle.sets.specs.Tests.{Is}
 

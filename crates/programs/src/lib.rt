@@ -24,4 +24,5 @@ pub use print::refuse;
 pub use print::say;
 pub use print::say_count;
 pub use print::say_number;
+pub use print::say_refusal;
 pub use print::say_triple;

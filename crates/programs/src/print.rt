@@ -36,13 +36,18 @@ pub fn end_line(program: &[u8], printed: bool) {
     }
 }
 
-// The line of a refusal, its number and its meaning.
-pub fn refuse(program: &[u8], n: usize) {
+// A refusal, its number and its meaning.
+pub fn say_refusal(printed: bool, n: usize) -> bool {
     let mut words = [0u8; 160];
     let length = refusal_words(n, &mut words);
-    let numbered = say_count(true, b"refused ", n);
+    let numbered = say_count(printed, b"refused ", n);
     let marked = say(numbered, b": ");
-    end_line(program, say(marked, &words[..length]));
+    say(marked, &words[..length])
+}
+
+// The line of a refusal.
+pub fn refuse(program: &[u8], n: usize) {
+    end_line(program, say_refusal(true, n));
 }
 
 // A text on standard error.

@@ -11,7 +11,8 @@ use Rattle.role_admit.specs.Admit.{belowOf, firstOf, declaringOf, laterO
 use Rattle.role_commands.specs.DecodeLaws.{meaning}
 use Rattle.role_commands.specs.declared.Command.{Command}
 use Rattle.role_commands.specs.declared.Command.the-variants.{Sizes, Declare, Give, Assign, Permit, Line, End}
-use Rattle.files.specs.Answer.{Refusal, numberOf, Answer, unless, andThen, outOfPlace, beyond, wrongKind, refused, accepted}
+use Rattle.files.specs.Answer.{Answer, unless, andThen, codeOf, outOfPlace, beyond, wrongKind, refused, accepted}
+use Rattle.files.specs.AnswerLaws.{unless-code}
 use Rattle.files.specs.RoleFile.{Phase, Loading, blank, sideBy, withKind, withValue, withAssigned, withPermitted, withLine, isNothing, isDeclaring, enter, takeKind, takeValue, takeAssignment, takePermission, takeLine, takeSizes, obeyRole, nothing, declaring, telling}
 use Rattle.role_record.specs.declared.Sizes.{Sizes as Counts}
 use Rattle.role_record.specs.Record.{columnSide, knownTable, attributeTable, kindTable, Sized}
@@ -22,11 +23,6 @@ use Rattle.sets.specs.SetLaws.{bit-mask}
 use Rattle.sets.specs.Sets.{bit, maskOf}
 use Rattle.sets.specs.TestLaws.{test, same}
 use Rattle.sets.specs.Tests.{iff, isSome}
-
--- 0 for an acceptance, else the refusal's number
-abbrev pub codeOf : {A : Type 0} → Answer A → ℕ
-codeOf (refused e) = numberOf e
-codeOf (accepted a) = 0
 
 abbrev pub phaseCode : Phase → ℕ
 phaseCode nothing = 0
@@ -39,10 +35,6 @@ sizesIn F = record { users = F .table user .count; resources = F .table resource
 
 -- ---- codes of answers
 
-unless-code : {A : Type 0} (b : Bool) (e : Refusal) (r : Answer A) → codeOf (unless b e r) ≡ cond b (codeOf r) (numberOf e)
-unless-code true e r = refl
-unless-code false e r = refl
-
 entered-code : (r : Answer Policy) (ph : Phase) → codeOf {A = Loading} (andThen r (λ F. accepted (record { phase = ph; policy = F }))) ≡ codeOf r
 entered-code (refused e) ph = refl
 entered-code (accepted F) ph = refl
@@ -51,7 +43,7 @@ enter-code : (place : Bool) (ph : Phase) (r : Answer Policy) → codeOf (enter p
 enter-code place ph r = unless-code place outOfPlace (andThen r (λ F. accepted (record { phase = ph; policy = F }))) ∙ ap (λ (n : ℕ). cond place n 4) (entered-code r ph)
 
 -- tests one after the other
-both-tests : {A : Type 0} (a b : Bool) (x y : A) → cond (a && b) x y ≡ cond a (cond b x y) y
+pub both-tests : {A : Type 0} (a b : Bool) (x y : A) → cond (a && b) x y ≡ cond a (cond b x y) y
 both-tests true b x y = refl
 both-tests false b x y = refl
 
@@ -109,14 +101,19 @@ column-known F side a x hs ha hx =
     ∙ bit-mask 64 (λ y. isSome (F .table (columnSide (6 * side + a)) .value ((6 * side + a) % 6) y)) x hx
     ∙ ap₂ (λ (w : Which) (b : ℕ). isSome (F .table w .value b x)) (column-side side a hs ha) (let e : (6 * side + a) % 6 ≡ a = omega arith in e)
 
-pub sizes-code : (u r o k : ℕ) → codeOf (takeSizes 2 u r o k) ≡ sizesCode u r o k
-unfolding takeSizes sizesCode belowOf
-sizes-code u r o k =
-    unless-code (leb u 64 && leb r 64 && leb o 16 && leb k 32) beyond (accepted (blank u r o k))
+-- the limits of the sizes
+pub limits-code : {A : Type 0} (u r o k : ℕ) (a : A) → codeOf (unless (leb u 64 && leb r 64 && leb o 16 && leb k 32) beyond (accepted a)) ≡ sizesCode u r o k
+unfolding sizesCode belowOf
+limits-code u r o k a =
+    unless-code (leb u 64 && leb r 64 && leb o 16 && leb k 32) beyond (accepted a)
     ∙ both-tests (leb u 64 && leb r 64 && leb o 16) (leb k 32) 0 5
     ∙ both-tests (leb u 64 && leb r 64) (leb o 16) (cond (leb k 32) 0 5) 5
     ∙ both-tests (leb u 64) (leb r 64) (cond (leb o 16) (cond (leb k 32) 0 5) 5) 5
     ∙ rw (at-most u 64, at-most r 64, at-most o 16, at-most k 32) refl
+
+pub sizes-code : (u r o k : ℕ) → codeOf (takeSizes 2 u r o k) ≡ sizesCode u r o k
+unfolding takeSizes
+sizes-code u r o k = limits-code u r o k (blank u r o k)
 
 kind-code : (F : Policy) (side kind domain : ℕ) → codeOf (takeKind F side kind domain) ≡ kindCode side kind (attributeTable F)
 unfolding takeKind kindCode

@@ -17,7 +17,7 @@ use role_record::RoleFile;
 use role_record::Sizes;
 
 // The verdict v where x is below the limit, else 5.
-fn below(x: usize, limit: usize, v: usize) -> usize
+pub fn below(x: usize, limit: usize, v: usize) -> usize
     ensures { λ r. ⌜ r ≡ belowOf x limit v ⌝ }
 {
     if x < limit { v } else { refusal::BEYOND }

@@ -9,12 +9,12 @@ use mathlib.Core.List.{List, [], _∷_}
 use mathlib.Core.Path.{_≡_, refl, sym, ap, ap₂, _∙_, subst}
 use native.Mathlib.Omega.{arith}
 use Rattle.role_admit.specs.Admit.{admitOf}
-use Rattle.role_admit.specs.AdmitLaws.{codeOf, phaseCode, admit-means}
+use Rattle.role_admit.specs.AdmitLaws.{phaseCode, admit-means}
 use Rattle.role_record.specs.Cells.{roleCells}
 use Rattle.role_record.specs.Record.{Sized, emptyRecord, tableOf, knownTable, valueTable, assignedTable, lineTable, permissionTable, attributeTable, kindTable, recordWith, recordSoFar, setValues, setAssigned, setLines, setPermissions, setKinds, domainTable}
 use Rattle.role_commands.specs.Decode.{decodedOf}
 use Rattle.role_commands.specs.DecodeLaws.{meaning, turn-short, turn-unknown, Front, turn-whole}
-use Rattle.files.specs.Answer.{Answer, unless, andThen, ownSenior, refused, accepted}
+use Rattle.files.specs.Answer.{Answer, unless, andThen, codeOf, ownSenior, refused, accepted}
 use Rattle.files.specs.Bytes.{behind, readOn, read}
 use Rattle.files.specs.BytesLaws.{read-behind, follow, Carries, number-positive}
 use Rattle.files.specs.RoleFile.{Loading, blank, isEnd, fresh, settle, obeyRole, roleFormat, readRoles, nothing, Phase, declaring, telling}

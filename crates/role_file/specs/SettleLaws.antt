@@ -25,15 +25,15 @@ module _ (F : Policy) (Z : Sized F) where
   unfolding lineTable
   lines-shown = table-bits 32 (F .line) (λ i j h. let a = Z .lined i j h in let n = Z .few in (omega (arith, a .0), omega (arith, a .1)))
 
-  assigned-shown : (k u : ℕ) → F .assigned k u ≡ among (assignedTable F) k u
+  pub assigned-shown : (k u : ℕ) → F .assigned k u ≡ among (assignedTable F) k u
   unfolding assignedTable
   assigned-shown = table-bits 32 (F .assigned) (λ k u h. let a = Z .assigned-to k u h in let n = Z .few in let m = Z .many user in (omega (arith, a .0), omega (arith, a .1)))
 
-  seniors-shown : closed (lineTable F) (F .roles) ≡ tableOf 32 (λ k. maskOf 64 (senior F k))
+  pub seniors-shown : closed (lineTable F) (F .roles) ≡ tableOf 32 (λ k. maskOf 64 (senior F k))
   unfolding closed tableOf
   seniors-shown = table-same 32 (λ i. maskOf 64 (λ j. reach (among (lineTable F)) (F .roles) i j)) (λ k. maskOf 64 (senior F k)) (λ i l. mask-same 64 (λ j. reach (among (lineTable F)) (F .roles) i j) (senior F i) (λ j m. sym (closed-bit (lineTable F) (F .roles) i j l m) ∙ senior-bit F (Z .few) (lineTable F) lines-shown i j l m))
 
-  holders-shown : heldTable (assignedTable F) (closed (lineTable F) (F .roles)) (F .roles) ≡ tableOf 32 (λ k. maskOf 64 (held F k))
+  pub holders-shown : heldTable (assignedTable F) (closed (lineTable F) (F .roles)) (F .roles) ≡ tableOf 32 (λ k. maskOf 64 (held F k))
   unfolding heldTable heldBy tableOf
   holders-shown =
       table-same 32 (λ k. maskOf 64 (λ u. bit (getD (assignedTable F) k 0) u || any (λ j. bit (getD (closed (lineTable F) (F .roles)) k 0) j && among (assignedTable F) j u) (upTo (F .roles)))) (λ k. maskOf 64 (held F k))

@@ -19,6 +19,7 @@ use role_record::Sizes;
 use role_record::Values;
 
 // A role file read: 0 and the record, or the number of the refusal and the empty record.
+#[repr(C)]
 pub struct Loaded {
     pub code: usize,
     pub file: RoleFile,

@@ -4,6 +4,8 @@ ghost use mathlib.Core.Path.{_≡_};
 ghost use Prim.Native.Nat.{_<_};
 ghost use Rattle.role_record.specs.Record.{tableOf, emptyRecord, sameDomain};
 
+// Its numbers stand one behind the other, as C has them: the record is handed over by value. Any numbers may stand there.
+#[repr(C)]
 pub struct RoleFile {
     pub users: usize,
     pub resources: usize,

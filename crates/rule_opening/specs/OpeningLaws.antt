@@ -13,7 +13,7 @@ use Rattle.file_bytes.specs.Numbers.{numberAt, totalOf, numbersAt}
 use Rattle.files.specs.Answer.{Answer, unless, andThen, rulesCutOff, rulesUnknown, rulesOrder, wrongShape, refused, accepted}
 use Rattle.files.specs.Beside.{Beside, shapeOf}
 use Rattle.files.specs.Bytes.{operands}
-use Rattle.files.specs.RuleFile.{alike, openedBy, widthsOr, ruleWidths, Lines, opened, readBody, readRules}
+use Rattle.files.specs.RuleFile.{sameNumbers, openedBy, widthsOr, ruleWidths, Lines, opened, readBody, readRules}
 use Rattle.policy.specs.Policy.{Policy}
 use Rattle.role_record.specs.Record.{attributeTable, recordWith, recordOf}
 use Rattle.role_record.specs.declared.Sizes.{Sizes}
@@ -30,7 +30,7 @@ six = 1 ∷ 1 ∷ 1 ∷ 1 ∷ 1 ∷ 1 ∷ []
 
 -- six bytes that are compared one by one
 pub same-six : (l : List ℕ) (a b c d e f u r o k m n : ℕ) → a ≡ numberAt 1 l 1 → b ≡ numberAt 1 l 2 → c ≡ numberAt 1 l 3 → d ≡ numberAt 1 l 4 → e ≡ numberAt 1 l 5 → f ≡ numberAt 1 l 6
-    → (eqb a u && (eqb b r && (eqb c o && (eqb d k && (eqb e m && eqb f n))))) ≡ alike (numbersAt six l 1) (u ∷ r ∷ o ∷ k ∷ m ∷ n ∷ [])
+    → (eqb a u && (eqb b r && (eqb c o && (eqb d k && (eqb e m && eqb f n))))) ≡ sameNumbers (numbersAt six l 1) (u ∷ r ∷ o ∷ k ∷ m ∷ n ∷ [])
 same-six l a b c d e f u r o k m n p1 p2 p3 p4 p5 p6 = rw (p1, p2, p3, p4, p5, p6, and-true (eqb (numberAt 1 l 6) n)) refl
 
 -- the record's shape is the policy's
@@ -69,12 +69,12 @@ module _ (shape : List ℕ) where
       let f = front-whole c cs b x y w e in
       let k = f .byte in
       opened-by c cs (some (f .widths)) (f .known) ∙ ap (openedBy shape c) (front-taken c cs b x y w f)
-      ∙ ap (λ (t : Bool). unless t rulesOrder (unless (alike (numbersAt (f .widths) (c ∷ cs) 1) shape) wrongShape (accepted (drop w (c ∷ cs))))) (ne-eqb c 0x20 (λ z. n (sym k ∙ z)))
+      ∙ ap (λ (t : Bool). unless t rulesOrder (unless (sameNumbers (numbersAt (f .widths) (c ∷ cs) 1) shape) wrongShape (accepted (drop w (c ∷ cs))))) (ne-eqb c 0x20 (λ z. n (sym k ∙ z)))
 
   -- a 20: its operands decide
   pub record Shaping (l : List ℕ) : Type 0 where
     pub long : 7 ≤ length l
-    pub comes : opened 2 shape l ≡ unless (alike (numbersAt six l 1) shape) wrongShape (accepted (drop 7 l))
+    pub comes : opened 2 shape l ≡ unless (sameNumbers (numbersAt six l 1) shape) wrongShape (accepted (drop 7 l))
 
   shaping : (l : List ℕ) (b x y w : ℕ) → rawOf l ≡ Whole b x y w → b ≡ 0x20 → Shaping l
   shaping [] b x y w e n = let q = sym raw-none ∙ e in let z : _≡_ {A = ℕ} 0 1 = cc in absurd (omega arith)
@@ -92,9 +92,9 @@ module _ (shape : List ℕ) where
             long = m;
             comes =
                 t
-                ∙ ap (λ (d : Bool). unless d rulesOrder (unless (alike (numbersAt v (c ∷ cs) 1) shape) wrongShape (accepted (drop w (c ∷ cs))))) (eq-eqb c 0x20 k)
-                ∙ ap (λ (u : List ℕ). unless (alike (numbersAt u (c ∷ cs) 1) shape) wrongShape (accepted (drop w (c ∷ cs)))) (sym q)
-                ∙ ap (λ (u : ℕ). unless (alike (numbersAt six (c ∷ cs) 1) shape) wrongShape (accepted (drop u (c ∷ cs)))) (sym r);
+                ∙ ap (λ (d : Bool). unless d rulesOrder (unless (sameNumbers (numbersAt v (c ∷ cs) 1) shape) wrongShape (accepted (drop w (c ∷ cs))))) (eq-eqb c 0x20 k)
+                ∙ ap (λ (u : List ℕ). unless (sameNumbers (numbersAt u (c ∷ cs) 1) shape) wrongShape (accepted (drop w (c ∷ cs)))) (sym q)
+                ∙ ap (λ (u : ℕ). unless (sameNumbers (numbersAt six (c ∷ cs) 1) shape) wrongShape (accepted (drop u (c ∷ cs)))) (sym r);
           }
 
   -- ---- in numbers
@@ -112,14 +112,14 @@ module _ (shape : List ℕ) where
   code-other l b x y w e n = ap codeOf (sym (opened-other l b x y w e n))
 
   module _ (l : List ℕ) (b x y w : ℕ) (e : rawOf l ≡ Whole b x y w) (n : b ≡ 0x20) where
-    by-operands : (t : Bool) → alike (numbersAt six l 1) shape ≡ t → opened 2 shape l ≡ unless t wrongShape (accepted (drop 7 l))
+    by-operands : (t : Bool) → sameNumbers (numbersAt six l 1) shape ≡ t → opened 2 shape l ≡ unless t wrongShape (accepted (drop 7 l))
     by-operands t q = shaping l b x y w e n .comes ∙ ap (λ (u : Bool). unless u wrongShape (accepted (drop 7 l))) q
 
-    pub code-unlike : alike (numbersAt six l 1) shape ≡ false → 16 ≡ codeOf (opened 2 shape l)
+    pub code-unlike : sameNumbers (numbersAt six l 1) shape ≡ false → 16 ≡ codeOf (opened 2 shape l)
     unfolding codeOf
     code-unlike q = ap codeOf (sym (by-operands false q))
 
-    pub code-alike : alike (numbersAt six l 1) shape ≡ true → 0 ≡ codeOf (opened 2 shape l)
+    pub code-alike : sameNumbers (numbersAt six l 1) shape ≡ true → 0 ≡ codeOf (opened 2 shape l)
     unfolding codeOf
     code-alike q = ap codeOf (sym (by-operands true q))
 
@@ -132,7 +132,7 @@ module _ (shape : List ℕ) where
       go Unknown e = let q = code-unknown l e in absurd (omega arith)
       go (Whole b x y w) e =
           test (eqb b 0x20)
-          (λ s. test (alike (numbersAt six l 1) shape)
+          (λ s. test (sameNumbers (numbersAt six l 1) shape)
           (λ t. (shaping l b x y w e (eqb-true b 0x20 s) .long, by-operands l b x y w e (eqb-true b 0x20 s) true t))
           (λ t. let q = code-unlike l b x y w e (eqb-true b 0x20 s) t in absurd (omega arith)))
           (λ s. let q = code-other l b x y w e (eqb-false b 0x20 s) in absurd (omega arith))

@@ -2,7 +2,7 @@
 ghost use mathlib.Core.List.{[], _∷_};
 ghost use mathlib.Core.Path.{_≡_};
 ghost use Rattle.file_bytes.specs.Numbers.{numbersAt};
-ghost use Rattle.files.specs.RuleFile.{alike, opened};
+ghost use Rattle.files.specs.RuleFile.{sameNumbers, opened};
 ghost use Rattle.rule_opening.specs.Opening.{shapeIn, codeOf};
 use files::refusal;
 use files::rule_byte;
@@ -17,7 +17,8 @@ pub const BYTES: usize = 7;
 fn same_shape(rules: &[u8], sizes: Sizes, attributes: &CountBySide) -> bool
     ensures { λ r. ⌜
         r
-        ≡ alike (numbersAt (1 ∷ 1 ∷ 1 ∷ 1 ∷ 1 ∷ 1 ∷ []) (now (rules .entry)) 1) (shapeIn sizes (now (attributes .entry))) ⌝ }
+        ≡ sameNumbers (numbersAt (1 ∷ 1 ∷ 1 ∷ 1 ∷ 1 ∷ 1 ∷ []) (now (rules .entry)) 1)
+        (shapeIn sizes (now (attributes .entry))) ⌝ }
 {
     let users = file_bytes::byte_at(rules, 1) == sizes.users;
     let resources = file_bytes::byte_at(rules, 2) == sizes.resources;

@@ -18,6 +18,7 @@ mod loads;
 mod memory;
 mod parts;
 mod questions;
+mod rights;
 mod roles;
 mod rules;
 mod shapes;
@@ -28,7 +29,7 @@ use std::thread::{available_parallelism, scope};
 use tally::Tally;
 
 /// How many of the change requests have landed: the second miner is asked as of then.
-pub const REV: second_miner::revision::Rev = 7;
+pub const REV: second_miner::revision::Rev = 8;
 
 /// Both sides must say the same.
 pub fn same<T: PartialEq + std::fmt::Debug>(what: &str, ours: T, theirs: T) -> Result<(), String> {

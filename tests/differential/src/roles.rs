@@ -1,6 +1,6 @@
 //! The calls that take a role file alone: reading it, its circle, the role question, mining.
 
-use crate::{circles, costs, questions, same, tally::Tally, REV};
+use crate::{circles, costs, questions, rights, same, tally::Tally, REV};
 use fichtengarn::Weights;
 use second_miner::mining::{mine_world, Mined};
 use second_miner::{questions::ask_roles, random::Random, role_file::read_role_file, world::World};
@@ -20,6 +20,7 @@ pub fn compare(
         Ok(policy) => policy,
         Err(refusal) => return refused(file, refusal, random, tally).map(|()| None),
     };
+    rights::compare(file, &policy, tally)?;
     let world = World::of(policy);
     role_questions(file, &world, random, tally)?;
     let weights = costs::weights(random);

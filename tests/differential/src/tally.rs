@@ -11,8 +11,9 @@ pub struct Tally {
     pub shown: usize,
     pub circles: usize,
     pub loads: usize,
-    /// By number: how often the library accepted (0) or refused (1 to 16).
-    answers: [usize; 17],
+    pub edits: usize,
+    /// By number: how often the library accepted (0) or refused (1 to 17).
+    answers: [usize; 18],
     verdicts: [usize; 4],
 }
 
@@ -37,6 +38,7 @@ impl Tally {
         self.shown += other.shown;
         self.circles += other.circles;
         self.loads += other.loads;
+        self.edits += other.edits;
         self.answers.iter_mut().zip(other.answers).for_each(|(sum, often)| *sum += often);
         self.verdicts.iter_mut().zip(other.verdicts).for_each(|(sum, often)| *sum += often);
     }
@@ -52,8 +54,8 @@ impl fmt::Display for Tally {
     fn fmt(&self, f: &mut fmt::Formatter) -> fmt::Result {
         writeln!(
             f,
-            "no disagreement on {} role files, {} rule files, {} minings, {} questions, {} rules shown, {} circles, {} loads",
-            self.role_files, self.rule_files, self.minings, self.questions, self.shown, self.circles, self.loads
+            "no disagreement on {} role files, {} rule files, {} minings, {} questions, {} rules shown, {} circles, {} loads, {} edits",
+            self.role_files, self.rule_files, self.minings, self.questions, self.shown, self.circles, self.loads, self.edits
         )?;
         writeln!(f, "answers by number {}", met(&self.answers))?;
         write!(f, "verdicts by number {}", met(&self.verdicts))

@@ -1,0 +1,4 @@
+pub mod Standing
+pub mod EveryList
+pub mod StandingLaws
+pub mod EveryListLaws

@@ -1,0 +1,2 @@
+pub mod Reassigned
+pub mod ReassignedLaws
