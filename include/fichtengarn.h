@@ -50,6 +50,11 @@
  * takes both files refuses operands unlike the role file's by 16, whatever stands behind them; a first
  * command that is another, and a second 20, by 12. Two role files of one shape are not told apart: that
  * a rule file fits is for the judge to say.
+ *
+ * A rule tells its level. Behind its parts, and exactly once, stands command 29 with one operand of a
+ * byte: 0 if the rule lists no value of attribute 255, 1 if it lists roles, 2 if it lists resources by
+ * their numbers, 3 if both. Mining writes it; reading refuses another number by 18, and a rule without
+ * it, or with two, by 12.
  */
 #ifndef FICHTENGARN_H
 #define FICHTENGARN_H
@@ -100,7 +105,11 @@ enum {
     FICHTENGARN_WRONG_SHAPE = 16, /* operands of the 20 that are unlike the role file's */
 
     /* of the table lent to the standing summary */
-    FICHTENGARN_WRONG_TABLE = 17 /* it has other than FICHTENGARN_TABLE_WORDS */
+    FICHTENGARN_WRONG_TABLE = 17, /* it has other than FICHTENGARN_TABLE_WORDS */
+
+    /* of a rule */
+    FICHTENGARN_WRONG_LEVEL = 18 /* the operand of its 29 is not the lowest level that allows its
+                                    conjuncts */
 };
 
 /* Sizes of lent memory, and limits of a role file. Output is as long as the caller likes. */
@@ -120,8 +129,8 @@ size_t fichtengarn_read_roles(const uint8_t *file, size_t file_length);
 /*
  * May this rule file be read beside this role file? A rule file may be of any length.
  *
- * Returns 0, and *count is how many rules it has; or 1 to 7; then 10 to 13 or 16, as its commands
- * come: 16 at the first, 13 at the others. Writes *count and nothing else. Stack: 140 KB.
+ * Returns 0, and *count is how many rules it has; or 1 to 7; then 10 to 13, 16 or 18, as its commands
+ * come: 16 at the first, 18 at a 29, 13 at the others. Writes *count and nothing else. Stack: 140 KB.
  */
 size_t fichtengarn_read_rules(const uint8_t *file, size_t file_length,
                               const uint8_t *rules, size_t rules_length,
@@ -140,7 +149,7 @@ size_t fichtengarn_ask_roles(const uint8_t *file, size_t file_length,
 /*
  * The rule question: does some rule grant it?
  *
- * Returns 0, and *answer is 1 for yes or 0 for no; or 1 to 7; then 10 to 13 or 16; then 5 if a
+ * Returns 0, and *answer is 1 for yes or 0 for no; or 1 to 7; then 10 to 13, 16 or 18; then 5 if a
  * number is beyond the sizes of the role file. Writes *answer and nothing else. Stack: 140 KB.
  */
 size_t fichtengarn_ask_rules(const uint8_t *file, size_t file_length,
@@ -162,7 +171,7 @@ enum {
  * The judge: is this rule file right for this role file?
  *
  * Returns 0 and the verdict, the first of 1, 2, 3 that there is cause for, else 0; or 1 to 7; then
- * 10 to 13 or 16. Writes the numbers of the verdict; those that it has none for are as they were.
+ * 10 to 13, 16 or 18. Writes the numbers of the verdict; those that it has none for are as they were.
  * Stack: 160 KB, the most of all calls.
  */
 size_t fichtengarn_judge(const uint8_t *file, size_t file_length,
@@ -179,7 +188,7 @@ typedef struct {
  * One rule: which part of the rule file is it? The part is that of the caller's own memory, from the
  * rule's 21 up to the next command 21 or 2F; nothing is copied. Rules are numbered from 0.
  *
- * Stores in *answer 0; or 1 to 7; then 10 to 13 or 16, wherever in the rule file their cause stands;
+ * Stores in *answer 0; or 1 to 7; then 10 to 13, 16 or 18, wherever in the rule file their cause stands;
  * then 14 if there is no rule of this number. After a refusal the part is the empty one at the file's
  * start, {0, 0}. Writes *answer, after a refusal too, and nothing else. Stack: 140 KB.
  */

@@ -13,9 +13,9 @@ scratch to lend (two bytes), the bytes of output to lend (three bytes), and the 
 A line of stdout is: what mining answers, and what the memory that was lent for output holds
 afterwards, in hexadecimal or, if it is longer than 48 bytes, by its checksum:
 
-    length 23 parts 2 rules 1 merges 1 cost 2, memory 20020201...
+    length 25 parts 2 rules 1 merges 1 cost 2, memory 20020201...
     refused 9, memory 00070e...
-    length 68 parts 3 rules 3 merges 0 cost 7, checksum 2384729384
+    length 74 parts 3 rules 3 merges 0 cost 7, checksum 2384729384
 
 The memory is filled before the call (see memory below), so that a byte written behind the
 rules shows, or one written though the file is refused. All answers are those of the second
@@ -150,7 +150,7 @@ def pairs(users, resources, *grants):
 
 def examples():
     """The role files of 01's section 'Files to try'."""
-    yield from mined(EXAMPLE_A, 0, 1, 6, 7, 8, 15, 16, 21, 22, 23, 24, 40, 65535, 65536)
+    yield from mined(EXAMPLE_A, 0, 1, 6, 7, 8, 16, 22, 23, 24, 25, 26, 40, 65535, 65536)
     yield from mined(NOBODY, 0, 1, 6, 7, 8, 9, 48, 49)
     yield from mined(b"", 0, 16)
     yield from mined(END, 0, 16)

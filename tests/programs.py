@@ -82,6 +82,7 @@ MEANING = {
     14: "the rule file has no rule of this number",
     15: "the seed is 0",
     16: "the rule file was made for other sizes or numbers of attributes than the role file's",
+    18: "a rule of the rule file tells another level than the lowest that allows its conjuncts",
 }
 
 # Role files that reading refuses, by the number.
@@ -102,6 +103,7 @@ REFUSED_RULES = {
     12: A_RULES + b"\x2f",
     13: A_RULES.replace(bytes.fromhex("27 00 00"), bytes.fromhex("27 00 01")),
     16: sample("provider.rules"),
+    18: A_RULES.replace(bytes.fromhex("29 00"), bytes.fromhex("29 01")),
 }
 
 # The longest rule file that judge, ask, explain and show can hold, and one that is longer; both are refused by 12.
@@ -109,16 +111,24 @@ HELD_RULES = opening(EXAMPLE_A) + b"\x2f" * (262143 - len(opening(EXAMPLE_A)))
 LONG_RULES = HELD_RULES + b"\x2f"
 
 
-def long_rules(parts, resources, with_atom):
+def resources_of(part, parts, resources):
+    """The resources of one of so many parts, which have so many in all."""
+    count = resources * (part + 1) // parts - resources * part // parts
+    return [(7 * part + part // 16 + n) % 62 for n in range(count)]
+
+
+def long_rules(parts, resources, with_atom, twins=0):
     """A role file that is mined to a long rule file: so many parts of one user each, with so many resources in all.
 
     Each resource has a value of its own, and so many lines has each rule. With two roles more, which become one rule
-    with an atom, the length of the rule file is odd.
+    with an atom, the length of the rule file is odd. Twins are roles with the user and the resources of the first part, which
+    join its rule; each adds a line.
     """
     roles = -(-parts // 16)
     spare = (0, 1) if with_atom else ()
+    first_twin = roles + len(spare)
     return joined(
-        sizes(roles + len(spare), 64, 16, roles + len(spare)),
+        sizes(roles + len(spare), 64, 16, first_twin + twins),
         *[declare(0, 0) for _ in spare[:1]],
         declare(1, 1),
         *[declare(1, 0) for _ in spare[:1]],
@@ -127,10 +137,12 @@ def long_rules(parts, resources, with_atom):
         *[assign(roles + n, roles + n) + permit(roles + n, 62 + n, 0) for n in spare],
         *[assign(role, role) for role in range(roles)],
         *[
-            permit(part // 16, (7 * part + part // 16 + n) % 62, part % 16)
+            permit(part // 16, number, part % 16)
             for part in range(parts)
-            for n in range(resources * (part + 1) // parts - resources * part // parts)
+            for number in resources_of(part, parts, resources)
         ],
+        *[assign(first_twin + n, 0) for n in range(twins)],
+        *[permit(first_twin + n, number, 0) for n in range(twins) for number in resources_of(0, parts, resources)],
         END,
     )
 
@@ -167,14 +179,14 @@ KINDS = joined(
 KINDS_PARTS = [
     "21 22 00 05 00 22 00 07 00 23 01 00 00 00 00 00 00 00 00 23 01 06 00 00 00 00 00 00 00 "
     "23 FF 01 00 00 00 00 00 00 00 23 FF 03 00 00 00 00 00 00 00 24 00 05 00 24 FF 00 00 24 FF 01 00 "
-    "25 01 02 00 00 00 00 00 00 00 25 01 06 00 00 00 00 00 00 00 26 03 00 27 00 00 27 01 00 27 01 01 28 00 03 00",
-    "21 26 04 00 28 01 04 00",
-    "21 24 FF 01 00 26 04 00 28 01 04 00",
+    "25 01 02 00 00 00 00 00 00 00 25 01 06 00 00 00 00 00 00 00 26 03 00 27 00 00 27 01 00 27 01 01 28 00 03 00 29 03",
+    "21 26 04 00 28 01 04 00 29 00",
+    "21 24 FF 01 00 26 04 00 28 01 04 00 29 02",
 ]
 KINDS_RULES = rules_beside(KINDS, "".join(KINDS_PARTS) + "2F")
 
 # The first of its two parts alone.
-ONE_OF_KINDS = rules_beside(KINDS, "21 23 FF 01 00 00 00 00 00 00 00 24 FF 00 00 26 03 00 28 00 03 00 2F")
+ONE_OF_KINDS = rules_beside(KINDS, "21 23 FF 01 00 00 00 00 00 00 00 24 FF 00 00 26 03 00 28 00 03 00 29 03 2F")
 
 KINDS_TOLD = """\
 rule 0, level 3: any user may do operations 0, 1 on any resource
@@ -233,12 +245,12 @@ rule 1, level 0: any user may do operation 1 on any resource
 
 # Example A's two parts under rules of their own, of which the second grants both; the same with each rule right, and the
 # second part under both rules; and two equal parts of which one stands under no rule.
-A_FIRST = "21 22 00 05 00 24 00 05 00 26 01 00 28 00 01 00"
-A_SECOND = "21 22 00 07 00 24 00 07 00 26 01 00 28 01 01 00"
-STRAY_RULE = rules_beside(EXAMPLE_A, A_FIRST + "21 26 01 00 27 00 00 28 01 01 00 2F")
+A_FIRST = "21 22 00 05 00 24 00 05 00 26 01 00 28 00 01 00 29 00"
+A_SECOND = "21 22 00 07 00 24 00 07 00 26 01 00 28 01 01 00 29 00"
+STRAY_RULE = rules_beside(EXAMPLE_A, A_FIRST + "21 26 01 00 27 00 00 28 01 01 00 29 00 2F")
 TWICE_LISTED = A_RULES[:-1] + bytes.fromhex(A_SECOND + "2F")
 EQUAL_PARTS = joined(sizes(1, 1, 1, 2), *[assign(role, 0) + permit(role, 0, 0) for role in (0, 1)], END)
-NOT_LISTED = rules_beside(EQUAL_PARTS, "21 26 01 00 28 00 01 00 2F")
+NOT_LISTED = rules_beside(EQUAL_PARTS, "21 26 01 00 28 00 01 00 29 00 2F")
 
 
 # ---- a use of a program
@@ -326,8 +338,8 @@ def mined():
     nothing = {"rules.out": bytes.fromhex("20 00 00 00 00 00 00 2F")}
     yield mine(NOBODY, out="parts 0 rules 0 merges 0 cost 0\n", after=nothing)
     # as much output as the program lends, and no byte more
-    filled = Checksum(65536, "0d29cffcea1c651210f27386d1e241ba2249124bd2f800526324f473be7e3420")
-    yield mine(long_rules(241, 6119, False), out="parts 241 rules 241 merges 0 cost 6601\n", after={"rules.out": filled})
+    filled = Checksum(65536, "169fd669b2033474c6b34edbb22cd0884b1dd9650ab17b95b7e9a0e632087f49")
+    yield mine(long_rules(241, 6070, False, 2), out="parts 243 rules 241 merges 2 cost 6584\n", after={"rules.out": filled})
 
 
 def lengthy(length):
@@ -343,9 +355,9 @@ def mine_refusals():
     files += [
         (2, b"", f"mine: {MEANING[2]}\n"),
         (4, END, f"mine: {MEANING[4]}\n"),
-        (9, long_rules(238, 6123, True), lengthy("65537 bytes")),
-        (9, long_rules(512, 12500, False), lengthy("134224 bytes")),
-        (9, longest_rules(), lengthy("1765384 bytes")),
+        (9, long_rules(240, 6070, True, 3), lengthy("65537 bytes")),
+        (9, long_rules(512, 12500, False), lengthy("135248 bytes")),
+        (9, longest_rules(), lengthy("1766408 bytes")),
     ]
     for n, file, err in files:
         for former in [{}, {"rules.out": b"former"}]:
@@ -397,7 +409,7 @@ def mine_small():
     limits = {resource.RLIMIT_STACK: 1 << 19}
     rules = {"rules.out": sample("provider.rules")}
     yield mine(sample("provider.roles"), limits=limits, out="parts 8 rules 4 merges 4 cost 11\n", after=rules)
-    yield mine(longest_rules(), limits=limits, out="refused 9\n", err=lengthy("1765384 bytes"))
+    yield mine(longest_rules(), limits=limits, out="refused 9\n", err=lengthy("1766408 bytes"))
 
 
 # ---- what judge, ask, explain and show have in common
@@ -572,10 +584,10 @@ def shown():
     for number, part in enumerate(KINDS_PARTS):
         yield showing(KINDS, KINDS_RULES, str(number), out=f"{part}\n{paragraph(KINDS_TOLD, number)}\n")
     # the last rule asks for the value 303, whose low byte is 2F
-    last = "21 23 FF 40 00 00 00 00 00 00 00 24 00 2F 01 26 03 00 28 06 03 00"
+    last = "21 23 FF 40 00 00 00 00 00 00 00 24 00 2F 01 26 03 00 28 06 03 00 29 01"
     told = f"{last}\n{paragraph(BRANCHES_TOLD, 3)}\n"
     yield showing(sample("branches.roles"), sample("branches.rules"), "003", out=told)
-    told = f"21 26 02 00 27 01 01 28 02 02 00 28 03 02 00\n{paragraph(REGIONS_TOLD, 1)}\n"
+    told = f"21 26 02 00 27 01 01 28 02 02 00 28 03 02 00 29 00\n{paragraph(REGIONS_TOLD, 1)}\n"
     yield showing(sample("regions.roles"), sample("regions.rules"), "1", out=told)
 
 
@@ -596,7 +608,7 @@ def show_refusals():
     yield showing(NOBODY, rules_beside(NOBODY, NO_RULES), "0", out=refused(14))
     yield showing(sample("branches.roles"), sample("branches.rules"), "4", out=refused(14))
     # what stands behind the rule counts too
-    yield showing(EXAMPLE_A, A_RULES[:-1] + bytes.fromhex("21 26 01 00 2F"), "0", out=refused(12))
+    yield showing(EXAMPLE_A, A_RULES[:-1] + bytes.fromhex("21 26 01 00 29 00 2F"), "0", out=refused(12))
 
 
 def show_wrongly():

@@ -70,11 +70,11 @@ from secondminer import Folder, told
 
 OPEN = bytes([0x21])
 END = bytes([0x2F])
-COMMANDS = [0x20, 0x21, 0x22, 0x23, 0x24, 0x25, 0x26, 0x27, 0x28, 0x2F]
+COMMANDS = [0x20, 0x21, 0x22, 0x23, 0x24, 0x25, 0x26, 0x27, 0x28, 0x29, 0x2F]
 UNKNOWN = [byte for byte in range(256) if byte not in COMMANDS]
 # Bytes that are no command: two beside commands, and more with the first and the last.
-NO_COMMANDS = [0x1F, 0x29]
-MORE_NO_COMMANDS = [0x00, 0x01, 0x0F, 0x1F, 0x29, 0x2A, 0x2B, 0x2E, 0x30, 0xFF]
+NO_COMMANDS = [0x1F, 0x2A]
+MORE_NO_COMMANDS = [0x00, 0x01, 0x0F, 0x1F, 0x2A, 0x2B, 0x2E, 0x30, 0xFF]
 NO_COMMAND = bytes(NO_COMMANDS[:1])
 
 # The number of bytes of the 20 and its operands.
@@ -112,8 +112,23 @@ def part(role, mask):
     return bytes([0x28, role]) + mask.to_bytes(2, "little")
 
 
-def rule(*lines):
+def level(number):
+    return bytes([0x29, number])
+
+
+def level_of(*lines):
+    """The lowest level that allows these lines: by the 255s that they list."""
+    return any(line[:2] == bytes([0x23, OWN]) for line in lines) + 2 * any(line[:2] == bytes([0x24, OWN]) for line in lines)
+
+
+def untold(*lines):
+    """A rule of these lines alone."""
     return joined(OPEN, *lines)
+
+
+def rule(*lines):
+    """A rule of these lines, and behind them its level."""
+    return untold(*lines, level(level_of(*lines)))
 
 
 def filed(*rules):
@@ -128,7 +143,7 @@ def elements(*numbers):
 # ---- files that several groups use
 
 # Example A's rules of 01; these and the rules below stand behind a 20.
-RULES_OF_A = bytes.fromhex("21 26 01 00 27 00 00 28 00 01 00 28 01 01 00 2F")
+RULES_OF_A = bytes.fromhex("21 26 01 00 27 00 00 28 00 01 00 28 01 01 00 29 00 2F")
 
 # A single and a set attribute on each side, with values for user 0 and resource 0. Role 0 has user 0 and
 # resource 0 under both operations, role 1 user 1 and resource 1 under operation 0.
@@ -157,8 +172,9 @@ LINES = [
     atom(1, 0),
     atom(1, 1),
     part(0, 0b11),
+    level(0),
 ]
-FIRST = rule(*LINES)
+FIRST = untold(*LINES)
 
 # The rule of role 1.
 SECOND = rule(user_set(OWN, elements(1)), resource_single(OWN, 1), operations(0b1), part(1, 0b1))
@@ -378,7 +394,7 @@ def second_opening():
     right = opening(ONE_OF_TWO)
     for second in [right, with_operand(right, 1, 9), with_operand(right, 6, 9), bytes([0x20]) + bytes(6)]:
         # at once, in a rule, before the end, in its place and behind it
-        for before in [b"", OPEN, OF_ONE[:-4], OF_ONE, filed(OF_ONE)]:
+        for before in [b"", OPEN, OF_ONE[:-6], OF_ONE[:-2], OF_ONE, filed(OF_ONE)]:
             yield from asked(ONE_OF_TWO, joined(before, second, END))
             yield from asked(ONE_OF_TWO, joined(before, second))
         yield from asked(ONE_OF_TWO, joined(second, filed(OF_ONE)))
@@ -386,7 +402,7 @@ def second_opening():
         # in place of the next rule's 21
         yield from asked(ONE_OF_TWO, joined(OF_ONE, second, OF_ONE[1:], END))
     for length in range(1, OPENING):
-        for before in [b"", OPEN, OF_ONE[:-4], OF_ONE, filed(OF_ONE)]:
+        for before in [b"", OPEN, OF_ONE[:-6], OF_ONE, filed(OF_ONE)]:
             yield from asked(ONE_OF_TWO, joined(before, right[:length]))
     right = opening(BASE)
     for n in range(len(LINES)):
@@ -459,13 +475,13 @@ def places():
             yield from asked(BASE, joined(OPEN, earlier, later))
     # every line of a rule repeated, left out, and two of them changed places
     for n, command in enumerate(LINES):
-        yield from asked(BASE, filed(rule(*LINES[: n + 1], *LINES[n:]), SECOND))
-        yield from asked(BASE, filed(rule(*LINES[:n], *LINES[n + 1 :]), SECOND))
-        yield from asked(BASE, filed(SECOND, rule(*LINES[:n], *LINES[n + 1 :])))
-        yield from asked(BASE, filed(rule(*LINES, command), SECOND))
-        yield from asked(BASE, filed(rule(command, *LINES), SECOND))
+        yield from asked(BASE, filed(untold(*LINES[: n + 1], *LINES[n:]), SECOND))
+        yield from asked(BASE, filed(untold(*LINES[:n], *LINES[n + 1 :]), SECOND))
+        yield from asked(BASE, filed(SECOND, untold(*LINES[:n], *LINES[n + 1 :])))
+        yield from asked(BASE, filed(untold(*LINES, command), SECOND))
+        yield from asked(BASE, filed(untold(command, *LINES), SECOND))
         if n > 0:
-            yield from asked(BASE, filed(rule(*LINES[: n - 1], LINES[n], LINES[n - 1], *LINES[n + 1 :]), SECOND))
+            yield from asked(BASE, filed(untold(*LINES[: n - 1], LINES[n], LINES[n - 1], *LINES[n + 1 :]), SECOND))
     # the order of a rule begins afresh with its 21
     yield from asked(BASE, filed(SECOND, FIRST))
     yield from asked(BASE, filed(FIRST, FIRST, SECOND))
@@ -498,7 +514,7 @@ def second_operations():
 
 
 def missing():
-    """Refusal 12 for a 26 or 28 that is missing, seen at the next 21 and at 2F; an earlier 10, 11 or 13 wins."""
+    """Refusal 12 for a 26, 28 or 29 that is missing, seen at the next 21 and at 2F; an earlier 10, 11, 13 or 18 wins."""
     incomplete = [
         [],
         [operations(0b11)],
@@ -509,10 +525,16 @@ def missing():
         [operations(0b11), atom(0, 0)],
         [atom(0, 0), part(0, 0b11)],
         [user_single(0, 1), resource_set(1, 6), part(0, 0b11)],
-        LINES[:-1],
+        LINES[:-2],
         LINES[:4],
-        LINES[:4] + LINES[5:],
+        LINES[:4] + LINES[5:-1],
     ]
+    # without the level, and with nothing but it missing
+    for lines in [*incomplete, LINES[:-1], [operations(0b1), part(1, 0b1)]]:
+        yield from asked(BASE, filed(untold(*lines)))
+        yield from asked(BASE, joined(untold(*lines), OPEN))
+        yield from asked(BASE, filed(SECOND, untold(*lines)))
+        yield from asked(BASE, filed(untold(*lines), SECOND))
     for lines in incomplete:
         # at the end, at the next 21, behind a whole rule, before one, and cut off
         yield from asked(BASE, filed(rule(*lines)))
@@ -523,6 +545,7 @@ def missing():
         yield from asked(BASE, joined(rule(*lines), END, b"\0"))
         # an earlier refusal wins, a later one does not
         yield from asked(BASE, filed(rule(*lines, part(1, 0b10))))
+        yield from asked(BASE, filed(untold(*lines, level(3))))
         yield from asked(BASE, filed(rule(*lines), rule(operations(0))))
         yield from asked(BASE, joined(rule(*lines), NO_COMMAND))
         yield from asked(BASE, joined(rule(*lines), part(1, 0b1)[:2]))
@@ -530,6 +553,83 @@ def missing():
     # two parts and no more; many rules, the last one not whole
     yield from asked(BASE, filed(rule(operations(0b1), part(0, 0b11), part(1, 0b1))))
     yield from asked(BASE, filed(*[SECOND] * 5, rule(operations(0b1))))
+
+
+def levels():
+    """The 29: a level for each rule, the lowest that its conjuncts allow, or 18; once, behind the parts."""
+    none, users, resources = [], [user_set(OWN, elements(0))], [resource_single(OWN, 0)]
+    two_users, two_resources = [user_set(OWN, 0b01), user_set(OWN, 0b10)], [resource_single(OWN, 0), resource_single(OWN, 1)]
+    ends = [operations(0b1), part(1, 0b1)]
+    for lines in [
+        none,
+        users,
+        resources,
+        users + resources,
+        two_users,
+        two_resources,
+        two_users + two_resources,
+        [user_set(OWN, 0)],
+        # other attributes, sets and atoms are of level 0
+        [user_single(0, 1)],
+        [user_set(1, 6)],
+        [resource_single(0, 1)],
+        [resource_set(1, 6)],
+        LINES[:4],
+        [user_single(0, 255), user_set(1, 255)],
+        [resource_single(0, 255), resource_set(1, 255)],
+        [user_set(1, 6), *users],
+        [resource_single(0, 1), *resources],
+    ]:
+        for number in [0, 1, 2, 3, 4, 5, 7, 127, 128, 254, 255]:
+            yield from asked(BASE, filed(untold(*lines, *ends, level(number))), (1, 1, 0))
+    for number in [0, 1, 2, 3]:
+        yield from asked(BASE, filed(untold(operations(0b1), atom(0, 0), part(1, 0b1), level(number))))
+    # the level of one rule is not that of the next
+    four = [untold(*lines, *ends, level(level_of(*lines))) for lines in [none, users, resources, users + resources]]
+    for one in four:
+        for two in four:
+            yield from asked(BASE, filed(one, two))
+            # with the other's level
+            yield from asked(BASE, filed(one, two[:-1] + one[-1:]))
+    yield from asked(BASE, filed(*four, *four[::-1]))
+    # twice, and more than one number
+    for one in [0, 1, 3]:
+        for two in [0, 1, 2, 3, 255]:
+            yield from asked(BASE, filed(untold(*ends, level(one), level(two))))
+            yield from asked(BASE, filed(untold(*users, *ends, level(one), level(two))))
+    # before the parts, the atoms, the operations and the conjuncts, with the right number and a wrong one
+    whole = [*users, operations(0b1), atom(0, 0), part(1, 0b1)]
+    for n in range(len(whole) + 1):
+        for number in [0, 1, 3]:
+            yield from asked(BASE, filed(untold(*whole[:n], level(number), *whole[n:])))
+            yield from asked(BASE, filed(untold(*whole[:n], level(number))))
+            yield from asked(BASE, joined(OPEN, *whole[:n], level(number)))
+            yield from asked(BASE, joined(OPEN, *whole[:n], level(number)[:1]))
+    # where the level is tested: behind 10, 11 and 12 of its command, before those of the next, and before 5 of the question
+    for number in [0, 1]:
+        for rules in [
+            level(number),
+            level(number)[:1],
+            filed(level(number)),
+            joined(END, level(number)),
+            joined(OPEN, level(number), NO_COMMAND),
+            joined(OPEN, *ends, level(number), NO_COMMAND),
+            joined(OPEN, *ends, level(number), level(number)[:1]),
+            joined(OPEN, *ends, level(number), part(9, 9)),
+            joined(OPEN, *ends, level(number), part(0, 0b11)),
+            joined(OPEN, *ends, part(9, 9), level(number)),
+            joined(OPEN, operations(0), part(1, 0b1), level(number)),
+            joined(filed(untold(*ends, level(number))), b"\0"),
+            filed(untold(*ends, level(number)), untold()),
+            filed(untold(*ends, level(number)), untold(operations(0))),
+            filed(untold(operations(0b1)), untold(*ends, level(number))),
+        ]:
+            yield from asked(BASE, rules, (0, 0, 0), (9, 9, 9))
+    # beside the largest sizes: the last role and the last resource
+    for lines in [[], [user_set(OWN, elements(31))], [resource_single(OWN, 63)], [user_set(OWN, elements(31)), resource_single(OWN, 63)]]:
+        for number in range(5):
+            rules = filed(untold(*lines, operations(elements(15)), LAST_PART, level(number)))
+            yield from asked(LARGEST, rules, (63, 63, 15))
 
 
 def in_rule(command, mask, listed):
@@ -747,7 +847,7 @@ def numbers():
 
 
 def order_of_refusals():
-    """1 to 7 of the role file, then 10 to 13 of the rule file, then 5 for the question's numbers."""
+    """1 to 7 of the role file, then 10 to 13, 16 and 18 of the rule file, then 5 for the question's numbers."""
     refused_roles = [
         b"",  # 2
         BASE[:-1],  # 2
@@ -768,6 +868,7 @@ def order_of_refusals():
         filed(OPEN),  # 12
         filed(rule(operations(0))),  # 13
         filed(rule(operations(0b1), part(0, 0b100))),  # 13
+        filed(untold(operations(0b1), part(0, 0b1), level(1))),  # 18
     ]
     refused_whole = [
         b"",  # 10
@@ -1259,7 +1360,7 @@ def question_of(roles, below):
 
 
 # The number of bytes that the commands behind a 20 take.
-LENGTHS = {0x21: 1, 0x22: 4, 0x23: 10, 0x24: 4, 0x25: 10, 0x26: 3, 0x27: 3, 0x28: 4, 0x2F: 1}
+LENGTHS = {0x21: 1, 0x22: 4, 0x23: 10, 0x24: 4, 0x25: 10, 0x26: 3, 0x27: 3, 0x28: 4, 0x29: 2, 0x2F: 1}
 
 
 def rules_in(file):
@@ -1373,6 +1474,7 @@ GROUPS = [
     places,
     second_operations,
     missing,
+    levels,
     operands,
     operation_sets,
     own_attributes,
@@ -1397,13 +1499,13 @@ def long_files():
     """The files that the program builds, each asked 0 0 0, in the order in which it does.
 
     A role file of 65,536 zeros beside a rule file of the same; and beside a role file with one
-    part a rule file of 8,192 rules, 65,544 bytes, whole, without its last byte and with a zero
+    part a rule file of 6,553 rules, 65,538 bytes, whole, without its last byte and with a zero
     behind it.
     """
     yield from asked_whole(bytes(65536), bytes(65536))
     one = joined(sizes(1, 1, 1, 1), assign(0, 0), permit(0, 0, 0), END_OF_ROLES)
-    file = opening(one) + filed(rule(operations(0b1), part(0, 0b1)) * 8192)
-    assert len(file) == 65544
+    file = opening(one) + filed(rule(operations(0b1), part(0, 0b1)) * 6553)
+    assert len(file) == 65538
     for long_one in [file, file[:-1], file + b"\0"]:
         yield from asked_whole(one, long_one)
 
@@ -1411,7 +1513,7 @@ def long_files():
 # ---- the two files
 
 # The program's room for standard input.
-ROOM = 262144
+ROOM = 327680
 
 
 def together(all_cases):

@@ -31,6 +31,7 @@ struct Rule {
     /// Bit 6 * a + b: the atom over user attribute a and resource attribute b.
     atoms: u64,
     lists_a_part: bool,
+    tells_its_level: bool,
 }
 
 impl Rule {
@@ -42,7 +43,13 @@ impl Rule {
             operations: 0,
             atoms: 0,
             lists_a_part: false,
+            tells_its_level: false,
         }
+    }
+
+    /// The lowest level that allows the conjuncts: by the two 255s.
+    fn level(&self) -> u8 {
+        (self.asked[0] >> 6 & 1) + 2 * (self.asked[1] >> 6 & 1)
     }
 
     /// Who of a side meets every conjunct.
@@ -168,12 +175,23 @@ impl<'a> Reading<'a> {
                     rule.lists_a_part = true;
                     rest = behind;
                 }
+                [0x29, level, ref behind @ ..] => {
+                    let rule = following(&mut open, (0x29, level as u64, 0))?;
+                    if rule.tells_its_level {
+                        return Err(12);
+                    }
+                    if level != rule.level() {
+                        return Err(18);
+                    }
+                    rule.tells_its_level = true;
+                    rest = behind;
+                }
                 [0x2F, ref behind @ ..] => {
                     self.close(&open)?;
                     return if behind.is_empty() { Ok(()) } else { Err(12) };
                 }
                 [0x20, _, _, _, _, _, _, ..] => return Err(12),
-                [] | [0x20 | 0x22..=0x28, ..] => return Err(10),
+                [] | [0x20 | 0x22..=0x29, ..] => return Err(10),
                 _ => return Err(11),
             }
         }
@@ -269,7 +287,7 @@ impl<'a> Reading<'a> {
     /// The end of a rule, at the next 21 or 2F.
     fn close(&mut self, open: &Option<Rule>) -> Result<(), u8> {
         let Some(rule) = open else { return Ok(()) };
-        if rule.operations == 0 || !rule.lists_a_part {
+        if rule.operations == 0 || !rule.lists_a_part || !rule.tells_its_level {
             return Err(12);
         }
         let users = rule.met_by_all(0, below(self.file.users));
@@ -345,6 +363,7 @@ fn operand_bytes(command: u8) -> Option<usize> {
         0x22 | 0x24 | 0x28 => Some(3),
         0x23 | 0x25 => Some(9),
         0x26 | 0x27 => Some(2),
+        0x29 => Some(1),
         _ => None,
     }
 }

@@ -97,13 +97,14 @@ def line(command, attribute, value):
     return bytes([command, attribute]) + value.to_bytes(8 if command % 2 else 2, "little")
 
 
-def operations_and_part(role):
+def operations_part_and_level(role):
+    """Without a 255 a rule is of level 0."""
     class_of = mask([2 * role, 2 * role + 1]).to_bytes(2, "little")
-    return bytes([0x26]) + class_of + bytes([0x28, role]) + class_of
+    return bytes([0x26]) + class_of + bytes([0x28, role]) + class_of + bytes([0x29, 0])
 
 
 def many_rules():
-    return SHAPE + b"".join(OPEN + operations_and_part(number % 8) for number in range(8191)) + END_OF_RULES
+    return SHAPE + b"".join(OPEN + operations_part_and_level(number % 8) for number in range(8191)) + END_OF_RULES
 
 
 def many_values():
@@ -114,11 +115,11 @@ def many_values():
         for command, count in [(0x22, 400), (0x23, 256), (0x24, 400), (0x25, 256)]:
             attribute = command % 2 + 2 * (role % 3)
             rules += b"".join(line(command, attribute, value) for value in range(count))
-        rules += operations_and_part(role)
+        rules += operations_part_and_level(role)
     return rules + END_OF_RULES
 
 
-# What the program load is told to make a role file whose rule file the program mine can hold, of 63,181 bytes.
+# What the program load is told to make a role file whose rule file the program mine can hold, of 63,828 bytes.
 WITH_RULES = "1 64 64 16 20"
 
 # Example A of 01, and its rules.
@@ -126,7 +127,7 @@ SMALL_ROLES = bytes.fromhex(
     "01 02 02 01 02 02 00 00 02 01 00 03 00 00 00 05 00 03 00 00 01 07 00"
     "03 01 00 00 05 00 03 01 00 01 07 00 05 00 00 05 01 01 06 00 00 00 06 01 01 00 0F"
 )
-SMALL_RULES = bytes.fromhex("20 02 02 01 02 01 01 21 26 01 00 27 00 00 28 00 01 00 28 01 01 00 2F")
+SMALL_RULES = bytes.fromhex("20 02 02 01 02 01 01 21 26 01 00 27 00 00 28 00 01 00 28 01 01 00 29 00 2F")
 
 
 def given(role_file, rule_file):

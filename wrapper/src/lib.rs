@@ -75,10 +75,12 @@ pub enum Refusal {
     WrongShape = 16,
     /// A table of other than `TABLE_WORDS`.
     WrongTable = 17,
+    /// A rule tells another level than the lowest that allows its conjuncts.
+    WrongLevel = 18,
 }
 
 impl Refusal {
-    const ALL: [Refusal; 17] = [
+    const ALL: [Refusal; 18] = [
         Refusal::TooLong,
         Refusal::CutOff,
         Refusal::UnknownCommand,
@@ -96,6 +98,7 @@ impl Refusal {
         Refusal::ZeroSeed,
         Refusal::WrongShape,
         Refusal::WrongTable,
+        Refusal::WrongLevel,
     ];
 
     /// 01's number.

@@ -59,6 +59,10 @@ pub fn refusal_words(n: usize, out: &mut [u8]) -> usize
             out,
         ),
         refusal::WRONG_TABLE => put(b"the table has other than 1,024 words", out),
+        refusal::WRONG_LEVEL => put(
+            b"a rule of the rule file tells another level than the lowest that allows its conjuncts",
+            out,
+        ),
         _ => put(b"no refusal has this number", out),
     }
 }

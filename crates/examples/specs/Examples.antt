@@ -265,7 +265,7 @@ twoDomains = hex "01 01 01 01 01 08 00 00 01 08 00 00 02 08 01 00 02 03 00 00 00
 
 -- A's rules without an atom: users and resources by their values
 abbrev pub rulesByValues : List ℕ
-rulesByValues = hex "21 22 00 05 00 24 00 05 00 26 01 00 28 00 01 00 21 22 00 07 00 24 00 07 00 26 01 00 28 01 01 00 2F"
+rulesByValues = hex "21 22 00 05 00 24 00 05 00 26 01 00 28 00 01 00 29 00 21 22 00 07 00 24 00 07 00 26 01 00 28 01 01 00 29 00 2F"
 
 -- ---- role files for merging and striking
 
@@ -440,7 +440,7 @@ forBothHalves = hex "20 04 04 01 02 02 02"
 
 -- the rules of A
 abbrev pub rulesA : List ℕ
-rulesA = hex "21 26 01 00 27 00 00 28 00 01 00 28 01 01 00 2F"
+rulesA = hex "21 26 01 00 27 00 00 28 00 01 00 28 01 01 00 29 00 2F"
 
 -- no rule
 abbrev pub noRules : List ℕ
@@ -448,111 +448,111 @@ noRules = hex "2F"
 
 -- operation 0, no condition; role 0
 abbrev pub anybody : List ℕ
-anybody = hex "21 26 01 00 28 00 01 00 2F"
+anybody = hex "21 26 01 00 28 00 01 00 29 00 2F"
 
 -- operation 0, the atom of attributes 0 and 0; role 0
 abbrev pub atomRule : List ℕ
-atomRule = hex "21 26 01 00 27 00 00 28 00 01 00 2F"
+atomRule = hex "21 26 01 00 27 00 00 28 00 01 00 29 00 2F"
 
 -- a user conjunct {{1}}
 abbrev pub userSetOne : List ℕ
-userSetOne = hex "21 23 00 02 00 00 00 00 00 00 00 26 01 00 28 00 01 00 2F"
+userSetOne = hex "21 23 00 02 00 00 00 00 00 00 00 26 01 00 28 00 01 00 29 00 2F"
 
 -- a resource conjunct {{1}}
 abbrev pub resourceSetOne : List ℕ
-resourceSetOne = hex "21 25 00 02 00 00 00 00 00 00 00 26 01 00 28 00 01 00 2F"
+resourceSetOne = hex "21 25 00 02 00 00 00 00 00 00 00 26 01 00 28 00 01 00 29 00 2F"
 
 -- a resource conjunct {{1, 2}}
 abbrev pub resourceSetOneTwo : List ℕ
-resourceSetOneTwo = hex "21 25 00 06 00 00 00 00 00 00 00 26 01 00 28 00 01 00 2F"
+resourceSetOneTwo = hex "21 25 00 06 00 00 00 00 00 00 00 26 01 00 28 00 01 00 29 00 2F"
 
 -- a user conjunct {{}}
 abbrev pub userSetEmpty : List ℕ
-userSetEmpty = hex "21 23 00 00 00 00 00 00 00 00 00 26 01 00 28 00 01 00 2F"
+userSetEmpty = hex "21 23 00 00 00 00 00 00 00 00 00 26 01 00 28 00 01 00 29 00 2F"
 
 -- a resource conjunct {{}}
 abbrev pub resourceSetEmpty : List ℕ
-resourceSetEmpty = hex "21 25 00 00 00 00 00 00 00 00 00 26 01 00 28 00 01 00 2F"
+resourceSetEmpty = hex "21 25 00 00 00 00 00 00 00 00 00 26 01 00 28 00 01 00 29 00 2F"
 
 -- beside bothKinds: a value of each attribute, and the three forms of atom
 abbrev pub everyKind : List ℕ
-everyKind = hex "21 22 00 05 00 22 02 05 00 23 01 05 00 00 00 00 00 00 00 24 00 05 00 25 01 05 00 00 00 00 00 00 00 26 01 00 27 00 00 27 01 00 27 01 01 28 00 01 00 2F"
+everyKind = hex "21 22 00 05 00 22 02 05 00 23 01 05 00 00 00 00 00 00 00 24 00 05 00 25 01 05 00 00 00 00 00 00 00 26 01 00 27 00 00 27 01 00 27 01 01 28 00 01 00 29 00 2F"
 
 -- lists role 0 with operation 1
 abbrev pub operation1OfRole0 : List ℕ
-operation1OfRole0 = hex "21 26 02 00 28 00 02 00 2F"
+operation1OfRole0 = hex "21 26 02 00 28 00 02 00 29 00 2F"
 
 -- lists role 1 with operation 1
 abbrev pub operation1OfRole1 : List ℕ
-operation1OfRole1 = hex "21 26 02 00 28 01 02 00 2F"
+operation1OfRole1 = hex "21 26 02 00 28 01 02 00 29 00 2F"
 
 -- lists role 0 with operation 1, and role 1 with 0, 1 and 2
 abbrev pub notFirstPart : List ℕ
-notFirstPart = hex "21 26 07 00 28 00 02 00 28 01 07 00 2F"
+notFirstPart = hex "21 26 07 00 28 00 02 00 28 01 07 00 29 00 2F"
 
 -- a rule for each of two operations, each with its role
 abbrev pub eachItsOwn : List ℕ
-eachItsOwn = hex "21 26 01 00 28 00 01 00 21 26 02 00 28 01 02 00 2F"
+eachItsOwn = hex "21 26 01 00 28 00 01 00 29 00 21 26 02 00 28 01 02 00 29 00 2F"
 
 -- grants operation 0, lists role 1 with operation 1
 abbrev pub wrongOperation : List ℕ
-wrongOperation = hex "21 26 01 00 28 01 02 00 2F"
+wrongOperation = hex "21 26 01 00 28 01 02 00 29 00 2F"
 
 -- grants operations 0 and 1, lists role 0 with operation 0
 abbrev pub firstTooWide : List ℕ
-firstTooWide = hex "21 26 03 00 28 00 01 00 2F"
+firstTooWide = hex "21 26 03 00 28 00 01 00 29 00 2F"
 
 -- the second of two rules grants both operations
 abbrev pub secondTooWide : List ℕ
-secondTooWide = hex "21 26 01 00 28 00 01 00 21 26 03 00 28 01 02 00 2F"
+secondTooWide = hex "21 26 01 00 28 00 01 00 29 00 21 26 03 00 28 01 02 00 29 00 2F"
 
 -- role 1 with operation 1 stands under two rules
 abbrev pub listedTwice : List ℕ
-listedTwice = hex "21 26 01 00 28 00 01 00 21 26 02 00 28 01 02 00 21 26 02 00 28 01 02 00 2F"
+listedTwice = hex "21 26 01 00 28 00 01 00 29 00 21 26 02 00 28 01 02 00 29 00 21 26 02 00 28 01 02 00 29 00 2F"
 
 -- ---- rule files of which one rule is shown, beside A (request 2)
 
 -- users by the values 0x2121 and 0x2F2F
 abbrev pub marksAmongOperands : List ℕ
-marksAmongOperands = hex "21 22 00 21 21 26 01 00 28 00 01 00 21 22 00 2F 2F 26 01 00 28 01 01 00 2F"
+marksAmongOperands = hex "21 22 00 21 21 26 01 00 28 00 01 00 29 00 21 22 00 2F 2F 26 01 00 28 01 01 00 29 00 2F"
 
 -- the second of two rules has no part
 abbrev pub brokenBehind : List ℕ
-brokenBehind = hex "21 26 01 00 28 00 01 00 21 26 01 00 2F"
+brokenBehind = hex "21 26 01 00 28 00 01 00 29 00 21 26 01 00 29 00 2F"
 
 -- ---- rule files that are mined
 
 -- of atomOfOne: no atom
 abbrev pub twoParts : List ℕ
-twoParts = hex "21 26 01 00 28 00 01 00 28 01 01 00 2F"
+twoParts = hex "21 26 01 00 28 00 01 00 28 01 01 00 29 00 2F"
 
 -- of secondRound: all three parts under one rule
 abbrev pub threeParts : List ℕ
-threeParts = hex "21 26 03 00 28 00 01 00 28 01 02 00 28 02 01 00 2F"
+threeParts = hex "21 26 03 00 28 00 01 00 28 01 02 00 28 02 01 00 29 00 2F"
 
 -- of firstPair: parts 0 and 1 under one rule, parts 2 and 3 under one each
 abbrev pub firstTwoParts : List ℕ
-firstTwoParts = hex "21 23 FF 03 00 00 00 00 00 00 00 26 01 00 28 00 01 00 28 01 01 00 21 23 FF 04 00 00 00 00 00 00 00 24 FF 00 00 26 01 00 28 02 01 00 21 23 FF 08 00 00 00 00 00 00 00 24 FF 01 00 26 01 00 28 03 01 00 2F"
+firstTwoParts = hex "21 23 FF 03 00 00 00 00 00 00 00 26 01 00 28 00 01 00 28 01 01 00 29 01 21 23 FF 04 00 00 00 00 00 00 00 24 FF 00 00 26 01 00 28 02 01 00 29 03 21 23 FF 08 00 00 00 00 00 00 00 24 FF 01 00 26 01 00 28 03 01 00 29 03 2F"
 
 -- of classesAsNumbers: class 2 before class 5
 abbrev pub ascendingClasses : List ℕ
-ascendingClasses = hex "21 26 07 00 28 00 02 00 28 00 05 00 28 01 07 00 2F"
+ascendingClasses = hex "21 26 07 00 28 00 02 00 28 00 05 00 28 01 07 00 29 00 2F"
 
 -- of halfOfA: a resource conjunct {5} and the atom
 abbrev pub resourceAndAtom : List ℕ
-resourceAndAtom = hex "21 24 00 05 00 26 01 00 27 00 00 28 00 01 00 2F"
+resourceAndAtom = hex "21 24 00 05 00 26 01 00 27 00 00 28 00 01 00 29 00 2F"
 
 -- of numbersBeforeKinds: a user conjunct {5} of attribute 1
 abbrev pub valueOfSecond : List ℕ
-valueOfSecond = hex "21 22 01 05 00 26 01 00 28 00 01 00 2F"
+valueOfSecond = hex "21 22 01 05 00 26 01 00 28 00 01 00 29 00 2F"
 
 -- of atomsInOrder: the atom of user attribute 1 and resource attribute 0
 abbrev pub lastAtom : List ℕ
-lastAtom = hex "21 26 01 00 27 01 00 28 00 01 00 2F"
+lastAtom = hex "21 26 01 00 27 01 00 28 00 01 00 29 00 2F"
 
 -- of moreRoles: a user conjunct {{0}} of 255
 abbrev pub smallestRoles : List ℕ
-smallestRoles = hex "21 23 FF 01 00 00 00 00 00 00 00 26 01 00 28 00 01 00 2F"
+smallestRoles = hex "21 23 FF 01 00 00 00 00 00 00 00 26 01 00 28 00 01 00 29 01 2F"
 
 -- ---- role files with circles (request 3)
 
@@ -588,36 +588,36 @@ bothHalves = hex "01 04 04 01 02 02 00 00 02 00 01 02 01 00 02 01 01 03 00 00 00
 
 -- user conjuncts {5} and {{1}}, resource conjuncts {5} and {{1}}
 abbrev pub asksBoth : List ℕ
-asksBoth = hex "21 22 00 05 00 23 01 02 00 00 00 00 00 00 00 24 00 05 00 25 01 02 00 00 00 00 00 00 00 26 01 00 28 00 01 00 2F"
+asksBoth = hex "21 22 00 05 00 23 01 02 00 00 00 00 00 00 00 24 00 05 00 25 01 02 00 00 00 00 00 00 00 26 01 00 28 00 01 00 29 00 2F"
 
 -- user conjuncts {5, 7} and {{1}, {2}}
 abbrev pub asksOneOfTwo : List ℕ
-asksOneOfTwo = hex "21 22 00 05 00 22 00 07 00 23 01 02 00 00 00 00 00 00 00 23 01 04 00 00 00 00 00 00 00 26 01 00 28 00 01 00 2F"
+asksOneOfTwo = hex "21 22 00 05 00 22 00 07 00 23 01 02 00 00 00 00 00 00 00 23 01 04 00 00 00 00 00 00 00 26 01 00 28 00 01 00 29 00 2F"
 
 -- a user conjunct {{0}} and a resource conjunct {0}, both of 255
 abbrev pub asks255 : List ℕ
-asks255 = hex "21 23 FF 01 00 00 00 00 00 00 00 24 FF 00 00 26 01 00 28 00 01 00 2F"
+asks255 = hex "21 23 FF 01 00 00 00 00 00 00 00 24 FF 00 00 26 01 00 28 00 01 00 29 03 2F"
 
 -- ---- the table
 
 abbrev pub table : List Row
 table =
     -- ---- A
-    -- "parts 2 rules 1 merges 1 cost 2"; with request 7 "example A is 23 bytes long": output of 22 bytes 9, of 23 accepted
-    row "A: 23 bytes, 2 parts, 1 rule, 1 merge, cost 2" (mining fileA 4096 23) (0 ∷ 23 ∷ 2 ∷ 1 ∷ 1 ∷ 2 ∷ [])
-    ∷ row "A: output of 22 bytes" (mining fileA 4096 22) (9 ∷ [])
-    -- "Rules: 21 26 01 00 27 00 00 28 00 01 00 28 01 01 00 2F.", behind the 20; on a refusal "Output is untouched."
-    ∷ row "A: its rules" (output fileA 23) (forA ++ rulesA)
-    ∷ row "A: bytes behind the rules stay" (output fileA 27) (forA ++ rulesA ++ memory 4)
-    ∷ row "A: output of 22 bytes is untouched" (output fileA 22) (memory 22)
+    -- "parts 2 rules 1 merges 1 cost 2"; with request 9 "Example A then is 25 bytes long": output of 24 bytes 9, of 25 accepted
+    row "A: 25 bytes, 2 parts, 1 rule, 1 merge, cost 2" (mining fileA 4096 25) (0 ∷ 25 ∷ 2 ∷ 1 ∷ 1 ∷ 2 ∷ [])
+    ∷ row "A: output of 24 bytes" (mining fileA 4096 24) (9 ∷ [])
+    -- "Rules: 21 26 01 00 27 00 00 28 00 01 00 28 01 01 00 2F.", behind the 20 and with the 29; on a refusal "Output is untouched."
+    ∷ row "A: its rules" (output fileA 25) (forA ++ rulesA)
+    ∷ row "A: bytes behind the rules stay" (output fileA 29) (forA ++ rulesA ++ memory 4)
+    ∷ row "A: output of 24 bytes is untouched" (output fileA 24) (memory 24)
     -- "8 scratch below 4,096 words of 64 bits; then 1 to 7; then 9 output shorter than the rule file"
-    ∷ row "A: scratch of 4,095 words" (mining fileA 4095 16) (8 ∷ [])
+    ∷ row "A: scratch of 4,095 words" (mining fileA 4095 25) (8 ∷ [])
     ∷ row "8 before 2" (mining [] 4095 0) (8 ∷ [])
     ∷ row "8 before 1" (mining (memory 65536) 4095 0) (8 ∷ [])
     ∷ row "7 before 9" (mining roleTwice 4096 0) (7 ∷ [])
     -- "Demand 3 speaks of the mined bytes ... read like any rule file beside their role file": sound, and of level 0
-    ∷ row "A: its rules are sound" (judging fileA (output fileA 23)) (0 ∷ 0 ∷ [])
-    ∷ row "A: its rule has level 0" (levels fileA (output fileA 23)) (0 ∷ 0 ∷ [])
+    ∷ row "A: its rules are sound" (judging fileA (output fileA 25)) (0 ∷ 0 ∷ [])
+    ∷ row "A: its rule has level 0" (levels fileA (output fileA 25)) (0 ∷ 0 ∷ [])
     -- ---- the smallest files
     -- "01 00 00 00 00 0F: rules 2F, length 1, all counts and the cost 0", the seven bytes of the 20 not counted
     ∷ row "nobody: length 8, all counts 0" (mining nobody 4096 8) (0 ∷ 8 ∷ 0 ∷ 0 ∷ 0 ∷ 0 ∷ [])
@@ -627,18 +627,18 @@ table =
     ∷ row "0F alone" (reading (hex "0F")) (4 ∷ [])
     -- ---- levels and cost
     -- "No attributes, two users, two resources, one operation, role 0 with user 0 and resource 0: level 3, cost 3."
-    ∷ row "one of two users and resources: level 3" (levels oneOfTwo (output oneOfTwo 30)) (0 ∷ 3 ∷ [])
-    ∷ row "one of two users and resources: cost 3" (mining oneOfTwo 4096 30) (0 ∷ 30 ∷ 1 ∷ 1 ∷ 0 ∷ 3 ∷ [])
+    ∷ row "one of two users and resources: level 3" (levels oneOfTwo (output oneOfTwo 32)) (0 ∷ 3 ∷ [])
+    ∷ row "one of two users and resources: cost 3" (mining oneOfTwo 4096 32) (0 ∷ 32 ∷ 1 ∷ 1 ∷ 0 ∷ 3 ∷ [])
     -- "values in single conjuncts", on each side
-    ∷ row "cost: values of a user conjunct" (mining userValues 4096 24) (0 ∷ 24 ∷ 1 ∷ 1 ∷ 0 ∷ 3 ∷ [])
-    ∷ row "cost: values of a resource conjunct" (mining resourceValues 4096 24) (0 ∷ 24 ∷ 1 ∷ 1 ∷ 0 ∷ 3 ∷ [])
+    ∷ row "cost: values of a user conjunct" (mining userValues 4096 26) (0 ∷ 26 ∷ 1 ∷ 1 ∷ 0 ∷ 3 ∷ [])
+    ∷ row "cost: values of a resource conjunct" (mining resourceValues 4096 26) (0 ∷ 26 ∷ 1 ∷ 1 ∷ 0 ∷ 3 ∷ [])
     -- "elements over all sets in set conjuncts", on each side: two and one, and one operation
-    ∷ row "cost: elements of user sets" (mining userSets 4096 36) (0 ∷ 36 ∷ 1 ∷ 1 ∷ 0 ∷ 4 ∷ [])
-    ∷ row "cost: elements of resource sets" (mining resourceSets 4096 36) (0 ∷ 36 ∷ 1 ∷ 1 ∷ 0 ∷ 4 ∷ [])
+    ∷ row "cost: elements of user sets" (mining userSets 4096 38) (0 ∷ 38 ∷ 1 ∷ 1 ∷ 0 ∷ 4 ∷ [])
+    ∷ row "cost: elements of resource sets" (mining resourceSets 4096 38) (0 ∷ 38 ∷ 1 ∷ 1 ∷ 0 ∷ 4 ∷ [])
     -- ---- holders
     -- "User 0 in role 0 without permissions, senior to role 1: user 0 has role 1's permissions."
     ∷ row "a senior without permissions has its junior's" (roleAnswer inherits 0 0 0) (0 ∷ 1 ∷ [])
-    ∷ row "the junior's part is held by the senior's user" (mining inherits 4096 16) (0 ∷ 16 ∷ 1 ∷ 1 ∷ 0 ∷ 1 ∷ [])
+    ∷ row "the junior's part is held by the senior's user" (mining inherits 4096 18) (0 ∷ 18 ∷ 1 ∷ 1 ∷ 0 ∷ 1 ∷ [])
     -- "07 junior role, senior role": with the two exchanged user 0 has none
     ∷ row "a junior has none of its senior's" (roleAnswer inheritsNot 0 0 0) (0 ∷ 0 ∷ [])
     -- "A role's seniors are all roles reached by one or more 07 steps."
@@ -647,8 +647,8 @@ table =
     ∷ row "no holder, no part" (mining noHolder 4096 8) (0 ∷ 8 ∷ 0 ∷ 0 ∷ 0 ∷ 0 ∷ [])
     -- ---- parts
     -- "One role with a holder, resource 0 under operations 0 and 1, resource 1 under 1: two parts."; "Equal resources: one."
-    ∷ row "unequal resources: two parts" (mining unequalResources 4096 28) (0 ∷ 28 ∷ 2 ∷ 2 ∷ 0 ∷ 3 ∷ [])
-    ∷ row "equal resources: one part" (mining equalResources 4096 16) (0 ∷ 16 ∷ 1 ∷ 1 ∷ 0 ∷ 2 ∷ [])
+    ∷ row "unequal resources: two parts" (mining unequalResources 4096 32) (0 ∷ 32 ∷ 2 ∷ 2 ∷ 0 ∷ 3 ∷ [])
+    ∷ row "equal resources: one part" (mining equalResources 4096 18) (0 ∷ 18 ∷ 1 ∷ 1 ∷ 0 ∷ 2 ∷ [])
     -- ---- sets
     -- "User set {1, 2} meets conjunct {{1}}; a resource set {1, 2} does not."
     ∷ row "user set {1, 2} meets {{1}}" (ruleAnswer setOneTwo (forSetOneTwo ++ userSetOne) 0 0 0) (0 ∷ 1 ∷ [])
@@ -683,50 +683,50 @@ table =
     ∷ row "atom: the user's set unknown" (ruleAnswer emptyOrUnknown (forEmptyOrUnknown ++ atomRule) 1 0 0) (0 ∷ 0 ∷ [])
     ∷ row "atom: the resource's set unknown" (ruleAnswer emptyOrUnknown (forEmptyOrUnknown ++ atomRule) 0 1 0) (0 ∷ 0 ∷ [])
     -- "the empty set is a known value": the conjunct {{}} keeps user 1 out, and costs nothing
-    ∷ row "the empty set is mined as a conjunct" (output knownEmpty 26) (forKnownEmpty ++ userSetEmpty)
-    ∷ row "the empty set costs nothing" (mining knownEmpty 4096 26) (0 ∷ 26 ∷ 1 ∷ 1 ∷ 0 ∷ 1 ∷ [])
+    ∷ row "the empty set is mined as a conjunct" (output knownEmpty 28) (forKnownEmpty ++ userSetEmpty)
+    ∷ row "the empty set costs nothing" (mining knownEmpty 4096 28) (0 ∷ 28 ∷ 1 ∷ 1 ∷ 0 ∷ 1 ∷ [])
     -- ---- "adding inherited permissions to a block"
     -- "inherited permissions never enter a block": two parts, not three
-    ∷ row "senior and junior: two parts" (mining seniorAndJunior 4096 42) (0 ∷ 42 ∷ 2 ∷ 2 ∷ 0 ∷ 6 ∷ [])
+    ∷ row "senior and junior: two parts" (mining seniorAndJunior 4096 46) (0 ∷ 46 ∷ 2 ∷ 2 ∷ 0 ∷ 6 ∷ [])
     -- "no part of that file": a rule may list the operation under the junior role only
     ∷ row "the junior's operation is no part of the senior" (judging seniorAndJunior (forSeniorAndJunior ++ operation1OfRole0)) (13 ∷ [])
     ∷ row "the junior's operation is a part of the junior" (ruleAnswer seniorAndJunior (forSeniorAndJunior ++ operation1OfRole1) 0 0 1) (0 ∷ 1 ∷ [])
     -- ---- "keeping an atom in a merge because one of two groups had it"
     -- "each atom true of every user and resource that share a triple of B": role 0 alone has one, both together none
-    ∷ row "one role alone is mined with the atom" (output atomAlone 19) (forAtomAlone ++ atomRule)
-    ∷ row "two roles merged are mined without it" (output atomOfOne 20) (forAtomOfOne ++ twoParts)
-    ∷ row "two roles merged: one rule, cost 1" (mining atomOfOne 4096 20) (0 ∷ 20 ∷ 2 ∷ 1 ∷ 1 ∷ 1 ∷ [])
-    ∷ row "two roles merged: sound" (judging atomOfOne (output atomOfOne 20)) (0 ∷ 0 ∷ [])
+    ∷ row "one role alone is mined with the atom" (output atomAlone 21) (forAtomAlone ++ atomRule)
+    ∷ row "two roles merged are mined without it" (output atomOfOne 22) (forAtomOfOne ++ twoParts)
+    ∷ row "two roles merged: one rule, cost 1" (mining atomOfOne 4096 22) (0 ∷ 22 ∷ 2 ∷ 1 ∷ 1 ∷ 1 ∷ [])
+    ∷ row "two roles merged: sound" (judging atomOfOne (output atomOfOne 22)) (0 ∷ 0 ∷ [])
     -- with the atom kept, resource 1 is lost
     ∷ row "two roles merged with the atom kept: resource 1 is lost" (judging atomOfOne (forAtomOfOne ++ rulesA)) (0 ∷ 1 ∷ 0 ∷ 1 ∷ 0 ∷ [])
     -- ---- merging
     -- "the search then begins afresh": part 1 merges with neither part 0 nor part 2, but with both together; one round leaves two rules
-    ∷ row "search begun afresh: 2 merges" (mining secondRound 4096 24) (0 ∷ 24 ∷ 3 ∷ 1 ∷ 2 ∷ 2 ∷ [])
-    ∷ row "search begun afresh: one rule for three parts" (output secondRound 24) (forSecondRound ++ threeParts)
+    ∷ row "search begun afresh: 2 merges" (mining secondRound 4096 26) (0 ∷ 26 ∷ 3 ∷ 1 ∷ 2 ∷ 2 ∷ [])
+    ∷ row "search begun afresh: one rule for three parts" (output secondRound 26) (forSecondRound ++ threeParts)
     -- "The first pair, earlier group first, then the other": parts 0 and 1, not 0 and 2 or 1 and 3
-    ∷ row "first pair: parts 0 and 1" (output firstPair 74) (forFirstPair ++ firstTwoParts)
-    ∷ row "first pair: 1 merge" (mining firstPair 4096 74) (0 ∷ 74 ∷ 4 ∷ 3 ∷ 1 ∷ 9 ∷ [])
-    ∷ row "first pair: levels 1, 3, 3" (levels firstPair (output firstPair 74)) (0 ∷ 1 ∷ 3 ∷ 3 ∷ [])
+    ∷ row "first pair: parts 0 and 1" (output firstPair 80) (forFirstPair ++ firstTwoParts)
+    ∷ row "first pair: 1 merge" (mining firstPair 4096 80) (0 ∷ 80 ∷ 4 ∷ 3 ∷ 1 ∷ 9 ∷ [])
+    ∷ row "first pair: levels 1, 3, 3" (levels firstPair (output firstPair 80)) (0 ∷ 1 ∷ 3 ∷ 3 ∷ [])
     -- "whose union fits a level no higher than the higher of the two": both are of level 0, their union of 1
-    ∷ row "levels 0 and 0, union 1: no merge" (mining levelsApart 4096 32) (0 ∷ 32 ∷ 2 ∷ 2 ∷ 0 ∷ 4 ∷ [])
+    ∷ row "levels 0 and 0, union 1: no merge" (mining levelsApart 4096 36) (0 ∷ 36 ∷ 2 ∷ 2 ∷ 0 ∷ 4 ∷ [])
     -- of levels 0 and 1, their union of 1
-    ∷ row "levels 0 and 1, union 1: a merge" (mining higherOfTwo 4096 40) (0 ∷ 40 ∷ 2 ∷ 1 ∷ 1 ∷ 3 ∷ [])
+    ∷ row "levels 0 and 1, union 1: a merge" (mining higherOfTwo 4096 42) (0 ∷ 42 ∷ 2 ∷ 1 ∷ 1 ∷ 3 ∷ [])
     -- of levels 1 and 2; their union fits 1, but not 2
-    ∷ row "levels 1 and 2, union 1: a merge" (mining oneBelowTwo 4096 30) (0 ∷ 30 ∷ 2 ∷ 1 ∷ 1 ∷ 2 ∷ [])
-    ∷ row "levels 1 and 2, union 1: the rule has level 1" (levels oneBelowTwo (output oneBelowTwo 30)) (0 ∷ 1 ∷ [])
+    ∷ row "levels 1 and 2, union 1: a merge" (mining oneBelowTwo 4096 32) (0 ∷ 32 ∷ 2 ∷ 1 ∷ 1 ∷ 2 ∷ [])
+    ∷ row "levels 1 and 2, union 1: the rule has level 1" (levels oneBelowTwo (output oneBelowTwo 32)) (0 ∷ 1 ∷ [])
     -- "commands ascend strictly by command byte, then operands as numbers": class {1} is 2, class {0, 2} is 5
-    ∷ row "classes are written ascending as numbers" (output classesAsNumbers 24) (forClassesAsNumbers ++ ascendingClasses)
+    ∷ row "classes are written ascending as numbers" (output classesAsNumbers 26) (forClassesAsNumbers ++ ascendingClasses)
     -- "Parts are ordered by role, then lowest operation.": class {0, 2} is part 0
     ∷ row "parts are ordered by lowest operation" (judging classesAsNumbers (forClassesAsNumbers ++ notFirstPart)) (0 ∷ 3 ∷ 0 ∷ [])
     -- ---- striking
     -- "conjuncts, users' first, ... and then atoms": any one of the three could go, and it is the user conjunct
-    ∷ row "struck first: a user conjunct" (output halfOfA 23) (forHalfOfA ++ resourceAndAtom)
+    ∷ row "struck first: a user conjunct" (output halfOfA 25) (forHalfOfA ++ resourceAndAtom)
     -- "each side by attribute number": the set of attribute 0 goes before the value of attribute 1
-    ∷ row "struck first: attribute 0 of two" (output numbersBeforeKinds 20) (forNumbersBeforeKinds ++ valueOfSecond)
+    ∷ row "struck first: attribute 0 of two" (output numbersBeforeKinds 22) (forNumbersBeforeKinds ++ valueOfSecond)
     -- "atoms by user and resource attribute": 0 and 1 before 1 and 0
-    ∷ row "struck first: atom 0 1 of two" (output atomsInOrder 19) (forAtomsInOrder ++ lastAtom)
+    ∷ row "struck first: atom 0 1 of two" (output atomsInOrder 21) (forAtomsInOrder ++ lastAtom)
     -- "each set that strictly contains another listed set goes": {0, 1} beside {0}
-    ∷ row "a set that contains another goes" (output moreRoles 26) (forMoreRoles ++ smallestRoles)
+    ∷ row "a set that contains another goes" (output moreRoles 28) (forMoreRoles ++ smallestRoles)
     -- ---- the questions
     -- "whether the roles grant a given triple, yes or no: 1 to 7, then 5 for a number beyond the sizes"
     ∷ row "role question: yes" (roleAnswer fileA 1 1 0) (0 ∷ 1 ∷ [])
@@ -803,7 +803,7 @@ table =
     ∷ row "07: a junior beyond" (reading (hex "01 01 02 03 04 07 04 00 0F")) (5 ∷ [])
     ∷ row "07: a senior beyond" (reading (hex "01 01 02 03 04 07 00 04 0F")) (5 ∷ [])
     -- "Repeats of 05, 06, 07 change nothing."
-    ∷ row "each 05, 06 and 07 twice" (mining repeats 4096 16) (0 ∷ 16 ∷ 1 ∷ 1 ∷ 0 ∷ 1 ∷ [])
+    ∷ row "each 05, 06 and 07 twice" (mining repeats 4096 18) (0 ∷ 18 ∷ 1 ∷ 1 ∷ 0 ∷ 1 ∷ [])
     -- ---- refusals of a rule file beside A, by command
     -- "10 cut off (also before 2F), 12 out of order"
     ∷ row "empty rule file" (judging fileA []) (10 ∷ [])
@@ -814,61 +814,61 @@ table =
     ∷ row "an unknown command in a rule file" (judging fileA (forA ++ hex "30")) (11 ∷ [])
     -- "missing (seen at the next 21 or 2F)": at the end of the bytes it is 10
     ∷ row "10 before 12: no 28, and no 2F" (judging fileA (forA ++ hex "21 26 01 00")) (10 ∷ [])
-    ∷ row "no 28 at 2F" (judging fileA (forA ++ hex "21 26 01 00 2F")) (12 ∷ [])
-    ∷ row "no 26 at the next 21" (judging fileA (forA ++ hex "21 28 00 01 00 21")) (12 ∷ [])
+    ∷ row "no 28 at 2F" (judging fileA (forA ++ hex "21 26 01 00 29 00 2F")) (12 ∷ [])
+    ∷ row "no 26 at the next 21" (judging fileA (forA ++ hex "21 28 00 01 00 29 00 21")) (12 ∷ [])
     -- "12 ... repeated, 13 an operand beyond its size, ... a zero operation set"; both before what is missing
-    ∷ row "12 before 13: a second 26, with an operation beyond" (judging fileA (forA ++ hex "21 26 01 00 26 03 00 2F")) (12 ∷ [])
-    ∷ row "26: an operation beyond" (judging fileA (forA ++ hex "21 26 03 00 2F")) (13 ∷ [])
-    ∷ row "26: no operation" (judging fileA (forA ++ hex "21 26 00 00 2F")) (13 ∷ [])
+    ∷ row "12 before 13: a second 26, with an operation beyond" (judging fileA (forA ++ hex "21 26 01 00 26 03 00 29 00 2F")) (12 ∷ [])
+    ∷ row "26: an operation beyond" (judging fileA (forA ++ hex "21 26 03 00 29 00 2F")) (13 ∷ [])
+    ∷ row "26: no operation" (judging fileA (forA ++ hex "21 26 00 00 29 00 2F")) (13 ∷ [])
     -- "ascend strictly": equal lines twice
-    ∷ row "22: a value twice" (judging fileA (forA ++ hex "21 22 00 05 00 22 00 05 00 26 01 00 28 00 01 00 2F")) (12 ∷ [])
-    ∷ row "27: an atom twice" (judging fileA (forA ++ hex "21 26 01 00 27 00 00 27 00 00 28 00 01 00 2F")) (12 ∷ [])
-    ∷ row "28: a part twice" (judging fileA (forA ++ hex "21 26 01 00 28 00 01 00 28 00 01 00 2F")) (12 ∷ [])
+    ∷ row "22: a value twice" (judging fileA (forA ++ hex "21 22 00 05 00 22 00 05 00 26 01 00 28 00 01 00 29 00 2F")) (12 ∷ [])
+    ∷ row "27: an atom twice" (judging fileA (forA ++ hex "21 26 01 00 27 00 00 27 00 00 28 00 01 00 29 00 2F")) (12 ∷ [])
+    ∷ row "28: a part twice" (judging fileA (forA ++ hex "21 26 01 00 28 00 01 00 28 00 01 00 29 00 2F")) (12 ∷ [])
     -- "operands as numbers": 255 stands before 256
-    ∷ row "22: 255 before 256" (ruleAnswer fileA (forA ++ hex "21 22 00 FF 00 22 00 00 01 26 01 00 28 00 01 00 2F") 0 0 0) (0 ∷ 0 ∷ [])
-    ∷ row "22: 256 before 255" (judging fileA (forA ++ hex "21 22 00 00 01 22 00 FF 00 26 01 00 28 00 01 00 2F")) (12 ∷ [])
+    ∷ row "22: 255 before 256" (ruleAnswer fileA (forA ++ hex "21 22 00 FF 00 22 00 00 01 26 01 00 28 00 01 00 29 00 2F") 0 0 0) (0 ∷ 0 ∷ [])
+    ∷ row "22: 256 before 255" (judging fileA (forA ++ hex "21 22 00 00 01 22 00 FF 00 26 01 00 28 00 01 00 29 00 2F")) (12 ∷ [])
     -- "255 stands only in 23, with roles as elements, and in 24, with a resource number."
-    ∷ row "22: 255" (judging fileA (forA ++ hex "21 22 FF 00 00 26 01 00 28 00 01 00 2F")) (13 ∷ [])
-    ∷ row "23: 255, no role" (ruleAnswer fileA (forA ++ hex "21 23 FF 00 00 00 00 00 00 00 00 26 01 00 28 00 01 00 2F") 0 0 0) (0 ∷ 1 ∷ [])
-    ∷ row "23: 255, role 2 of two" (judging fileA (forA ++ hex "21 23 FF 04 00 00 00 00 00 00 00 26 01 00 28 00 01 00 2F")) (13 ∷ [])
-    ∷ row "24: 255, resource 2 of two" (judging fileA (forA ++ hex "21 24 FF 02 00 26 01 00 28 00 01 00 2F")) (13 ∷ [])
-    ∷ row "25: 255" (judging fileA (forA ++ hex "21 25 FF 01 00 00 00 00 00 00 00 26 01 00 28 00 01 00 2F")) (13 ∷ [])
+    ∷ row "22: 255" (judging fileA (forA ++ hex "21 22 FF 00 00 26 01 00 28 00 01 00 29 00 2F")) (13 ∷ [])
+    ∷ row "23: 255, no role" (ruleAnswer fileA (forA ++ hex "21 23 FF 00 00 00 00 00 00 00 00 26 01 00 28 00 01 00 29 01 2F") 0 0 0) (0 ∷ 1 ∷ [])
+    ∷ row "23: 255, role 2 of two" (judging fileA (forA ++ hex "21 23 FF 04 00 00 00 00 00 00 00 26 01 00 28 00 01 00 29 01 2F")) (13 ∷ [])
+    ∷ row "24: 255, resource 2 of two" (judging fileA (forA ++ hex "21 24 FF 02 00 26 01 00 28 00 01 00 29 02 2F")) (13 ∷ [])
+    ∷ row "25: 255" (judging fileA (forA ++ hex "21 25 FF 01 00 00 00 00 00 00 00 26 01 00 28 00 01 00 29 00 2F")) (13 ∷ [])
     -- "Neither stands in an atom."
-    ∷ row "27: 255 of users" (judging fileA (forA ++ hex "21 26 01 00 27 FF 00 28 00 01 00 2F")) (13 ∷ [])
-    ∷ row "27: 255 of resources" (judging fileA (forA ++ hex "21 26 01 00 27 00 FF 28 00 01 00 2F")) (13 ∷ [])
+    ∷ row "27: 255 of users" (judging fileA (forA ++ hex "21 26 01 00 27 FF 00 28 00 01 00 29 00 2F")) (13 ∷ [])
+    ∷ row "27: 255 of resources" (judging fileA (forA ++ hex "21 26 01 00 27 00 FF 28 00 01 00 29 00 2F")) (13 ∷ [])
     -- "no part of that file": half a class; a role without a holder; a role beyond
     ∷ row "28: half a class" (judging equalResources (forEqualResources ++ anybody)) (13 ∷ [])
     ∷ row "28: a role without a holder" (judging noHolder (forNoHolder ++ anybody)) (13 ∷ [])
-    ∷ row "28: a role beyond" (judging fileA (forA ++ hex "21 26 01 00 28 02 01 00 2F")) (13 ∷ [])
+    ∷ row "28: a role beyond" (judging fileA (forA ++ hex "21 26 01 00 28 02 01 00 29 00 2F")) (13 ∷ [])
     -- ---- kinds and attributes in a rule file
     ∷ row "22 to 25 and 27: attributes of the right kind" (ruleAnswer bothKinds (forBothKinds ++ everyKind) 0 0 0) (0 ∷ 0 ∷ [])
     -- "of the wrong kind (an atom of a single user attribute and a set resource attribute too)"
-    ∷ row "22: a set" (judging bothKinds (forBothKinds ++ hex "21 22 01 05 00 26 01 00 28 00 01 00 2F")) (13 ∷ [])
-    ∷ row "23: a single" (judging bothKinds (forBothKinds ++ hex "21 23 00 05 00 00 00 00 00 00 00 26 01 00 28 00 01 00 2F")) (13 ∷ [])
-    ∷ row "24: a set" (judging bothKinds (forBothKinds ++ hex "21 24 01 05 00 26 01 00 28 00 01 00 2F")) (13 ∷ [])
-    ∷ row "25: a single" (judging bothKinds (forBothKinds ++ hex "21 25 00 05 00 00 00 00 00 00 00 26 01 00 28 00 01 00 2F")) (13 ∷ [])
+    ∷ row "22: a set" (judging bothKinds (forBothKinds ++ hex "21 22 01 05 00 26 01 00 28 00 01 00 29 00 2F")) (13 ∷ [])
+    ∷ row "23: a single" (judging bothKinds (forBothKinds ++ hex "21 23 00 05 00 00 00 00 00 00 00 26 01 00 28 00 01 00 29 00 2F")) (13 ∷ [])
+    ∷ row "24: a set" (judging bothKinds (forBothKinds ++ hex "21 24 01 05 00 26 01 00 28 00 01 00 29 00 2F")) (13 ∷ [])
+    ∷ row "25: a single" (judging bothKinds (forBothKinds ++ hex "21 25 00 05 00 00 00 00 00 00 00 26 01 00 28 00 01 00 29 00 2F")) (13 ∷ [])
     ∷ row "27: a single of users and a set of resources" (judging singleAndSet (forSingleAndSet ++ atomRule)) (13 ∷ [])
     -- "13 an operand beyond its size": resources have no attribute 2, users no attribute 3
-    ∷ row "22: an undeclared attribute" (judging bothKinds (forBothKinds ++ hex "21 22 03 05 00 26 01 00 28 00 01 00 2F")) (13 ∷ [])
-    ∷ row "23: an undeclared attribute" (judging bothKinds (forBothKinds ++ hex "21 23 03 05 00 00 00 00 00 00 00 26 01 00 28 00 01 00 2F")) (13 ∷ [])
-    ∷ row "24: an undeclared attribute" (judging bothKinds (forBothKinds ++ hex "21 24 02 05 00 26 01 00 28 00 01 00 2F")) (13 ∷ [])
-    ∷ row "25: an undeclared attribute" (judging bothKinds (forBothKinds ++ hex "21 25 02 05 00 00 00 00 00 00 00 26 01 00 28 00 01 00 2F")) (13 ∷ [])
-    ∷ row "27: an undeclared user attribute" (judging bothKinds (forBothKinds ++ hex "21 26 01 00 27 03 00 28 00 01 00 2F")) (13 ∷ [])
-    ∷ row "27: an undeclared resource attribute" (judging bothKinds (forBothKinds ++ hex "21 26 01 00 27 00 02 28 00 01 00 2F")) (13 ∷ [])
+    ∷ row "22: an undeclared attribute" (judging bothKinds (forBothKinds ++ hex "21 22 03 05 00 26 01 00 28 00 01 00 29 00 2F")) (13 ∷ [])
+    ∷ row "23: an undeclared attribute" (judging bothKinds (forBothKinds ++ hex "21 23 03 05 00 00 00 00 00 00 00 26 01 00 28 00 01 00 29 00 2F")) (13 ∷ [])
+    ∷ row "24: an undeclared attribute" (judging bothKinds (forBothKinds ++ hex "21 24 02 05 00 26 01 00 28 00 01 00 29 00 2F")) (13 ∷ [])
+    ∷ row "25: an undeclared attribute" (judging bothKinds (forBothKinds ++ hex "21 25 02 05 00 00 00 00 00 00 00 26 01 00 28 00 01 00 29 00 2F")) (13 ∷ [])
+    ∷ row "27: an undeclared user attribute" (judging bothKinds (forBothKinds ++ hex "21 26 01 00 27 03 00 28 00 01 00 29 00 2F")) (13 ∷ [])
+    ∷ row "27: an undeclared resource attribute" (judging bothKinds (forBothKinds ++ hex "21 26 01 00 27 00 02 28 00 01 00 29 00 2F")) (13 ∷ [])
     -- ---- request 1: "An atom joins two attributes only if their domains are equal"
-    ∷ row "equal domains: the length and counts of A" (mining equalDomains 4096 23) (0 ∷ 23 ∷ 2 ∷ 1 ∷ 1 ∷ 2 ∷ [])
-    ∷ row "equal domains: the rules of A" (output equalDomains 24) (forEqualDomains ++ hex "21 26 01 00 27 00 00 28 00 01 00 28 01 01 00 2F AA")
-    ∷ row "another domain of users: no atom, no merge" (mining userDomain 4096 40) (0 ∷ 40 ∷ 2 ∷ 2 ∷ 0 ∷ 6 ∷ [])
-    ∷ row "another domain of users: two rules by values" (output userDomain 40) (forUserDomain ++ rulesByValues)
-    ∷ row "another domain of resources: no atom, no merge" (mining resourceDomain 4096 40) (0 ∷ 40 ∷ 2 ∷ 2 ∷ 0 ∷ 6 ∷ [])
-    ∷ row "another domain of resources: two rules by values" (output resourceDomain 40) (forResourceDomain ++ rulesByValues)
+    ∷ row "equal domains: the length and counts of A" (mining equalDomains 4096 25) (0 ∷ 25 ∷ 2 ∷ 1 ∷ 1 ∷ 2 ∷ [])
+    ∷ row "equal domains: the rules of A" (output equalDomains 26) (forEqualDomains ++ hex "21 26 01 00 27 00 00 28 00 01 00 28 01 01 00 29 00 2F AA")
+    ∷ row "another domain of users: no atom, no merge" (mining userDomain 4096 44) (0 ∷ 44 ∷ 2 ∷ 2 ∷ 0 ∷ 6 ∷ [])
+    ∷ row "another domain of users: two rules by values" (output userDomain 44) (forUserDomain ++ rulesByValues)
+    ∷ row "another domain of resources: no atom, no merge" (mining resourceDomain 4096 44) (0 ∷ 44 ∷ 2 ∷ 2 ∷ 0 ∷ 6 ∷ [])
+    ∷ row "another domain of resources: two rules by values" (output resourceDomain 44) (forResourceDomain ++ rulesByValues)
     -- "another atom is 13"; conjuncts do not look at domains
     ∷ row "27: equal domains" (judging equalDomains (forEqualDomains ++ rulesA)) (0 ∷ 0 ∷ [])
     ∷ row "27: another domain of users" (judging userDomain (forUserDomain ++ rulesA)) (13 ∷ [])
     ∷ row "27: another domain of resources" (judging resourceDomain (forResourceDomain ++ rulesA)) (13 ∷ [])
     ∷ row "values of two domains" (judging userDomain (forUserDomain ++ rulesByValues)) (0 ∷ 0 ∷ [])
-    ∷ row "two domains of one side: the atom of the second" (judging twoDomains (forTwoDomains ++ hex "21 26 01 00 27 01 00 28 00 01 00 2F")) (0 ∷ 0 ∷ [])
-    ∷ row "two domains of one side: the atom of the first" (judging twoDomains (forTwoDomains ++ hex "21 26 01 00 27 00 00 28 00 01 00 2F")) (13 ∷ [])
+    ∷ row "two domains of one side: the atom of the second" (judging twoDomains (forTwoDomains ++ hex "21 26 01 00 27 01 00 28 00 01 00 29 00 2F")) (0 ∷ 0 ∷ [])
+    ∷ row "two domains of one side: the atom of the first" (judging twoDomains (forTwoDomains ++ hex "21 26 01 00 27 00 00 28 00 01 00 29 00 2F")) (13 ∷ [])
     -- "rules with atoms across domains no longer count", and no others
     ∷ row "a rule of the section: an atom of equal domains" (ofFile equalDomains valueAndAtom) (0 ∷ 1 ∷ [])
     ∷ row "no rule of the section: an atom across domains" (ofFile userDomain valueAndAtom) (0 ∷ 0 ∷ [])
@@ -884,10 +884,10 @@ table =
     ∷ row "six 08 of users" (reading (hex "01 00 00 00 00 08 00 00 01 08 00 00 02 08 00 00 03 08 00 00 04 08 00 00 05 08 00 00 06 0F")) (0 ∷ 0 ∷ 0 ∷ 0 ∷ 0 ∷ [])
     ∷ row "a seventh attribute: 02 behind six 08" (reading (hex "01 00 00 00 00 08 00 00 01 08 00 00 02 08 00 00 03 08 00 00 04 08 00 00 05 08 00 00 06 02 00 00 0F")) (5 ∷ [])
     -- ---- request 2: "hands back that part of the rule file itself, from its 21 up to the next command 21 or 2F"
-    ∷ row "show: rule 0 of A" (showing fileA (forA ++ rulesA) 0) (0 ∷ hex "21 26 01 00 27 00 00 28 00 01 00 28 01 01 00")
-    ∷ row "show: a 21 among operands" (showing fileA (forA ++ marksAmongOperands) 0) (0 ∷ hex "21 22 00 21 21 26 01 00 28 00 01 00")
-    ∷ row "show: a 2F among operands" (showing fileA (forA ++ marksAmongOperands) 1) (0 ∷ hex "21 22 00 2F 2F 26 01 00 28 01 01 00")
-    ∷ row "show: where rule 1 stands" (placing fileA (forA ++ marksAmongOperands) 1) (19 ∷ 31 ∷ [])
+    ∷ row "show: rule 0 of A" (showing fileA (forA ++ rulesA) 0) (0 ∷ hex "21 26 01 00 27 00 00 28 00 01 00 28 01 01 00 29 00")
+    ∷ row "show: a 21 among operands" (showing fileA (forA ++ marksAmongOperands) 0) (0 ∷ hex "21 22 00 21 21 26 01 00 28 00 01 00 29 00")
+    ∷ row "show: a 2F among operands" (showing fileA (forA ++ marksAmongOperands) 1) (0 ∷ hex "21 22 00 2F 2F 26 01 00 28 01 01 00 29 00")
+    ∷ row "show: where rule 1 stands" (placing fileA (forA ++ marksAmongOperands) 1) (21 ∷ 35 ∷ [])
     -- "14 for a number not below the count of rules"; "then the part handed back is the empty one at the file's start"
     ∷ row "show: A has no rule 1" (showing fileA (forA ++ rulesA) 1) (14 ∷ [])
     ∷ row "show: no rule at all" (showing fileA (forA ++ noRules) 0) (14 ∷ [])
@@ -948,23 +948,23 @@ table =
     ∷ row "both 255s, the users' not" (ruleAnswer bothHalves (forBothHalves ++ asks255) 1 0 0) (0 ∷ 0 ∷ [])
     ∷ row "both 255s, the resources' not" (ruleAnswer bothHalves (forBothHalves ++ asks255) 0 1 0) (0 ∷ 0 ∷ [])
     -- ---- request 5: "w1 for user conjuncts, w2 for resource conjuncts, w3 for operations, w4 for atoms, each 0 to 65,535"
-    ∷ row "weights: A by 1, 1, 7 and 100" (weighing 1 1 7 100 fileA 23) (0 ∷ 23 ∷ 2 ∷ 1 ∷ 1 ∷ 107 ∷ [])
-    ∷ row "weights: four sums, by ones" (mining fourSums 4096 51) (0 ∷ 51 ∷ 2 ∷ 1 ∷ 1 ∷ 10 ∷ [])
-    ∷ row "weights: four sums, the rule" (output fourSums 51) (forFourSums ++ hex "21 23 01 06 00 00 00 00 00 00 00 23 01 08 00 00 00 00 00 00 00 24 01 03 00 24 01 04 00 26 0F 00 27 00 00 28 00 0F 00 28 01 0F 00 2F")
-    ∷ row "weights: four sums, w1 alone" (weighing 1 0 0 0 fourSums 51) (0 ∷ 51 ∷ 2 ∷ 1 ∷ 1 ∷ 3 ∷ [])
-    ∷ row "weights: four sums, w2 alone" (weighing 0 1 0 0 fourSums 51) (0 ∷ 51 ∷ 2 ∷ 1 ∷ 1 ∷ 2 ∷ [])
-    ∷ row "weights: four sums, w3 alone" (weighing 0 0 1 0 fourSums 51) (0 ∷ 51 ∷ 2 ∷ 1 ∷ 1 ∷ 4 ∷ [])
-    ∷ row "weights: four sums, w4 alone" (weighing 0 0 0 1 fourSums 51) (0 ∷ 51 ∷ 2 ∷ 1 ∷ 1 ∷ 1 ∷ [])
-    ∷ row "weights: four sums, all 0" (weighing 0 0 0 0 fourSums 51) (0 ∷ 51 ∷ 2 ∷ 1 ∷ 1 ∷ 0 ∷ [])
-    ∷ row "weights: four sums, all 65,535" (weighing 65535 65535 65535 65535 fourSums 51) (0 ∷ 51 ∷ 2 ∷ 1 ∷ 1 ∷ 655350 ∷ [])
-    ∷ row "weights: four sums, each another" (weighing 2 30 400 5000 fourSums 51) (0 ∷ 51 ∷ 2 ∷ 1 ∷ 1 ∷ 6666 ∷ [])
+    ∷ row "weights: A by 1, 1, 7 and 100" (weighing 1 1 7 100 fileA 25) (0 ∷ 25 ∷ 2 ∷ 1 ∷ 1 ∷ 107 ∷ [])
+    ∷ row "weights: four sums, by ones" (mining fourSums 4096 53) (0 ∷ 53 ∷ 2 ∷ 1 ∷ 1 ∷ 10 ∷ [])
+    ∷ row "weights: four sums, the rule" (output fourSums 53) (forFourSums ++ hex "21 23 01 06 00 00 00 00 00 00 00 23 01 08 00 00 00 00 00 00 00 24 01 03 00 24 01 04 00 26 0F 00 27 00 00 28 00 0F 00 28 01 0F 00 29 00 2F")
+    ∷ row "weights: four sums, w1 alone" (weighing 1 0 0 0 fourSums 53) (0 ∷ 53 ∷ 2 ∷ 1 ∷ 1 ∷ 3 ∷ [])
+    ∷ row "weights: four sums, w2 alone" (weighing 0 1 0 0 fourSums 53) (0 ∷ 53 ∷ 2 ∷ 1 ∷ 1 ∷ 2 ∷ [])
+    ∷ row "weights: four sums, w3 alone" (weighing 0 0 1 0 fourSums 53) (0 ∷ 53 ∷ 2 ∷ 1 ∷ 1 ∷ 4 ∷ [])
+    ∷ row "weights: four sums, w4 alone" (weighing 0 0 0 1 fourSums 53) (0 ∷ 53 ∷ 2 ∷ 1 ∷ 1 ∷ 1 ∷ [])
+    ∷ row "weights: four sums, all 0" (weighing 0 0 0 0 fourSums 53) (0 ∷ 53 ∷ 2 ∷ 1 ∷ 1 ∷ 0 ∷ [])
+    ∷ row "weights: four sums, all 65,535" (weighing 65535 65535 65535 65535 fourSums 53) (0 ∷ 53 ∷ 2 ∷ 1 ∷ 1 ∷ 655350 ∷ [])
+    ∷ row "weights: four sums, each another" (weighing 2 30 400 5000 fourSums 53) (0 ∷ 53 ∷ 2 ∷ 1 ∷ 1 ∷ 6666 ∷ [])
     -- values and elements, on each side; the 255s' conjuncts are their side's
-    ∷ row "weights: values of users" (weighing 2 30 400 5000 userValues 24) (0 ∷ 24 ∷ 1 ∷ 1 ∷ 0 ∷ 404 ∷ [])
-    ∷ row "weights: values of resources" (weighing 2 30 400 5000 resourceValues 24) (0 ∷ 24 ∷ 1 ∷ 1 ∷ 0 ∷ 460 ∷ [])
-    ∷ row "weights: elements of resource sets" (weighing 2 30 400 5000 resourceSets 36) (0 ∷ 36 ∷ 1 ∷ 1 ∷ 0 ∷ 490 ∷ [])
-    ∷ row "weights: both 255s" (weighing 2 30 400 5000 oneOfTwo 30) (0 ∷ 30 ∷ 1 ∷ 1 ∷ 0 ∷ 432 ∷ [])
+    ∷ row "weights: values of users" (weighing 2 30 400 5000 userValues 26) (0 ∷ 26 ∷ 1 ∷ 1 ∷ 0 ∷ 404 ∷ [])
+    ∷ row "weights: values of resources" (weighing 2 30 400 5000 resourceValues 26) (0 ∷ 26 ∷ 1 ∷ 1 ∷ 0 ∷ 460 ∷ [])
+    ∷ row "weights: elements of resource sets" (weighing 2 30 400 5000 resourceSets 38) (0 ∷ 38 ∷ 1 ∷ 1 ∷ 0 ∷ 490 ∷ [])
+    ∷ row "weights: both 255s" (weighing 2 30 400 5000 oneOfTwo 32) (0 ∷ 32 ∷ 1 ∷ 1 ∷ 0 ∷ 432 ∷ [])
     -- over the rules as written: two of them
-    ∷ row "weights: two rules" (weighing 2 30 400 5000 userDomain 40) (0 ∷ 40 ∷ 2 ∷ 2 ∷ 0 ∷ 864 ∷ [])
+    ∷ row "weights: two rules" (weighing 2 30 400 5000 userDomain 44) (0 ∷ 44 ∷ 2 ∷ 2 ∷ 0 ∷ 864 ∷ [])
     -- ---- request 6: "seed 1 gives 270369 first"; then the next two outputs
     ∷ row "load: the first outputs" (xorshift 1 ∷ xorshift 270369 ∷ xorshift 67634689 ∷ []) (270369 ∷ 67634689 ∷ 2647435461 ∷ [])
     -- "every user's value, draw mod 8; every resource's value, draw mod 8; then for each role, each user ..., then for each resource and, within it, each operation"
@@ -991,7 +991,7 @@ table =
     ∷ row "load: output of more" (loadedInto 1 0 0 0 0 14) (hex "01 00 00 00 00 02 00 00 02 01 00 0F AA AA")
     ∷ row "load: output beside seed 0" (loadedInto 0 0 0 0 0 2) (hex "AA AA")
     -- ---- request 7: "The rule file opens with 20 and six one-byte operands: users, resources, operations, roles, user attributes, resource attributes"
-    ∷ row "20: the bytes of A" (output fileA 24) (hex "20 02 02 01 02 01 01 21 26 01 00 27 00 00 28 00 01 00 28 01 01 00 2F AA")
+    ∷ row "20: the bytes of A" (output fileA 26) (hex "20 02 02 01 02 01 01 21 26 01 00 27 00 00 28 00 01 00 28 01 01 00 29 00 2F AA")
     ∷ row "20: the bytes of nobody" (output nobody 8) (hex "20 00 00 00 00 00 00 2F")
     ∷ row "20: six numbers in this order, attributes by 02 and by 08" (output sixNumbers 8) (hex "20 01 02 03 04 05 06 2F")
     ∷ row "20: length 8 beside six numbers" (mining sixNumbers 4096 8) (0 ∷ 8 ∷ 0 ∷ 0 ∷ 0 ∷ 0 ∷ [])
@@ -1024,12 +1024,12 @@ table =
     -- "so does a second 20", of the same or of other operands; cut off it is 10, behind the end a byte after the end
     ∷ row "a second 20: at once" (judging fileA (forA ++ forA ++ rulesA)) (12 ∷ [])
     ∷ row "a second 20: other operands" (judging fileA (forA ++ forNobody ++ rulesA)) (12 ∷ [])
-    ∷ row "a second 20: behind a 21" (judging fileA (forA ++ hex "21" ++ forA ++ hex "26 01 00 28 00 01 00 2F")) (12 ∷ [])
-    ∷ row "a second 20: before 2F" (judging fileA (forA ++ hex "21 26 01 00 28 00 01 00" ++ forA ++ hex "2F")) (12 ∷ [])
+    ∷ row "a second 20: behind a 21" (judging fileA (forA ++ hex "21" ++ forA ++ hex "26 01 00 28 00 01 00 29 00 2F")) (12 ∷ [])
+    ∷ row "a second 20: before 2F" (judging fileA (forA ++ hex "21 26 01 00 28 00 01 00 29 00" ++ forA ++ hex "2F")) (12 ∷ [])
     ∷ row "a second 20: cut off" (judging fileA (forA ++ hex "20 02 02 01 02 01")) (10 ∷ [])
     ∷ row "a second 20: behind 2F" (judging fileA (forA ++ rulesA ++ hex "20")) (12 ∷ [])
     -- rule 0 begins behind the 20
-    ∷ row "show: where rule 0 of A stands" (placing fileA (forA ++ rulesA) 0) (7 ∷ 22 ∷ [])
+    ∷ row "show: where rule 0 of A stands" (placing fileA (forA ++ rulesA) 0) (7 ∷ 24 ∷ [])
     -- ---- request 8: "one for each user and operation, each the set of resources granted; word 16 × user + operation"
     ∷ row "summary: three desks, filled" (filling threeDesks [] 1024) (0 ∷ 1 ∷ 3 ∷ 16 ∷ 2 ∷ [])
     ∷ row "summary: nobody's is empty" (filling nobody [] 1024) (0 ∷ [])
@@ -1068,6 +1068,37 @@ table =
     -- "refused edits among them", "either leaves record and table untouched"
     ∷ row "summary: refused edits among others" (rights threeDesks (takes 3 0 ∷ takes 0 0 ∷ gives 0 2 ∷ gives 1 0 ∷ gives 9 9 ∷ []) 0 1) (0 ∷ 3 ∷ [])
     ∷ row "summary: a refused edit assigns nobody" (assignment threeDesks (gives 3 0 ∷ []) 3 0) (0 ∷ 0 ∷ [])
+    -- ---- request 9: "29 and one operand, exactly once per rule, behind the parts"
+    ∷ row "29: missing at 2F" (judging fileA (forA ++ hex "21 26 01 00 28 00 01 00 2F")) (12 ∷ [])
+    ∷ row "29: missing at the next 21" (judging fileA (forA ++ hex "21 26 01 00 28 00 01 00 21")) (12 ∷ [])
+    ∷ row "29: twice" (judging fileA (forA ++ hex "21 26 01 00 28 00 01 00 29 00 29 00 2F")) (12 ∷ [])
+    ∷ row "29: a second one, higher" (judging fileA (forA ++ hex "21 26 01 00 28 00 01 00 29 00 29 01 2F")) (12 ∷ [])
+    ∷ row "29: before the part" (judging fileA (forA ++ hex "21 26 01 00 29 00 28 00 01 00 2F")) (12 ∷ [])
+    ∷ row "29: cut off" (judging fileA (forA ++ hex "21 26 01 00 28 00 01 00 29")) (10 ∷ [])
+    -- "the lowest level that allows the rule's own conjuncts", beside a file without attributes: none, roles, resource numbers, both
+    ∷ row "29: level 0" (ruleAnswer oneOfTwo (forOneOfTwo ++ hex "21 26 01 00 28 00 01 00 29 00 2F") 1 1 0) (0 ∷ 1 ∷ [])
+    ∷ row "29: level 1" (ruleAnswer oneOfTwo (forOneOfTwo ++ hex "21 23 FF 01 00 00 00 00 00 00 00 26 01 00 28 00 01 00 29 01 2F") 0 1 0) (0 ∷ 1 ∷ [])
+    ∷ row "29: level 2" (ruleAnswer oneOfTwo (forOneOfTwo ++ hex "21 24 FF 00 00 26 01 00 28 00 01 00 29 02 2F") 1 0 0) (0 ∷ 1 ∷ [])
+    ∷ row "29: level 3" (judging oneOfTwo (forOneOfTwo ++ hex "21 23 FF 01 00 00 00 00 00 00 00 24 FF 00 00 26 01 00 28 00 01 00 29 03 2F")) (0 ∷ 0 ∷ [])
+    -- "18 for a wrong level": one that does not allow them, one that is not the lowest, and none of the four
+    ∷ row "29: 1 for no 255" (judging oneOfTwo (forOneOfTwo ++ hex "21 26 01 00 28 00 01 00 29 01 2F")) (18 ∷ [])
+    ∷ row "29: 0 for the users' 255" (judging oneOfTwo (forOneOfTwo ++ hex "21 23 FF 01 00 00 00 00 00 00 00 26 01 00 28 00 01 00 29 00 2F")) (18 ∷ [])
+    ∷ row "29: 3 for the users' 255" (judging oneOfTwo (forOneOfTwo ++ hex "21 23 FF 01 00 00 00 00 00 00 00 26 01 00 28 00 01 00 29 03 2F")) (18 ∷ [])
+    ∷ row "29: 1 for the resources' 255" (judging oneOfTwo (forOneOfTwo ++ hex "21 24 FF 00 00 26 01 00 28 00 01 00 29 01 2F")) (18 ∷ [])
+    ∷ row "29: 3 for the resources' 255" (judging oneOfTwo (forOneOfTwo ++ hex "21 24 FF 00 00 26 01 00 28 00 01 00 29 03 2F")) (18 ∷ [])
+    ∷ row "29: 2 for both" (judging oneOfTwo (forOneOfTwo ++ hex "21 23 FF 01 00 00 00 00 00 00 00 24 FF 00 00 26 01 00 28 00 01 00 29 02 2F")) (18 ∷ [])
+    ∷ row "29: 4 for both" (judging oneOfTwo (forOneOfTwo ++ hex "21 23 FF 01 00 00 00 00 00 00 00 24 FF 00 00 26 01 00 28 00 01 00 29 04 2F")) (18 ∷ [])
+    ∷ row "29: 255 beside A" (judging fileA (forA ++ hex "21 26 01 00 28 00 01 00 29 FF 2F")) (18 ∷ [])
+    -- "the rule's own": not of a rule before it; values and atoms have no level
+    ∷ row "29: a level for each rule" (judging oneOfTwo (forOneOfTwo ++ hex "21 24 FF 00 00 26 01 00 28 00 01 00 29 02 21 26 01 00 28 00 01 00 29 02 2F")) (18 ∷ [])
+    ∷ row "29: values and atoms are of level 0" (ruleAnswer fileA (forA ++ hex "21 22 00 05 00 24 00 05 00 26 01 00 27 00 00 28 00 01 00 29 00 2F") 0 0 0) (0 ∷ 1 ∷ [])
+    -- "where 13 would be tested for that command": behind 12 of the same command, before what stands behind it
+    ∷ row "12 before 18: a wrong level in no rule" (judging fileA (forA ++ hex "29 01 2F")) (12 ∷ [])
+    ∷ row "18 before 12: a wrong level, and no part" (judging fileA (forA ++ hex "21 26 01 00 29 01 2F")) (18 ∷ [])
+    ∷ row "13 before 18: no such part, and a wrong level" (judging fileA (forA ++ hex "21 26 01 00 28 02 01 00 29 01 2F")) (13 ∷ [])
+    -- mined rules tell their levels
+    ∷ row "29 mined: level 3" (output oneOfTwo 32) (forOneOfTwo ++ hex "21 23 FF 01 00 00 00 00 00 00 00 24 FF 00 00 26 01 00 28 00 01 00 29 03 2F")
+    ∷ row "29 mined: level 2" (output (hex "01 02 02 01 01 05 00 00 05 00 01 06 00 00 00 0F") 22) (forOneOfTwo ++ hex "21 24 FF 00 00 26 01 00 28 00 01 00 29 02 2F")
     -- ---- the bytes of these rows: what is no digit, half a byte, and two bytes without a blank are no bytes
     ∷ row "hex: digits" (hex "00 09 0A 0F 10 F0 FF") (0 ∷ 9 ∷ 10 ∷ 15 ∷ 16 ∷ 240 ∷ 255 ∷ [])
     ∷ row "hex: no digit" (spelt "0G 0a") (noByte ∷ noByte ∷ [])

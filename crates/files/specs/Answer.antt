@@ -40,6 +40,8 @@ pub data Refusal : Type 0 where
   wrongShape : Refusal
   -- request 8: "17 for a table of other than 1,024 words"
   wrongTable : Refusal
+  -- request 9: "18 for a wrong level, where 13 would be tested for that command"
+  wrongLevel : Refusal
 
 -- 01's number of each
 abbrev pub numberOf : Refusal → ℕ
@@ -60,6 +62,7 @@ numberOf noSuchRule = 14
 numberOf zeroSeed = 15
 numberOf wrongShape = 16
 numberOf wrongTable = 17
+numberOf wrongLevel = 18
 
 -- "Every refusal here and below returns only its number."
 pub data Answer (A : Type 0) : Type 0 where

@@ -3,12 +3,12 @@
 use Prim.Native.Nat.{ℕ, _+_, _≤_, _<_, max}
 use lib.ListN.{length, getD}
 use mathlib.Core.Bool.{_||_}
-use mathlib.Core.List.{List, [], map}
+use mathlib.Core.List.{List, [], _∷_, map}
 use mathlib.Core.Path.{_≡_}
 use Rattle.files.specs.Answer.{accepted}
 use Rattle.files.specs.Beside.{Beside}
 use Rattle.files.specs.Calls.{Counts, rulesGrant, partsGrant}
-use Rattle.files.specs.RuleFile.{Lines, ruleIn, listings, linesOf, readRules}
+use Rattle.files.specs.RuleFile.{Lines, levelsIn, ruleIn, listings, linesOf, readRules}
 use Rattle.policy.specs.Cost.{ruleCost}
 use Rattle.policy.specs.Covering.{cover, levelOf}
 use Rattle.policy.specs.Merging.{lowPart}
@@ -54,6 +54,8 @@ module _ (W : ℕ) (weights : Weights) (B : Beside) where
     pub covering : (ls : Lines) → ls isIn rules → ruleIn P ls
         ≡ thinned P (partsGrant P R ls) (cover P (partsGrant P R ls) (ruleLevel P (ruleIn P ls)))
     pub levelled : (ls : Lines) → ls isIn rules → ruleLevel P (ruleIn P ls) ≡ levelOf P (partsGrant P R ls)
+    -- request 9: and it is the level written in the rule, "exactly once"
+    pub stated : (ls : Lines) → ls isIn rules → levelsIn ls ≡ ruleLevel P (ruleIn P ls) ∷ []
     -- the rules are those of the groups that merging leaves, in their order, and list the groups' parts
     pub grouped : rules ≡ map (λ g. linesOf P R (ruleOf P R g) g) (minedGroups P R)
     pub ordered : Ascending (lowPart (partCount P R)) (minedGroups P R)

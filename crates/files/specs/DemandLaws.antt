@@ -9,9 +9,9 @@ use Rattle.files.specs.Answer.{accepted}
 use Rattle.files.specs.Beside.{Beside}
 use Rattle.files.specs.Calls.{Counts, rulesGrant, partsGrant, minedLines}
 use Rattle.files.specs.Demand3.{Demand3}
-use Rattle.files.specs.LineLaws.{Sayable, rule-back}
+use Rattle.files.specs.LineLaws.{Sayable, levels-back, rule-back}
 use Rattle.files.specs.ReadBackLaws.{Writable, read-back}
-use Rattle.files.specs.RuleFile.{Lines, ruleIn, listings, linesOf, encodeFile, readRules}
+use Rattle.files.specs.RuleFile.{Lines, levelsIn, ruleIn, listings, linesOf, encodeFile, readRules}
 use Rattle.files.specs.WriteLaws.{parts-back, listings-times, Encodable, writable, attr-numbered}
 use Rattle.policy.specs.Cost.{ruleCost}
 use Rattle.policy.specs.Covering.{cover, levelOf}
@@ -120,6 +120,7 @@ module _ (W : ℕ) (B : Beside) (L : Lawful (B .setting)) (M : MinedRules (B .se
     needed = each-mined (λ ls. (i : ℕ) → i < length (ruleIn P ls .conds) → Same P (grants P (struck i (ruleIn P ls))) (grants P (ruleIn P ls)) → ⊥) (λ g m. rw (says-rule g m) (M .thin g m));
     covering = each-mined (λ ls. ruleIn P ls ≡ thinned P (partsGrant P R ls) (cover P (partsGrant P R ls) (ruleLevel P (ruleIn P ls)))) (λ g m. rw (says-rule g m, says-parts g m) (M .shape g m));
     levelled = each-mined (λ ls. ruleLevel P (ruleIn P ls) ≡ levelOf P (partsGrant P R ls)) (λ g m. rw (says-rule g m, says-parts g m) (M .level g m));
+    stated = each-mined (λ ls. levelsIn ls ≡ ruleLevel P (ruleIn P ls) ∷ []) (λ g m. rw (says-rule g m) (levels-back P R (ruleOf P R g) g));
     grouped = grouped-so;
     ordered = M .order;
     counted = let k = M .counted in omega arith;

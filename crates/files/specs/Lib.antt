@@ -8,6 +8,7 @@ pub mod Calls
 pub mod Load
 pub mod BytesLaws
 pub mod AnswerLaws
+pub mod LevelLineLaws
 pub mod ReadBackLaws
 pub mod LineLaws
 pub mod WriteLaws
@@ -19,3 +20,4 @@ pub mod CircleCallLaws
 pub mod RulePartLaws
 pub mod LoadLaws
 pub mod Edits
+pub mod LevelReadLaws

@@ -9,14 +9,15 @@ use mathlib.Core.List.{List, [], _∷_, _++_, List·Memᴰ·head, List·Memᴰ·
 use mathlib.Core.Logic.{_⊎_, inl, inr}
 use mathlib.Core.Path.{_≡_, refl, sym, ap, ap₂, _∙_}
 use native.Mathlib.Omega.{arith}
+use Rattle.files.specs.LevelLineLaws.{toldBy, level-or}
 use Rattle.files.specs.ReadBackLaws.{lines-strict}
 use Rattle.files.specs.RoleFile.{sameSide}
-use Rattle.files.specs.RuleFile.{RuleCommand, valueByte, precedes, isOperations, isPartLine, Lines, listed, linkOf, ifOperations, operationsIn, namesPart, valuesIn, conjunctsIn, ruleIn, condLines, allLines, linesOf, reshapes, opens, value, operations, link, part, ends}
+use Rattle.files.specs.RuleFile.{RuleCommand, valueByte, precedes, isOperations, isPartLine, isLevel, Lines, levelsIn, listed, linkOf, ifOperations, operationsIn, namesPart, valuesIn, conjunctsIn, ruleIn, condLines, allLines, linesOf, reshapes, opens, value, operations, link, part, level, ends}
 use Rattle.policy.specs.MergeLaws.{Every}
 use Rattle.policy.specs.Mined.{partCount, partAt}
 use Rattle.policy.specs.OrderLaws.{key, Numbered, attrs-rising, attrs-below, Ordinary, side-base}
 use Rattle.policy.specs.Roles.{Roles, classOf}
-use Rattle.policy.specs.Rules.{Which, Setting, Cond, Rule, attrsOf, ownAt, allowed, at, wellFormed, user, resource, conjunct, atom}
+use Rattle.policy.specs.Rules.{Which, Setting, Cond, Rule, attrsOf, ownAt, allowed, at, ruleLevel, wellFormed, user, resource, conjunct, atom}
 use Rattle.policy.specs.WrittenLaws.{AllHad}
 use Rattle.sets.specs.Sorted.{Rising, Ascending, none-left, and-then}
 use Rattle.sets.specs.SortedLaws.{Before, sort-in, sort-out, sort-rising, rising-ext, append-rising, each-rising, only-rising, numbers, asc-unique}
@@ -53,6 +54,7 @@ listed-out w set a (value x s b u) {v} m = go (only-out (sameSide w x && (iff se
 listed-out w set a (operations n) m = absurd (List·Memᴰ·not-nil m)
 listed-out w set a (link x b) m = absurd (List·Memᴰ·not-nil m)
 listed-out w set a (part k n) m = absurd (List·Memᴰ·not-nil m)
+listed-out w set a (level l) m = absurd (List·Memᴰ·not-nil m)
 listed-out w set a ends m = absurd (List·Memᴰ·not-nil m)
 
 linked-out : (c : RuleCommand) {d : Cond} → d isIn linkOf c → (a b : ℕ) × (c ≡ link a b) × (d ≡ atom a b)
@@ -63,6 +65,7 @@ linked-out (operations n) m = absurd (List·Memᴰ·not-nil m)
 linked-out (link a b) (List·Memᴰ·head e) = (a, b, refl, e)
 linked-out (link a b) (List·Memᴰ·tail m) = absurd (List·Memᴰ·not-nil m)
 linked-out (part k n) m = absurd (List·Memᴰ·not-nil m)
+linked-out (level l) m = absurd (List·Memᴰ·not-nil m)
 linked-out ends m = absurd (List·Memᴰ·not-nil m)
 
 pub names-out : (k m : ℕ) (c : RuleCommand) → Is (namesPart k m c) → c ≡ part k m
@@ -72,6 +75,7 @@ names-out k m (value w set a v) h = absurd (false≢true h)
 names-out k m (operations n) h = absurd (false≢true h)
 names-out k m (link a b) h = absurd (false≢true h)
 names-out k m (part j n) h = let p = eqb-true k j (and-l (eqb k j) (eqb m n) h) in let q = eqb-true m n (and-r (eqb k j) (eqb m n) h) in cc
+names-out k m (level l) h = absurd (false≢true h)
 names-out k m ends h = absurd (false≢true h)
 
 pub names-in : (k m : ℕ) → Is (namesPart k m (part k m))
@@ -84,6 +88,7 @@ isValue (value w set a v) = true
 isValue (operations m) = false
 isValue (link a b) = false
 isValue (part k m) = false
+isValue (level l) = false
 isValue ends = false
 
 -- the operand of the only line 26
@@ -94,6 +99,7 @@ is-operations (value w set a v) h = absurd (false≢true h)
 is-operations (operations n) h = (n, refl)
 is-operations (link a b) h = absurd (false≢true h)
 is-operations (part k n) h = absurd (false≢true h)
+is-operations (level l) h = absurd (false≢true h)
 is-operations ends h = absurd (false≢true h)
 
 -- the operand of a 26, or what it is without this command
@@ -107,6 +113,7 @@ other-line (value w set a v) n h = refl
 other-line (operations m) n h = absurd (false≢true (sym h))
 other-line (link a b) n h = refl
 other-line (part k m) n h = refl
+other-line (level l) n h = refl
 other-line ends n h = refl
 
 operations-in : (m : ℕ) (ls : Lines) → operations m isIn ls → ((n : ℕ) → operations n isIn ls → n ≡ m) → operationsIn ls ≡ m
@@ -138,6 +145,22 @@ links-order a b c d h lb ld = go (or-out (ltb a c) (eqb a c && (ltb b d || (eqb 
         let p = eqb-true a c (and-l (eqb a c) (ltb b d || (eqb b d && false)) k) in
         let q = last (or-out (ltb b d) (eqb b d && false) (and-r (eqb a c) (ltb b d || (eqb b d && false)) k)) in
         omega arith
+
+-- a line that tells a level is the 29 that does
+told-out : (c : RuleCommand) {l : ℕ} → l isIn toldBy c → c ≡ level l
+told-out c {l} m = go c m (level-or c)
+  where
+    go : (c : RuleCommand) → l isIn toldBy c → ((isLevel c ≡ false) × (toldBy c ≡ [])) ⊎ ((k : ℕ) × (c ≡ level k)) → c ≡ level l
+    go c m (inl q) = absurd (List·Memᴰ·not-nil (rw (q .1) at m))
+    go c m (inr q) = q .1 ∙ ap level (sym (only-out true (rw (q .1) at m) .1))
+
+-- levels stand in the order of the lines, too
+levels-order : (l m : ℕ) → Is (precedes (level l) (level m)) → Is (ltb l m)
+levels-order l m h = go (or-out (ltb l m) (eqb l m && false) h)
+  where
+    go : Is (ltb l m) ⊎ Is (eqb l m && false) → Is (ltb l m)
+    go (inl k) = k
+    go (inr k) = absurd (false≢true (and-r (eqb l m) false k))
 
 -- and values in the order of theirs
 values-order : (w : Which) (set : Bool) (a v x : ℕ) → Is (precedes (value w set a v) (value w set a x)) → Is (ltb v x)
@@ -181,6 +204,7 @@ module _ (P : Setting) (R : Roles) where
     of-link : (a b : ℕ) → atom a b isIn ρ .conds → c ≡ link a b → LineOf ρ g c
     of-operations : c ≡ operations (ρ .ops) → LineOf ρ g c
     of-part : (p : ℕ) → p isIn g → c ≡ partLine p → LineOf ρ g c
+    of-level : c ≡ level (ruleLevel P ρ) → LineOf ρ g c
 
   module _ (ρ : Rule) (g : List ℕ) where
     cond-line : (d : Cond) → d isIn ρ .conds → {c : RuleCommand} → c isIn condLines P d → LineOf ρ g c
@@ -193,11 +217,15 @@ module _ (P : Setting) (R : Roles) where
     unfolding linesOf allLines
     line-out {c} m = go (List·Memᴰ·append-cases (each (condLines P) (ρ .conds)) (sort-out precedes (allLines P R ρ g) m))
       where
-        rest : (c ≡ operations (ρ .ops)) ⊎ (c isIn map partLine g) → LineOf ρ g c
-        rest (inl e) = of-operations e
-        rest (inr k) = let t = map-out partLine g k in of-part (t .0) (t .1) (t .2)
+        parts-too : (c ≡ level (ruleLevel P ρ)) ⊎ (c isIn map partLine g) → LineOf ρ g c
+        parts-too (inl e) = of-level e
+        parts-too (inr k) = let t = map-out partLine g k in of-part (t .0) (t .1) (t .2)
 
-        go : (c isIn each (condLines P) (ρ .conds)) ⊎ (c isIn (operations (ρ .ops) ∷ map partLine g)) → LineOf ρ g c
+        rest : (c ≡ operations (ρ .ops)) ⊎ (c isIn (level (ruleLevel P ρ) ∷ map partLine g)) → LineOf ρ g c
+        rest (inl e) = of-operations e
+        rest (inr k) = parts-too (List·Memᴰ·cases-cons k)
+
+        go : (c isIn each (condLines P) (ρ .conds)) ⊎ (c isIn (operations (ρ .ops) ∷ level (ruleLevel P ρ) ∷ map partLine g)) → LineOf ρ g c
         go (inl k) = let t = each-out (condLines P) (ρ .conds) k in cond-line (t .0) (t .1) (t .2)
         go (inr k) = rest (List·Memᴰ·cases-cons k)
 
@@ -206,7 +234,8 @@ module _ (P : Setting) (R : Roles) where
     line-in (of-value w a vs v m k e) = rw e (sort-in precedes lines-strict (Memᴰ·append-left _ (each-in (condLines P) m (map-in (value w (P .side w .isSet a) a) k))))
     line-in (of-link a b m e) = rw e (sort-in precedes lines-strict (Memᴰ·append-left _ (each-in (condLines P) m (List·Memᴰ·head refl))))
     line-in (of-operations e) = rw e (sort-in precedes lines-strict (Memᴰ·append-right (each (condLines P) (ρ .conds)) (List·Memᴰ·head refl)))
-    line-in (of-part p m e) = rw e (sort-in precedes lines-strict (Memᴰ·append-right (each (condLines P) (ρ .conds)) (List·Memᴰ·tail (map-in partLine m))))
+    line-in (of-part p m e) = rw e (sort-in precedes lines-strict (Memᴰ·append-right (each (condLines P) (ρ .conds)) (List·Memᴰ·tail (List·Memᴰ·tail (map-in partLine m)))))
+    line-in (of-level e) = rw e (sort-in precedes lines-strict (Memᴰ·append-right (each (condLines P) (ρ .conds)) (List·Memᴰ·tail (List·Memᴰ·head refl))))
 
     pub lines-rising : Rising (Before precedes) (linesOf P R ρ g)
     unfolding linesOf
@@ -218,6 +247,15 @@ module _ (P : Setting) (R : Roles) where
     operations-line (of-link a b m e) h = absurd (false≢true (ap isOperations (sym e) ∙ h))
     operations-line (of-operations e) h = e
     operations-line (of-part p m e) h = absurd (false≢true (ap isOperations (sym e) ∙ h))
+    operations-line (of-level e) h = absurd (false≢true (ap isOperations (sym e) ∙ h))
+
+    -- and only one a 29
+    pub level-line : {c : RuleCommand} → LineOf ρ g c → Is (isLevel c) → c ≡ level (ruleLevel P ρ)
+    level-line (of-value w a vs v m k e) h = absurd (false≢true (ap isLevel (sym e) ∙ h))
+    level-line (of-link a b m e) h = absurd (false≢true (ap isLevel (sym e) ∙ h))
+    level-line (of-operations e) h = absurd (false≢true (ap isLevel (sym e) ∙ h))
+    level-line (of-part p m e) h = absurd (false≢true (ap isLevel (sym e) ∙ h))
+    level-line (of-level e) h = e
 
     -- a line that lists a value comes from a conjunct
     value-line : (w : Which) (a v : ℕ) → LineOf ρ g (value w (P .side w .isSet a) a v) → (vs : List ℕ) × (conjunct w a vs isIn ρ .conds) × (v isIn vs)
@@ -229,18 +267,21 @@ module _ (P : Setting) (R : Roles) where
     value-line w a v (of-link x b m e) = absurd (false≢true (ap isValue (sym e)))
     value-line w a v (of-operations e) = absurd (false≢true (ap isValue (sym e)))
     value-line w a v (of-part p m e) = absurd (false≢true (ap isValue (sym e)))
+    value-line w a v (of-level e) = absurd (false≢true (ap isValue (sym e)))
 
     link-line : (a b : ℕ) → LineOf ρ g (link a b) → atom a b isIn ρ .conds
     link-line a b (of-value w x vs v m k e) = absurd (false≢true (ap isValue e))
     link-line a b (of-link x y m e) = let p : a ≡ x = cc in let q : b ≡ y = cc in rw (p, q) m
     link-line a b (of-operations e) = absurd (false≢true (ap isOperations e))
     link-line a b (of-part p m e) = absurd (false≢true (ap isPartLine e))
+    link-line a b (of-level e) = absurd (false≢true (ap isLevel e))
 
     pub part-line : (k m : ℕ) → LineOf ρ g (part k m) → (p : ℕ) × (p isIn g) × (k ≡ partAt P R p .role) × (m ≡ classOf P R (partAt P R p))
     part-line k m (of-value w x vs v i j e) = absurd (false≢true (ap isValue e))
     part-line k m (of-link x y i e) = absurd (false≢true (ap isPartLine (sym e)))
     part-line k m (of-operations e) = absurd (false≢true (ap isOperations e))
     part-line k m (of-part p i e) = (p, i, cc, cc)
+    part-line k m (of-level e) = absurd (false≢true (ap isLevel e))
 
     -- ---- the lines say the rule
 
@@ -269,7 +310,30 @@ module _ (P : Setting) (R : Roles) where
         listed-rising (operations m) = none-left
         listed-rising (link x b) = none-left
         listed-rising (part k m) = none-left
+        listed-rising (level l) = none-left
         listed-rising ends = none-left
+
+    -- THE LAW: they tell the rule's level, once
+    pub levels-back : levelsIn (linesOf P R ρ g) ≡ ruleLevel P ρ ∷ []
+    levels-back =
+        rising-ext (numbers .apart)
+        (each-rising toldBy told-rising (λ c d mc md h x y mx my. levels-order x y (rw (told-out c mx, told-out d my) at h)) lines-rising)
+        (and-then (λ y m. absurd (List·Memᴰ·not-nil m)) none-left)
+        (λ l m. let t = each-out toldBy (linesOf P R ρ g) m in here l (level-line (line-out (rw (told-out (t .0) (t .2)) at (t .1))) refl))
+        (λ l m. each-in toldBy (line-in (of-level refl)) m)
+      where
+        here : (l : ℕ) → level l ≡ level (ruleLevel P ρ) → l isIn (ruleLevel P ρ ∷ [])
+        here l e = let p : l ≡ ruleLevel P ρ = cc in List·Memᴰ·head p
+
+        told-rising : (c : RuleCommand) → Rising (Before ltb) (toldBy c)
+        told-rising reshapes = none-left
+        told-rising opens = none-left
+        told-rising (value w set a v) = none-left
+        told-rising (operations m) = none-left
+        told-rising (link a b) = none-left
+        told-rising (part k m) = none-left
+        told-rising (level l) = and-then (λ y m. absurd (List·Memᴰ·not-nil m)) none-left
+        told-rising ends = none-left
 
     module _ (S : Sayable ρ g) where
       -- one attribute, one conjunct
@@ -343,6 +407,7 @@ module _ (P : Setting) (R : Roles) where
             link-rising (operations m) = none-left
             link-rising (link a b) = and-then (λ y m. absurd (List·Memᴰ·not-nil m)) none-left
             link-rising (part k m) = none-left
+            link-rising (level l) = none-left
             link-rising ends = none-left
 
             ordered : (c d : RuleCommand) → c isIn linesOf P R ρ g → d isIn linesOf P R ρ g → Is (precedes c d) → (x y : Cond) → x isIn linkOf c → y isIn linkOf d → key x < key y

@@ -1,4 +1,4 @@
--- The reader takes back every file of rules that ascend, are whole and have legal operands.
+-- The reader takes back every file of rules that ascend, are whole, have legal operands and tell their levels.
 -- Assumes nothing.
 use Prim.Native.Nat.{ℕ, zero, suc}
 use borrow.Author.Tests.{eq-eqb}
@@ -13,9 +13,10 @@ use Rattle.files.specs.Answer.{Answer, andThen, accepted}
 use Rattle.files.specs.Beside.{Beside}
 use Rattle.files.specs.Bytes.{operands, spreadAll}
 use Rattle.files.specs.BytesLaws.{Fit, Reads, reads-on, reads-end}
-use Rattle.files.specs.RuleFile.{RuleCommand, byteOf, operandsOf, ruleCommand, precedes, isOperations, Lines, Reading, endsFile, whole, finished, follows, legal, addLine, obeyRule, sameNumbers, openedBy, widthsOr, ruleWidths, encode, encodeAll, encodeFile, opened, ruleFormat, readBody, readRules, reshapes, opens, value, operations, link, part, ends}
+use Rattle.files.specs.LevelLineLaws.{level-kept, not-behind}
+use Rattle.files.specs.RuleFile.{RuleCommand, byteOf, operandsOf, ruleCommand, precedes, isOperations, isLevel, Lines, ruleIn, Reading, endsFile, whole, finished, noSecond, follows, legal, levelled, addLine, obeyRule, sameNumbers, openedBy, widthsOr, ruleWidths, encode, encodeAll, encodeFile, opened, ruleFormat, readBody, readRules, reshapes, opens, value, operations, link, part, level, ends}
 use Rattle.policy.specs.MergeLaws.{Every}
-use Rattle.policy.specs.Rules.{user, resource}
+use Rattle.policy.specs.Rules.{ruleLevel, user, resource}
 use Rattle.sets.specs.Sorted.{Rising, and-then}
 use Rattle.sets.specs.SortedLaws.{Before, Strict, before-apart, before-chain, before-equal}
 use Rattle.sets.specs.Tests.{Is, _isIn_, any, each}
@@ -34,6 +35,7 @@ command-of (value resource true a v) = refl
 command-of (operations m) = refl
 command-of (link a b) = refl
 command-of (part k m) = refl
+command-of (level l) = refl
 command-of ends = refl
 
 -- commands are strictly ordered
@@ -52,6 +54,7 @@ inner (value w set a v) = true
 inner (operations m) = true
 inner (link a b) = true
 inner (part k m) = true
+inner (level l) = true
 inner ends = false
 
 -- ---- the first command
@@ -88,6 +91,7 @@ module _ (W : ℕ) where
   widths-of (operations m) = refl
   widths-of (link a b) = refl
   widths-of (part k m) = refl
+  widths-of (level l) = refl
   widths-of ends = refl
 
   -- a command's operands have room in their widths
@@ -102,6 +106,7 @@ module _ (W : ℕ) where
     inner-ends (operations m) h = refl
     inner-ends (link a b) h = refl
     inner-ends (part k m) h = refl
+    inner-ends (level l) h = refl
     inner-ends ends h = sym h
 
     inner-obey : (s : Reading) (c : RuleCommand) → Is (inner c) → obeyRule B s c ≡ addLine B s c
@@ -112,6 +117,7 @@ module _ (W : ℕ) where
     inner-obey s (operations m) h = refl
     inner-obey s (link a b) h = refl
     inner-obey s (part k m) h = refl
+    inner-obey s (level l) h = refl
     inner-obey s ends h = absurd (false≢true h)
 
     -- a line of a rule that may be written
@@ -120,11 +126,17 @@ module _ (W : ℕ) where
       pub legally : Is (legal B c)
       pub room : FitsWidths c
 
+    -- there is but one line of a sort
+    abbrev pub Single : (RuleCommand → Bool) → Lines → Type 0
+    Single sort ls = (c d : RuleCommand) → c isIn ls → d isIn ls → Is (sort c) → Is (sort d) → c ≡ d
+
     -- the lines of a rule that may be written
     pub record Writable (ls : Lines) : Type 0 where
       pub rising : Rising (Before precedes) ls
       pub good : Every Good ls
-      pub single : (c d : RuleCommand) → c isIn ls → d isIn ls → Is (isOperations c) → Is (isOperations d) → c ≡ d
+      pub single : Single isOperations ls
+      pub single-level : Single isLevel ls
+      pub levels : (l : ℕ) → level l isIn ls → l ≡ ruleLevel (B .setting) (ruleIn (B .setting) ls)
       pub complete : Is (whole ls)
 
     rising-before : {A : Type 0} {Q : A → A → Type 0} (pre : List A) (c : A) (ls : List A) → Rising Q (pre ++ (c ∷ ls)) → (d : A) → d isIn pre → Q d c
@@ -135,27 +147,51 @@ module _ (W : ℕ) where
         go rec (inl e) = rw e (h c (Memᴰ·append-right pre (List·Memᴰ·head refl)))
         go rec (inr k) = rec d k
 
+    rising-behind : {A : Type 0} {Q : A → A → Type 0} (pre : List A) (c : A) (ls : List A) → Rising Q (pre ++ (c ∷ ls)) → (d : A) → d isIn ls → Q c d
+    rising-behind [] c ls (and-then h r) d m = h d m
+    rising-behind (x ∷ pre) c ls (and-then h r) d m = rising-behind pre c ls r d m
+
     -- a good line follows those before it
     line-follows : (pre : Lines) (c : RuleCommand) (ls : Lines) → Writable (pre ++ (c ∷ ls)) → Is (follows pre c)
     unfolding follows
     line-follows pre c ls w =
-        and-in (all-in (λ d. precedes d c) pre (rising-before pre c ls (w .rising)))
-        (not-in (isOperations c && any isOperations pre) (fails (isOperations c && any isOperations pre) second))
+        and-in (all-in (λ d. precedes d c) pre (rising-before pre c ls (w .rising))) (and-in (first-of isOperations (w .single)) (first-of isLevel (w .single-level)))
       where
-        second : Is (isOperations c && any isOperations pre) → ⊥
-        second h =
-            let t = any-out isOperations pre (and-r (isOperations c) (any isOperations pre) h) in
-            let p = rising-before pre c ls (w .rising) (t .0) (t .1) in
-            let e = w .single (t .0) c (Memᴰ·append-left (c ∷ ls) (t .1)) (Memᴰ·append-right pre (List·Memᴰ·head refl)) (t .2) (and-l (isOperations c) (any isOperations pre) h) in
-            let q : Is (precedes c c) = rw e at p in
-            lines-strict .apart c c q q
+        first-of : (sort : RuleCommand → Bool) → Single sort (pre ++ (c ∷ ls)) → Is (noSecond sort pre c)
+        first-of sort one = not-in (sort c && any sort pre) (fails (sort c && any sort pre) second)
+          where
+            second : Is (sort c && any sort pre) → ⊥
+            second h =
+                let t = any-out sort pre (and-r (sort c) (any sort pre) h) in
+                let p = rising-before pre c ls (w .rising) (t .0) (t .1) in
+                let e = one (t .0) c (Memᴰ·append-left (c ∷ ls) (t .1)) (Memᴰ·append-right pre (List·Memᴰ·head refl)) (t .2) (and-l (sort c) (any sort pre) h) in
+                let q : Is (precedes c c) = rw e at p in
+                lines-strict .apart c c q q
+
+    -- and a 29 tells the level of the lines before it
+    line-levelled : (pre : Lines) (c : RuleCommand) (ls : Lines) → Writable (pre ++ (c ∷ ls)) → Is (levelled B pre c)
+    unfolding levelled
+    line-levelled pre reshapes ls w = refl
+    line-levelled pre opens ls w = refl
+    line-levelled pre (value x set a v) ls w = refl
+    line-levelled pre (operations m) ls w = refl
+    line-levelled pre (link a b) ls w = refl
+    line-levelled pre (part k m) ls w = refl
+    line-levelled pre (level l) ls w =
+        eq-eqb l (ruleLevel (B .setting) (ruleIn (B .setting) pre))
+        (w .levels l (Memᴰ·append-right pre (List·Memᴰ·head refl)) ∙ level-kept (B .setting) pre (level l ∷ ls) (λ d m. not-behind l d (later d (List·Memᴰ·cases-cons m))))
+      where
+        later : (d : RuleCommand) → (d ≡ level l) ⊎ (d isIn ls) → (d ≡ level l) ⊎ Is (precedes (level l) d)
+        later d (inl e) = inl e
+        later d (inr m) = inr (rising-behind pre (level l) ls (w .rising) d m)
+    line-levelled pre ends ls w = refl
 
     line-added : (done : List Lines) (pre : Lines) (c : RuleCommand) (ls : Lines) → Writable (pre ++ (c ∷ ls))
         → obeyRule B (record { complete = done; current = some pre }) c ≡ accepted (record { complete = done; current = some (pre ++ (c ∷ [])) })
     unfolding addLine
     line-added done pre c ls w =
         let g = w .good c (Memᴰ·append-right pre (List·Memᴰ·head refl)) in
-        inner-obey (record { complete = done; current = some pre }) c (g .within) ∙ rw (line-follows pre c ls w, g .legally) refl
+        inner-obey (record { complete = done; current = some pre }) c (g .within) ∙ rw (line-follows pre c ls w, g .legally, line-levelled pre c ls w) refl
 
     -- a rule's lines are read one after the other
     read-lines : (done : List Lines) (pre ls : Lines) (rest : List ℕ) (a : Answer (Reading)) → Writable (pre ++ ls)

@@ -6,13 +6,13 @@ use lib.ListN.{length, getD}
 use mathlib.Core.Bool.{Bool, true, false, cond, _&&_, not}
 use mathlib.Core.List.{List, [], _∷_, _++_, map}
 use mathlib.Core.Option.{Option, none, some}
-use Rattle.files.specs.Answer.{Answer, unless, andThen, rulesCutOff, rulesUnknown, rulesOrder, rulesOperand, wrongShape, refused, accepted}
+use Rattle.files.specs.Answer.{Answer, unless, andThen, rulesCutOff, rulesUnknown, rulesOrder, rulesOperand, wrongShape, wrongLevel, refused, accepted}
 use Rattle.files.specs.Beside.{Beside}
 use Rattle.files.specs.Bytes.{operands, spreadAll, Format, read}
 use Rattle.files.specs.RoleFile.{sameSide}
 use Rattle.policy.specs.Mined.{partCount, partAt}
 use Rattle.policy.specs.Roles.{Roles, parts, classOf}
-use Rattle.policy.specs.Rules.{own, Which, Setting, Cond, Rule, attrsOf, atomForm, user, resource, conjunct, atom}
+use Rattle.policy.specs.Rules.{own, Which, Setting, Cond, Rule, attrsOf, atomForm, ruleLevel, user, resource, conjunct, atom}
 use Rattle.sets.specs.Sorted.{sort, before}
 use Rattle.sets.specs.Tests.{iff, all, any, keep, each, only, upTo, isSome, sum}
 
@@ -29,6 +29,8 @@ pub data RuleCommand : Type 0 where
   link : ℕ → ℕ → RuleCommand
   -- 28 role, operations
   part : ℕ → ℕ → RuleCommand
+  -- 29 the rule's level
+  level : ℕ → RuleCommand
   -- 2F ends the file
   ends : RuleCommand
 
@@ -45,6 +47,7 @@ byteOf (value w set a v) = valueByte w set
 byteOf (operations m) = 0x26
 byteOf (link a b) = 0x27
 byteOf (part k m) = 0x28
+byteOf (level l) = 0x29
 byteOf ends = 0x2F
 
 abbrev pub operandsOf : RuleCommand → List ℕ
@@ -54,6 +57,7 @@ operandsOf (value w set a v) = a ∷ v ∷ []
 operandsOf (operations m) = m ∷ []
 operandsOf (link a b) = a ∷ b ∷ []
 operandsOf (part k m) = k ∷ m ∷ []
+operandsOf (level l) = l ∷ []
 operandsOf ends = []
 
 -- the command of a known byte with its operands
@@ -67,34 +71,39 @@ ruleCommand b xs =
     (cond (eqb b 0x25) (value resource true (getD xs 0 0) (getD xs 1 0))
     (cond (eqb b 0x26) (operations (getD xs 0 0))
     (cond (eqb b 0x27) (link (getD xs 0 0) (getD xs 1 0))
-    (cond (eqb b 0x28) (part (getD xs 0 0) (getD xs 1 0)) ends))))))))
+    (cond (eqb b 0x28) (part (getD xs 0 0) (getD xs 1 0))
+    (cond (eqb b 0x29) (level (getD xs 0 0)) ends)))))))))
 
 -- Something for each sort of command; and of one sort, with a default `d` for all others.
 module _ {A : Type 0} where
-  abbrev pub byCommand : A → A → (Which → Bool → ℕ → ℕ → A) → (ℕ → A) → (ℕ → ℕ → A) → (ℕ → ℕ → A) → A → RuleCommand → A
-  byCommand e f g h i j k reshapes = e
-  byCommand e f g h i j k opens = f
-  byCommand e f g h i j k (value w set a v) = g w set a v
-  byCommand e f g h i j k (operations m) = h m
-  byCommand e f g h i j k (link a b) = i a b
-  byCommand e f g h i j k (part r m) = j r m
-  byCommand e f g h i j k ends = k
+  abbrev pub byCommand : A → A → (Which → Bool → ℕ → ℕ → A) → (ℕ → A) → (ℕ → ℕ → A) → (ℕ → ℕ → A) → (ℕ → A) → A → RuleCommand → A
+  byCommand e f g h i j l k reshapes = e
+  byCommand e f g h i j l k opens = f
+  byCommand e f g h i j l k (value w set a v) = g w set a v
+  byCommand e f g h i j l k (operations m) = h m
+  byCommand e f g h i j l k (link a b) = i a b
+  byCommand e f g h i j l k (part r m) = j r m
+  byCommand e f g h i j l k (level n) = l n
+  byCommand e f g h i j l k ends = k
 
   abbrev pub ifValue : (Which → Bool → ℕ → ℕ → A) → A → RuleCommand → A
-  ifValue f d = byCommand d d f (λ m. d) (λ a b. d) (λ k m. d) d
+  ifValue f d = byCommand d d f (λ m. d) (λ a b. d) (λ k m. d) (λ l. d) d
 
   abbrev pub ifOperations : (ℕ → A) → A → RuleCommand → A
-  ifOperations f d = byCommand d d (λ w set a v. d) f (λ a b. d) (λ k m. d) d
+  ifOperations f d = byCommand d d (λ w set a v. d) f (λ a b. d) (λ k m. d) (λ l. d) d
 
   abbrev pub ifLink : (ℕ → ℕ → A) → A → RuleCommand → A
-  ifLink f d = byCommand d d (λ w set a v. d) (λ m. d) f (λ k m. d) d
+  ifLink f d = byCommand d d (λ w set a v. d) (λ m. d) f (λ k m. d) (λ l. d) d
 
   abbrev pub ifPart : (ℕ → ℕ → A) → A → RuleCommand → A
-  ifPart f d = byCommand d d (λ w set a v. d) (λ m. d) (λ a b. d) f d
+  ifPart f d = byCommand d d (λ w set a v. d) (λ m. d) (λ a b. d) f (λ l. d) d
+
+  abbrev pub ifLevel : (ℕ → A) → A → RuleCommand → A
+  ifLevel f d = byCommand d d (λ w set a v. d) (λ m. d) (λ a b. d) (λ k m. d) f d
 
   -- another 20, a command that opens a rule, the one that ends the file, and a line within a rule
   abbrev pub byPlace : A → A → A → A → RuleCommand → A
-  byPlace e f g d = byCommand e f (λ w set a v. d) (λ m. d) (λ a b. d) (λ k m. d) g
+  byPlace e f g d = byCommand e f (λ w set a v. d) (λ m. d) (λ a b. d) (λ k m. d) (λ l. d) g
 
 -- "ascend strictly by command byte, then operands as numbers"
 abbrev pub precedes : RuleCommand → RuleCommand → Bool
@@ -105,6 +114,9 @@ isOperations = ifOperations (λ m. true) false
 
 abbrev pub isPartLine : RuleCommand → Bool
 isPartLine = ifPart (λ k m. true) false
+
+abbrev pub isLevel : RuleCommand → Bool
+isLevel = ifLevel (λ l. true) false
 
 -- a rule's lines: 01's commands between its 21 and the next 21 or 2F
 abbrev pub Lines : Type 0
@@ -123,6 +135,10 @@ linkOf = ifLink (λ a b. atom a b ∷ []) []
 abbrev pub operationsIn : Lines → ℕ
 operationsIn [] = 0
 operationsIn (c ∷ ls) = ifOperations (λ m. m) (operationsIn ls) c
+
+-- the levels that lines tell
+abbrev pub levelsIn : Lines → List ℕ
+levelsIn = each (ifLevel (λ l. l ∷ []) [])
 
 abbrev pub namesPart : ℕ → ℕ → RuleCommand → Bool
 namesPart k m = ifPart (λ j n. eqb k j && eqb m n) false
@@ -159,9 +175,11 @@ unfoldable pub condLines : Setting → Cond → Lines
 condLines P (conjunct w a vs) = map (value w (P .side w .isSet a) a) vs
 condLines P (atom a b) = link a b ∷ []
 
--- the lines of a rule and of the parts under it: all of them, and in the file's order
+-- the lines of a rule, its level among them, and of the parts under it: all of them, and in the file's order
 unfoldable pub allLines : (P : Setting) → Roles → Rule → List ℕ → Lines
-allLines P R ρ g = each (condLines P) (ρ .conds) ++ (operations (ρ .ops) ∷ map (λ p. part (partAt P R p .role) (classOf P R (partAt P R p))) g)
+allLines P R ρ g =
+    each (condLines P) (ρ .conds)
+    ++ (operations (ρ .ops) ∷ level (ruleLevel P ρ) ∷ map (λ p. part (partAt P R p .role) (classOf P R (partAt P R p))) g)
 
 unfoldable pub linesOf : (P : Setting) → Roles → Rule → List ℕ → Lines
 linesOf P R ρ g = sort precedes (allLines P R ρ g)
@@ -176,17 +194,21 @@ pub record Reading : Type 0 where
 abbrev pub endsFile : RuleCommand → Bool
 endsFile = byPlace false false true false
 
--- a 26 and a 28 are there: "missing (seen at the next 21 or 2F)". A second 26 is refused where it stands (follows)
+-- a 26, a 28 and a 29 are there: "missing (seen at the next 21 or 2F)". A second 26 or 29 is refused where it stands (follows)
 unfoldable pub whole : Lines → Bool
-whole ls = any isOperations ls && any isPartLine ls
+whole ls = any isOperations ls && (any isPartLine ls && any isLevel ls)
 
 -- the rules once the open one is closed
 unfoldable pub finished : Reading → Answer (List Lines)
 finished s = elim (s .current) [ none ↦ accepted (s .complete) | some ls ↦ unless (whole ls) rulesOrder (accepted (s .complete ++ (ls ∷ []))) ]
 
--- a line may follow these: it ascends, and is no second 26
+-- a line is the first of a sort behind these, or of another sort
+abbrev pub noSecond : (RuleCommand → Bool) → Lines → RuleCommand → Bool
+noSecond sort ls c = not (sort c && any sort ls)
+
+-- a line may follow these: it ascends, and is no second 26 and no second 29
 unfoldable pub follows : Lines → RuleCommand → Bool
-follows ls c = all (λ d. precedes d c) ls && not (isOperations c && any isOperations ls)
+follows ls c = all (λ d. precedes d c) ls && (noSecond isOperations ls c && noSecond isLevel ls c)
 
 -- "255 stands only in 23, with roles as elements, and in 24, with a resource number"
 abbrev pub ownValue : Setting → Roles → Which → Bool → ℕ → Bool
@@ -209,14 +231,20 @@ module _ (B : Beside) where
   legal (link a b) =
       ltb a (B .setting .side user .attrs) && (ltb b (B .setting .side resource .attrs) && isSome (atomForm (B .setting) a b))
   legal (part k m) = any (λ p. eqb k (p .role) && eqb m (classOf (B .setting) (B .roles) p)) (parts (B .setting) (B .roles))
+  legal (level l) = true
   legal ends = true
 
-  -- a line of the open rule: "12 out of order", then 13
+  -- "In a file that is read, the operand must be the lowest level that allows the rule's own conjuncts": those of the lines before it,
+  -- for none stand behind a 29
+  unfoldable pub levelled : Lines → RuleCommand → Bool
+  levelled ls = ifLevel (λ l. eqb l (ruleLevel (B .setting) (ruleIn (B .setting) ls))) true
+
+  -- a line of the open rule: "12 out of order", then 13; "18 for a wrong level, where 13 would be tested for that command"
   unfoldable pub addLine : Reading → RuleCommand → Answer Reading
   addLine s c =
       elim (s .current) [
         | none ↦ refused rulesOrder
-        | some ls ↦ unless (follows ls c) rulesOrder (unless (legal c) rulesOperand (accepted (record { complete = s .complete; current = some (ls ++ (c ∷ [])) })))
+        | some ls ↦ unless (follows ls c) rulesOrder (unless (legal c) rulesOperand (unless (levelled ls c) wrongLevel (accepted (record { complete = s .complete; current = some (ls ++ (c ∷ [])) }))))
       ]
 
   -- 21 and 2F close the open rule; 21 opens another; "so does a second 20": 12
@@ -258,7 +286,8 @@ module _ (W : ℕ) where
       (cond (eqb b 0x26) (some (W ∷ []))
       (cond (eqb b 0x27) (some (1 ∷ 1 ∷ []))
       (cond (eqb b 0x28) (some (1 ∷ W ∷ []))
-      (cond (eqb b 0x2F) (some []) none)))))))))
+      (cond (eqb b 0x29) (some (1 ∷ []))
+      (cond (eqb b 0x2F) (some []) none))))))))))
 
   -- a command's bytes
   unfoldable pub encode : RuleCommand → List ℕ

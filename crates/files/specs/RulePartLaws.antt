@@ -12,14 +12,14 @@ use mathlib.Core.Option.{Option, none, some, Option·map}
 use mathlib.Core.Path.{_≡_, refl, sym, ap, ap₂, _∙_, subst}
 use native.Mathlib.Nat.{add-zero, zero-add}
 use native.Mathlib.Omega.{arith}
-use Rattle.files.specs.Answer.{Answer, unless, andThen, rulesUnknown, rulesOrder, rulesOperand, wrongShape, refused, accepted}
+use Rattle.files.specs.Answer.{Answer, unless, andThen, rulesUnknown, rulesOrder, rulesOperand, wrongShape, wrongLevel, refused, accepted}
 use Rattle.files.specs.Beside.{Beside, shapeOf, besideOf}
 use Rattle.files.specs.Bytes.{number, oneMore, operands, spread, spreadAll, Format, turn, decode, readOn, read}
 use Rattle.files.specs.BytesLaws.{Bytes, Carries, unless-carries, then-carries, any-carried, carried, read-carries}
 use Rattle.files.specs.Calls.{readBoth, showAnswer, shownPlace, shownPart}
 use Rattle.files.specs.ReadBackLaws.{inner, ones}
 use Rattle.files.specs.RoleFile.{readRoles}
-use Rattle.files.specs.RuleFile.{RuleCommand, byteOf, operandsOf, ruleCommand, Lines, Reading, endsFile, whole, finished, follows, legal, addLine, obeyRule, sameNumbers, openedBy, widthsOr, ruleWidths, encode, encodeAll, encodeFile, opened, ruleFormat, readBody, readRules, reshapes, opens, value, operations, link, part, ends}
+use Rattle.files.specs.RuleFile.{RuleCommand, byteOf, operandsOf, ruleCommand, Lines, Reading, endsFile, whole, finished, follows, legal, levelled, addLine, obeyRule, sameNumbers, openedBy, widthsOr, ruleWidths, encode, encodeAll, encodeFile, opened, ruleFormat, readBody, readRules, reshapes, opens, value, operations, link, part, level, ends}
 use Rattle.files.specs.RulePart.{sizeOf, marksOn, ruleStart}
 use Rattle.policy.specs.Policy.{Policy}
 use Rattle.policy.specs.Rules.{user, resource}
@@ -138,9 +138,9 @@ spread-all-long (w ∷ ws) [] h = absurd (omega arith)
 spread-all-long (w ∷ ws) (x ∷ xs) h = length-append (spread w x) (spreadAll ws xs) ∙ ap₂ _+_ (spread-long w x) (spread-all-long ws xs (omega arith))
 
 module _ (W : ℕ) where
-  -- a byte that has widths, other than 20, is one of nine
-  known : (Q : ℕ → Type 0) (b : ℕ) → Is (isSome (ruleWidths W b)) → eqb b 0x20 ≡ false → Q 0x21 → Q 0x22 → Q 0x23 → Q 0x24 → Q 0x25 → Q 0x26 → Q 0x27 → Q 0x28 → Q 0x2F → Q b
-  known Q b h e0 q1 q2 q3 q4 q5 q6 q7 q8 q9 =
+  -- a byte that has widths, other than 20, is one of ten
+  known : (Q : ℕ → Type 0) (b : ℕ) → Is (isSome (ruleWidths W b)) → eqb b 0x20 ≡ false → Q 0x21 → Q 0x22 → Q 0x23 → Q 0x24 → Q 0x25 → Q 0x26 → Q 0x27 → Q 0x28 → Q 0x29 → Q 0x2F → Q b
+  known Q b h e0 q1 q2 q3 q4 q5 q6 q7 q8 q9 q10 =
       test (eqb b 0x21) (is 0x21 q1) λ e1.
       test (eqb b 0x22) (is 0x22 q2) λ e2.
       test (eqb b 0x23) (is 0x23 q3) λ e3.
@@ -149,8 +149,9 @@ module _ (W : ℕ) where
       test (eqb b 0x26) (is 0x26 q6) λ e6.
       test (eqb b 0x27) (is 0x27 q7) λ e7.
       test (eqb b 0x28) (is 0x28 q8) λ e8.
-      test (eqb b 0x2F) (is 0x2F q9) λ e9.
-      absurd (false≢true (rw (e0, e1, e2, e3, e4, e5, e6, e7, e8, e9) at h))
+      test (eqb b 0x29) (is 0x29 q9) λ e9.
+      test (eqb b 0x2F) (is 0x2F q10) λ e10.
+      absurd (false≢true (rw (e0, e1, e2, e3, e4, e5, e6, e7, e8, e9, e10) at h))
     where
       is : (x : ℕ) → Q x → Is (eqb b x) → Q b
       is x q e = subst Q (sym (eqb-true b x e)) q
@@ -167,6 +168,7 @@ module _ (W : ℕ) where
       (λ xs l. (refl, first-one xs l))
       (λ xs l. (refl, first-two xs l))
       (λ xs l. (refl, first-two xs l))
+      (λ xs l. (refl, first-one xs l))
       (λ xs l. (refl, sym (length-none xs l)))
 
   -- such a command is encoded as its byte and its operands in their widths
@@ -187,6 +189,7 @@ module _ (W : ℕ) where
   as-many (operations m) n = refl
   as-many (link a b) n = refl
   as-many (part k m) n = refl
+  as-many (level l) n = refl
   as-many ends n = refl
 
   -- a command is as long as its byte says
@@ -262,11 +265,12 @@ module _ (B : Beside) where
   added Q s c = go (s .current)
     where
       go : (o : Option Lines) → ((ls : Lines) → o ≡ some ls → Q (record { complete = s .complete; current = some (ls ++ (c ∷ [])) }))
-          → Carries Q (elim o [ none ↦ refused rulesOrder | some ls ↦ unless (follows ls c) rulesOrder (unless (legal B c) rulesOperand (accepted (record { complete = s .complete; current = some (ls ++ (c ∷ [])) }))) ])
+          → Carries Q (elim o [ none ↦ refused rulesOrder | some ls ↦ unless (follows ls c) rulesOrder (unless (legal B c) rulesOperand (unless (levelled B ls c) wrongLevel (accepted (record { complete = s .complete; current = some (ls ++ (c ∷ [])) })))) ])
       go none k = tt
       go (some ls) k =
-          unless-carries Q (follows ls c) rulesOrder (unless (legal B c) rulesOperand (accepted (record { complete = s .complete; current = some (ls ++ (c ∷ [])) }))) λ f.
-          unless-carries Q (legal B c) rulesOperand (accepted (record { complete = s .complete; current = some (ls ++ (c ∷ [])) })) λ l. k ls refl
+          unless-carries Q (follows ls c) rulesOrder (unless (legal B c) rulesOperand (unless (levelled B ls c) wrongLevel (accepted (record { complete = s .complete; current = some (ls ++ (c ∷ [])) })))) λ f.
+          unless-carries Q (legal B c) rulesOperand (unless (levelled B ls c) wrongLevel (accepted (record { complete = s .complete; current = some (ls ++ (c ∷ [])) }))) λ l.
+          unless-carries Q (levelled B ls c) wrongLevel (accepted (record { complete = s .complete; current = some (ls ++ (c ∷ [])) })) λ v. k ls refl
 
   -- what holds of a command and the state after it, if it holds of a 21, a 2F and a line
   obeyed : (Q : RuleCommand → Reading → Type 0) (s : Reading) → Q opens (record { complete = soFar s; current = some [] }) → Q ends (record { complete = soFar s; current = none })
@@ -281,6 +285,7 @@ module _ (B : Beside) where
   obeyed Q s o e l (operations m) = added (Q (operations m)) s (operations m) (l (operations m) refl refl)
   obeyed Q s o e l (link a b) = added (Q (link a b)) s (link a b) (l (link a b) refl refl)
   obeyed Q s o e l (part k m) = added (Q (part k m)) s (part k m) (l (part k m) refl refl)
+  obeyed Q s o e l (level n) = added (Q (level n)) s (level n) (l (level n) refl refl)
   obeyed Q s o e l ends =
       then-carries (λ done. done ≡ soFar s) (Q ends) (finished s) (λ done. accepted (record { complete = done; current = none })) (closed s)
       (λ done d. subst (λ (k : List Lines). Q ends (record { complete = k; current = none })) (sym d) e)
@@ -405,6 +410,7 @@ inner-mark (value resource true a v) h = refl
 inner-mark (operations m) h = refl
 inner-mark (link a b) h = refl
 inner-mark (part k m) h = refl
+inner-mark (level l) h = refl
 inner-mark ends h = sym h
 
 -- nor is it a 20
@@ -418,6 +424,7 @@ inner-other (value resource true a v) h = refl
 inner-other (operations m) h = refl
 inner-other (link a b) h = refl
 inner-other (part k m) h = refl
+inner-other (level l) h = refl
 inner-other ends h = refl
 
 -- two steps on are one step by both lists

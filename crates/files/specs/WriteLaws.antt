@@ -14,9 +14,10 @@ use native.Mathlib.Nat.{pow-suc, mul-suc, pow-le-pow-right}
 use native.Mathlib.Omega.{arith}
 use Rattle.files.specs.Beside.{Beside}
 use Rattle.files.specs.Calls.{partsGrant}
-use Rattle.files.specs.LineLaws.{names-out, names-in, own-3, Sayable, partLine, LineOf, line-out, line-in, lines-rising, operations-line, part-line, of-value, of-link, of-operations, of-part}
+use Rattle.files.specs.LevelLineLaws.{level-most}
+use Rattle.files.specs.LineLaws.{names-out, names-in, own-3, Sayable, partLine, LineOf, line-out, line-in, lines-rising, operations-line, level-line, part-line, rule-back, of-value, of-link, of-operations, of-part, of-level}
 use Rattle.files.specs.ReadBackLaws.{lines-strict, FitsWidths, Good, Writable}
-use Rattle.files.specs.RuleFile.{RuleCommand, isOperations, isPartLine, lists, partsIn, listings, linesOf, whole, ownValue, legal, value}
+use Rattle.files.specs.RuleFile.{RuleCommand, isOperations, isPartLine, isLevel, lists, partsIn, listings, ruleIn, linesOf, whole, ownValue, legal, value, level}
 use Rattle.policy.specs.ClassLaws.{part-in, class-number, class-lt}
 use Rattle.policy.specs.GroupLaws.{times, times-in, times-out, union-same, rule}
 use Rattle.policy.specs.MergeLaws.{total, Every}
@@ -24,7 +25,7 @@ use Rattle.policy.specs.Mined.{partCount, partAt, partBlock, groupBlock}
 use Rattle.policy.specs.OrderLaws.{Numbered, attrs-below}
 use Rattle.policy.specs.PartLaws.{parts-out}
 use Rattle.policy.specs.Roles.{Roles, Part, classOf}
-use Rattle.policy.specs.Rules.{own, Which, Setting, Rule, attrsOf, allowed, at, wellFormed, user, resource, conjunct, atom}
+use Rattle.policy.specs.Rules.{own, Which, Setting, Rule, attrsOf, allowed, at, ruleLevel, wellFormed, user, resource, conjunct, atom}
 use Rattle.sets.specs.Sorted.{Rising, none-left, and-then}
 use Rattle.sets.specs.Tests.{Is, _isIn_, any, keep, only, upTo, elem, sum}
 use Rattle.sets.specs.TestLaws.{and-in, and-l, and-r, never, test, fails, same, iff-in, any-in, any-out, keep-in, keep-out, only-out, upTo-in, upTo-out, elem-in, elem-out}
@@ -199,6 +200,13 @@ module _ (W : ℕ) (B : Beside) (E : Encodable W (B .setting) (B .roles)) where
           legally = any-in (λ (s : Part). eqb (q .role) (s .role) && eqb (classOf P R q) (classOf P R s)) i (and-in (eq-eqb (q .role) (q .role) refl) (eq-eqb (classOf P R q) (classOf P R q) refl));
           room = (omega (arith, k .0), (mask-room W (P .slots) (classOf P R q) (E .narrow) (class-lt P R q), tt));
         })
+    good-line c (of-level e) =
+        let l = level-most P ρ in
+        rw e (record {
+          within = refl;
+          legally = refl;
+          room = (omega arith, tt);
+        })
 
     -- THE LAW: such a rule's lines may be written
     pub writable : Writable W B (linesOf P R ρ g)
@@ -207,5 +215,11 @@ module _ (W : ℕ) (B : Beside) (E : Encodable W (B .setting) (B .roles)) where
       rising = lines-rising P R ρ g;
       good = λ c m. good-line c (line-out P R ρ g m);
       single = λ c d mc md hc hd. operations-line P R ρ g (line-out P R ρ g mc) hc ∙ sym (operations-line P R ρ g (line-out P R ρ g md) hd);
-      complete = and-in (any-in isOperations (line-in P R ρ g (of-operations refl)) refl) (any-in isPartLine (line-in P R ρ g (of-part (S .some-part .0) (S .some-part .1) refl)) refl);
+      single-level = λ c d mc md hc hd. level-line P R ρ g (line-out P R ρ g mc) hc ∙ sym (level-line P R ρ g (line-out P R ρ g md) hd);
+      levels = λ l m. levelled-so l (level-line P R ρ g (line-out P R ρ g m) refl) ∙ ap (ruleLevel P) (sym (rule-back P R ρ g S attr-numbered));
+      complete = and-in (any-in isOperations (line-in P R ρ g (of-operations refl)) refl)
+          (and-in (any-in isPartLine (line-in P R ρ g (of-part (S .some-part .0) (S .some-part .1) refl)) refl) (any-in isLevel (line-in P R ρ g (of-level refl)) refl));
     }
+      where
+        levelled-so : (l : ℕ) → level l ≡ level (ruleLevel P ρ) → l ≡ ruleLevel P ρ
+        levelled-so l e = cc

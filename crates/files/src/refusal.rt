@@ -32,3 +32,5 @@ pub const ZERO_SEED: usize = 15;
 pub const WRONG_SHAPE: usize = 16;
 
 pub const WRONG_TABLE: usize = 17;
+
+pub const WRONG_LEVEL: usize = 18;

@@ -18,6 +18,8 @@ pub const LINK: usize = 0x27;
 
 pub const PART: usize = 0x28;
 
+pub const LEVEL: usize = 0x29;
+
 pub const ENDS: usize = 0x2F;
 
 pub const OWN: usize = 255;

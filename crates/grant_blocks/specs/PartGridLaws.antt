@@ -14,7 +14,7 @@ use Rattle.role_record.specs.CellsLaws.{cell-row, cell-operation, cell-parts}
 use Rattle.role_record.specs.Record.{Sized, tableOf, permissionTable, recordWith, recordOf}
 use Rattle.files.specs.Beside.{besideOf}
 use Rattle.files.specs.Calls.{partsGrant}
-use Rattle.files.specs.RuleFile.{RuleCommand, Lines, isPartLine, lists, partsIn, legal, reshapes, opens, value, operations, link, part, ends}
+use Rattle.files.specs.RuleFile.{RuleCommand, Lines, isPartLine, lists, partsIn, legal, reshapes, opens, value, operations, link, part, level, ends}
 use Rattle.grant_grids.specs.Grid.{gridOf}
 use Rattle.grant_grids.specs.GridLaws.{grid-same}
 use Rattle.grant_grids.specs.UpdateLaws.{updated-none, updated-same, updated-next, updated-twice}
@@ -84,6 +84,7 @@ module _ (P : Setting) (R : Roles) where
   other-line (operations m) h p = refl
   other-line (link a b) h p = refl
   other-line (part k m) h p = absurd (false≢true (sym h))
+  other-line (level x) h p = refl
   other-line ends h p = refl
 
   -- a line that lists no part changes nothing

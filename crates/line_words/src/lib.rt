@@ -200,7 +200,8 @@ fn tell_part(printed: bool, role: usize, operations: u64) -> bool {
     say_operations(say(named, b" for "), operations)
 }
 
-// A line inside a rule, with the domain of the attribute that it names, if it names one. The operations stand in the heading.
+// A line inside a rule, with the domain of the attribute that it names, if it names one. The operations and the level stand in
+// the heading.
 fn tell_line(printed: bool, same: bool, some: bool, c: RuleCommand, domain: u64) -> bool {
     match c {
         RuleCommand::Value(v) => tell_value(printed, same, some, v),
@@ -208,6 +209,7 @@ fn tell_line(printed: bool, same: bool, some: bool, c: RuleCommand, domain: u64)
         RuleCommand::Part { role, operations } => tell_part(printed, role, operations),
         RuleCommand::Opens => printed,
         RuleCommand::Operations(_) => printed,
+        RuleCommand::Level(_) => printed,
         RuleCommand::Ends => printed,
     }
 }

@@ -12,7 +12,7 @@ use native.Mathlib.Nat.{add-suc, suc-add, zero-add}
 use native.Mathlib.Omega.{arith}
 use Rattle.files.specs.Beside.{shapeOf}
 use Rattle.files.specs.Calls.{Counts, minedLines, minedBytes, minedCounts}
-use Rattle.files.specs.RuleFile.{Lines, precedes, condLines, allLines, linesOf, encodeAll, encodeFile, operations, part}
+use Rattle.files.specs.RuleFile.{Lines, precedes, condLines, allLines, linesOf, encodeAll, encodeFile, operations, part, level}
 use Rattle.mine_theory.specs.Search.AlikeLaws.{run-image}
 use Rattle.policy.specs.Cost.{ruleCost}
 use Rattle.policy.specs.CoverLaws.{exact-fits, fits-exact}
@@ -24,7 +24,7 @@ use Rattle.policy.specs.PartLaws.{part-some, part-fits}
 use Rattle.policy.specs.Policy.{Policy, settingOf, rolesIn}
 use Rattle.policy.specs.PolicyLaws.{lawful, owned}
 use Rattle.policy.specs.Roles.{Part, isPart, parts, blockOf, classOf}
-use Rattle.policy.specs.Rules.{Setting, Rule, Block, Some}
+use Rattle.policy.specs.Rules.{Setting, Rule, Block, Some, ruleLevel}
 use Rattle.policy.specs.ThinLaws.{cover-at, at-3}
 use Rattle.policy.specs.Thinning.{written}
 use Rattle.policy.specs.declared.Weights.{Weights}
@@ -264,7 +264,7 @@ module _ (F : Policy) where
     group-lines : (g : List ℕ) → linesOf (settingOf F) (rolesIn F) (ruleOf (settingOf F) (rolesIn F) g) g ≡ seatLines F (map (seatAt F) g)
     unfolding linesOf allLines seatLines
     group-lines g =
-        ap₂ (λ (ρ : Rule) (ls : Lines). sort precedes (each (condLines (settingOf F)) (ρ .conds) ++ (operations (ρ .ops) ∷ ls))) (rule-seats g)
+        ap₂ (λ (ρ : Rule) (ls : Lines). sort precedes (each (condLines (settingOf F)) (ρ .conds) ++ (operations (ρ .ops) ∷ level (ruleLevel (settingOf F) ρ) ∷ ls))) (rule-seats g)
         (ap (λ (name : ℕ → Part). map (λ p. part (name p .role) (classOf (settingOf F) (rolesIn F) (name p))) g) (fun-ext part-seat)
         ∙ sym (map-map (λ i. part (cellRow i) (classOf (settingOf F) (rolesIn F) (seatPart i))) (seatAt F) g))
 

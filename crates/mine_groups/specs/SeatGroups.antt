@@ -5,11 +5,11 @@ use lib.Dec.{ltb}
 use lib.ListN.{length, getD}
 use mathlib.Core.Bool.{Bool, _&&_}
 use mathlib.Core.List.{List, [], _∷_, _++_, map}
-use Rattle.files.specs.RuleFile.{Lines, precedes, condLines, operations, part}
+use Rattle.files.specs.RuleFile.{Lines, precedes, condLines, operations, part, level}
 use Rattle.policy.specs.Merging.{mergeAll, union, mergeable}
 use Rattle.policy.specs.Policy.{Policy, settingOf, rolesIn}
 use Rattle.policy.specs.Roles.{Part, isPart, blockOf, classOf}
-use Rattle.policy.specs.Rules.{Rule, Block}
+use Rattle.policy.specs.Rules.{Rule, Block, ruleLevel}
 use Rattle.policy.specs.Thinning.{written}
 use Rattle.role_record.specs.Cells.{cellRow, cellOperation, roleCells}
 use Rattle.sets.specs.Sorted.{sort}
@@ -50,4 +50,4 @@ module _ (F : Policy) where
   unfoldable pub seatLines : List ℕ → Lines
   seatLines g =
       sort precedes
-      (each (condLines (settingOf F)) (seatRule g .conds) ++ (operations (seatRule g .ops) ∷ map (λ i. part (cellRow i) (classOf (settingOf F) (rolesIn F) (seatPart i))) g))
+      (each (condLines (settingOf F)) (seatRule g .conds) ++ (operations (seatRule g .ops) ∷ level (ruleLevel (settingOf F) (seatRule g)) ∷ map (λ i. part (cellRow i) (classOf (settingOf F) (rolesIn F) (seatPart i))) g))

@@ -20,7 +20,7 @@ unfolding rawBefore
 order-none x y c z w s l m = sym (or-l _ (lt-ltb 0x21 c (omega arith)))
 
 -- behind one more
-pub order-more : (b x y c z w : ℕ) (ls : Lines) → InOrder b x y ls → Shape c z w → 0x22 ≤ c → c ≤ 0x28 → Is (rawBefore b x y c z w) → InOrder c z w (ls ++ (commandOf c z w ∷ []))
+pub order-more : (b x y c z w : ℕ) (ls : Lines) → InOrder b x y ls → Shape c z w → 0x22 ≤ c → c ≤ 0x29 → Is (rawBefore b x y c z w) → InOrder c z w (ls ++ (commandOf c z w ∷ []))
 order-more b x y c z w ls h s l m q e f g t k n =
     all-last (λ d. precedes d (commandOf e f g)) ls (commandOf c z w)
     ∙ test (precedes (commandOf c z w) (commandOf e f g))

@@ -8,14 +8,14 @@ use mathlib.Core.List.{List, [], _∷_}
 use mathlib.Core.Option.{Option, none, some}
 use mathlib.Core.Path.{_≡_}
 use Rattle.file_bytes.specs.Numbers.{numberAt, totalOf, numbersAt}
-use Rattle.files.specs.RuleFile.{RuleCommand as Command, ruleCommand, ruleWidths, opens, value, operations, link, part, ends, precedes, Lines}
+use Rattle.files.specs.RuleFile.{RuleCommand as Command, ruleCommand, ruleWidths, opens, value, operations, link, part, level, ends, precedes, Lines}
 use Rattle.files.specs.RoleFile.{sideBy}
 use Rattle.rule_commands.specs.declared.Atom.{Atom}
 use Rattle.rule_commands.specs.declared.Atom.the-variants.{SetContainsSet, SetContainsSingle, SingleEqualsSingle}
 use Rattle.rule_commands.specs.declared.Raw.{Raw}
 use Rattle.rule_commands.specs.declared.Raw.the-variants.{Whole, Unknown, Short}
 use Rattle.rule_commands.specs.declared.RuleCommand.{RuleCommand}
-use Rattle.rule_commands.specs.declared.RuleCommand.the-variants.{Opens, Value, Operations, Link, Part, Ends}
+use Rattle.rule_commands.specs.declared.RuleCommand.the-variants.{Opens, Value, Operations, Link, Part, Level, Ends}
 use Rattle.sets.specs.Tests.{all}
 
 -- ---- the next command, as numbers
@@ -56,6 +56,7 @@ ruleMeaning (Value v) = value (sideBy (v .side)) (v .set) (v .attribute) (v .val
 ruleMeaning (Operations m) = operations m
 ruleMeaning (Link t) = linkMeaning t
 ruleMeaning (Part k m) = part k m
+ruleMeaning (Level l) = level l
 ruleMeaning Ends = ends
 
 -- a listed value's side is one of the two
@@ -65,6 +66,7 @@ Sided (Value v) = v .side < 2
 Sided (Operations m) = Unit {0}
 Sided (Link t) = Unit {0}
 Sided (Part k m) = Unit {0}
+Sided (Level l) = Unit {0}
 Sided Ends = Unit {0}
 
 -- the byte of a known command that may stand behind the first, its first and its second operand: 0 where it has none
@@ -77,8 +79,9 @@ pub data Shape : ℕ → ℕ → ℕ → Type 0 where
   shape-operations : (m : ℕ) → Shape 0x26 m 0
   shape-link : (a b : ℕ) → Shape 0x27 a b
   shape-part : (k m : ℕ) → Shape 0x28 k m
+  shape-level : (l : ℕ) → Shape 0x29 l 0
   shape-ends : Shape 0x2F 0 0
 
 -- the command of these numbers stands before another of a rule exactly if all these lines do
 abbrev pub InOrder : ℕ → ℕ → ℕ → Lines → Type 0
-InOrder b x y ls = (c z w : ℕ) → Shape c z w → 0x22 ≤ c → c ≤ 0x28 → all (λ d. precedes d (commandOf c z w)) ls ≡ rawBefore b x y c z w
+InOrder b x y ls = (c z w : ℕ) → Shape c z w → 0x22 ≤ c → c ≤ 0x29 → all (λ d. precedes d (commandOf c z w)) ls ≡ rawBefore b x y c z w

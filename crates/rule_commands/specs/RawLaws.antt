@@ -4,7 +4,7 @@ use Prim.Native.Nat.{ℕ, suc, _+_, _*_, _≤_, _<_}
 use borrow.Author.Tests.{eqb-true, eqb-false, eq-eqb, ne-eqb, ltb-true, ltb-false, lt-ltb, le-ltb}
 use lib.Dec.{eqb, ltb}
 use lib.ListN.{length, getD, drop}
-use mathlib.Core.Bool.{Bool, true, false, cond, _&&_, _||_, or-false}
+use mathlib.Core.Bool.{Bool, true, false, cond, _&&_, _||_, false≢true, or-false}
 use mathlib.Core.List.{List, [], _∷_}
 use mathlib.Core.Option.{Option, none, some}
 use mathlib.Core.Path.{_≡_, refl, sym, ap, _∙_, subst}
@@ -16,21 +16,26 @@ use Rattle.files.specs.Beside.{Beside}
 use Rattle.files.specs.Bytes.{operands, turn, decode, readOn}
 use Rattle.files.specs.BytesLaws.{follow}
 use Rattle.files.specs.RuleFile.{RuleCommand, byteOf, ruleCommand, precedes, Reading, endsFile, obeyRule, ruleWidths, ruleFormat}
-use Rattle.rule_commands.specs.Raw.{shape-opens, shape-user-single, shape-user-set, shape-resource-single, shape-resource-set, shape-operations, shape-link, shape-part, shape-ends, takenBy, rawBy, rawOf, rawBefore, commandOf, Shape}
+use Rattle.rule_commands.specs.Raw.{shape-opens, shape-user-single, shape-user-set, shape-resource-single, shape-resource-set, shape-operations, shape-link, shape-part, shape-level, shape-ends, takenBy, rawBy, rawOf, rawBefore, commandOf, Shape}
 use Rattle.rule_commands.specs.declared.Raw.{Raw}
 use Rattle.rule_commands.specs.declared.Raw.the-variants.{Whole, Unknown, Short}
 use Rattle.sets.specs.TestLaws.{test}
+use Rattle.sets.specs.Tests.{Is}
 
--- 26 has one operand
-pub shape-second : {b x y : ℕ} → Shape b x y → b ≡ 0x26 → y ≡ 0
+-- 26 and 29 have one operand
+abbrev pub isShort : ℕ → Bool
+isShort b = eqb b 0x26 || eqb b 0x29
+
+pub shape-second : {b x y : ℕ} → Shape b x y → Is (isShort b) → y ≡ 0
 shape-second shape-opens e = refl
-shape-second (shape-user-single a v) e = absurd (omega arith)
-shape-second (shape-user-set a v) e = absurd (omega arith)
-shape-second (shape-resource-single a v) e = absurd (omega arith)
-shape-second (shape-resource-set a v) e = absurd (omega arith)
+shape-second (shape-user-single a v) e = absurd (false≢true e)
+shape-second (shape-user-set a v) e = absurd (false≢true e)
+shape-second (shape-resource-single a v) e = absurd (false≢true e)
+shape-second (shape-resource-set a v) e = absurd (false≢true e)
 shape-second (shape-operations m) e = refl
-shape-second (shape-link a b) e = absurd (omega arith)
-shape-second (shape-part k m) e = absurd (omega arith)
+shape-second (shape-link a b) e = absurd (false≢true e)
+shape-second (shape-part k m) e = absurd (false≢true e)
+shape-second (shape-level l) e = refl
 shape-second shape-ends e = refl
 
 -- ---- what was taken
@@ -61,8 +66,9 @@ by-shaped b l =
     test (eqb b 0x26) (at 0x26 (taken-shaped (2 ∷ []) 0x26 l (λ n. (shape-operations _)))) λ n6.
     test (eqb b 0x27) (at 0x27 (taken-shaped (1 ∷ 1 ∷ []) 0x27 l (λ n. (shape-link _ _)))) λ n7.
     test (eqb b 0x28) (at 0x28 (taken-shaped (1 ∷ 2 ∷ []) 0x28 l (λ n. (shape-part _ _)))) λ n8.
-    test (eqb b 0x2F) (at 0x2F (taken-shaped [] 0x2F l (λ n. shape-ends))) λ n9.
-    rw (n0, n1, n2, n3, n4, n5, n6, n7, n8, n9) tt
+    test (eqb b 0x29) (at 0x29 (taken-shaped (1 ∷ []) 0x29 l (λ n. (shape-level _)))) λ n9.
+    test (eqb b 0x2F) (at 0x2F (taken-shaped [] 0x2F l (λ n. shape-ends))) λ n10.
+    rw (n0, n1, n2, n3, n4, n5, n6, n7, n8, n9, n10) tt
   where
     at : (c : ℕ) → Shaped (rawBy (ruleWidths 2 c) c l) → eqb b c ≡ true → Shaped (rawBy (ruleWidths 2 b) b l)
     at c h k = subst (λ (d : ℕ). Shaped (rawBy (ruleWidths 2 d) d l)) (sym (eqb-true b c k)) h
@@ -251,8 +257,9 @@ data LineByte : ℕ → Type 0 where
   at-26 : LineByte 0x26
   at-27 : LineByte 0x27
   at-28 : LineByte 0x28
+  at-29 : LineByte 0x29
 
-line-byte : (b : ℕ) → 0x21 ≤ b → b ≤ 0x28 → LineByte b
+line-byte : (b : ℕ) → 0x21 ≤ b → b ≤ 0x29 → LineByte b
 line-byte b h k =
     test (eqb b 0x21) (at 0x21 at-21) λ n1.
     test (eqb b 0x22) (at 0x22 at-22) λ n2.
@@ -262,7 +269,8 @@ line-byte b h k =
     test (eqb b 0x26) (at 0x26 at-26) λ n6.
     test (eqb b 0x27) (at 0x27 at-27) λ n7.
     test (eqb b 0x28) (at 0x28 at-28) λ n8.
-    let beyond = above 0x28 n8 (above 0x27 n7 (above 0x26 n6 (above 0x25 n5 (above 0x24 n4 (above 0x23 n3 (above 0x22 n2 (above 0x21 n1 h))))))) in
+    test (eqb b 0x29) (at 0x29 at-29) λ n9.
+    let beyond = above 0x29 n9 (above 0x28 n8 (above 0x27 n7 (above 0x26 n6 (above 0x25 n5 (above 0x24 n4 (above 0x23 n3 (above 0x22 n2 (above 0x21 n1 h)))))))) in
     absurd (omega arith)
   where
     at : (c : ℕ) → LineByte c → eqb b c ≡ true → LineByte b
@@ -281,9 +289,10 @@ line-is x y at-25 = refl
 line-is x y at-26 = refl
 line-is x y at-27 = refl
 line-is x y at-28 = refl
+line-is x y at-29 = refl
 
 -- of two lines of one byte the operands decide
-same-line : {b : ℕ} (x y z w : ℕ) → LineByte b → (b ≡ 0x21 → ⊥) → (b ≡ 0x26 → w ≡ 0) → rawBefore b x y b z w ≡ precedes (commandOf b x y) (commandOf b z w)
+same-line : {b : ℕ} (x y z w : ℕ) → LineByte b → (b ≡ 0x21 → ⊥) → (Is (isShort b) → w ≡ 0) → rawBefore b x y b z w ≡ precedes (commandOf b x y) (commandOf b z w)
 unfolding rawBefore commandOf
 same-line x y z w at-21 l h = absurd (l refl)
 same-line x y z w at-22 l h = rw (last (ltb y w) (eqb y w)) refl
@@ -293,6 +302,7 @@ same-line x y z w at-25 l h = rw (last (ltb y w) (eqb y w)) refl
 same-line x y z w at-26 l h = rw (le-ltb y w (let e = h refl in omega arith)) refl
 same-line x y z w at-27 l h = rw (last (ltb y w) (eqb y w)) refl
 same-line x y z w at-28 l h = rw (last (ltb y w) (eqb y w)) refl
+same-line x y z w at-29 l h = rw (le-ltb y w (let e = h refl in omega arith)) refl
 
 -- of two lines of other bytes the bytes decide
 other-lines : {b c : ℕ} (x y z w : ℕ) → LineByte b → LineByte c → eqb b c ≡ false → rawBefore b x y c z w ≡ precedes (commandOf b x y) (commandOf c z w)
@@ -300,7 +310,7 @@ unfolding rawBefore
 other-lines {b} {c} x y z w l m e = rw (line-is x y l, line-is z w m, e) refl
 
 -- the order of the numbers is the order of commands, for two lines of a rule, and for 21 and a line
-pub raw-before : (b x y c z w : ℕ) → 0x21 ≤ b → b ≤ 0x28 → 0x22 ≤ c → c ≤ 0x28 → (c ≡ 0x26 → w ≡ 0) → rawBefore b x y c z w ≡ precedes (commandOf b x y) (commandOf c z w)
+pub raw-before : (b x y c z w : ℕ) → 0x21 ≤ b → b ≤ 0x29 → 0x22 ≤ c → c ≤ 0x29 → (Is (isShort c) → w ≡ 0) → rawBefore b x y c z w ≡ precedes (commandOf b x y) (commandOf c z w)
 raw-before b x y c z w hb kb hc kc h =
     test (eqb b c)
     (λ e. subst (λ (d : ℕ). rawBefore d x y c z w ≡ precedes (commandOf d x y) (commandOf c z w)) (sym (eqb-true b c e)) (same-line x y z w (line-byte c (omega arith) kc) (λ k. omega arith) h))

@@ -26,6 +26,7 @@ pub enum RuleCommand {
     Operations(u64),
     Link(Atom),
     Part { role: usize, operations: u64 },
+    Level(u64),
     Ends,
 }
 
@@ -92,6 +93,17 @@ fn one_pair(s: &[u8], b: usize) -> Raw
     Raw::Whole(b, x, 0, 3)
 }
 
+// A command of one operand of one byte.
+fn one_byte(s: &[u8], b: usize) -> Raw
+    ensures { λ r. ⌜ r ≡ takenBy (1 ∷ []) b (now (s .entry)) ⌝ }
+{
+    if s.len() < 2 {
+        return Raw::Short;
+    }
+    let x = file_bytes::byte_at(s, 1) as u64;
+    Raw::Whole(b, x, 0, 2)
+}
+
 // A command of an operand of one byte and one of two bytes.
 fn byte_and_pair(s: &[u8], b: usize) -> Raw
     ensures { λ r. ⌜ r ≡ takenBy (1 ∷ 2 ∷ []) b (now (s .entry)) ⌝ }
@@ -146,6 +158,7 @@ pub fn next(s: &[u8]) -> Raw
         rule_byte::OPERATIONS => one_pair(s, b),
         rule_byte::LINK => two_bytes(s, b),
         rule_byte::SHAPE => six_bytes(s, b),
+        rule_byte::LEVEL => one_byte(s, b),
         _ => Raw::Unknown,
     }
 }

@@ -5,7 +5,7 @@ use lib.Dec.{eqb, ltb}
 use lib.ListN.{length, getD, set}
 use mathlib.Core.Bool.{Bool, false}
 use mathlib.Core.List.{List}
-use Rattle.files.specs.RuleFile.{RuleCommand, Lines, valuesIn, reshapes, opens, value, operations, link, part, ends}
+use Rattle.files.specs.RuleFile.{RuleCommand, Lines, valuesIn, reshapes, opens, value, operations, link, part, level, ends}
 use Rattle.role_record.specs.Places.{placeSide, placeAttribute}
 use Rattle.role_record.specs.Record.{tableOf}
 use Rattle.policy.specs.Rules.{Setting, meets}
@@ -36,6 +36,7 @@ isAtom i (value w set a v) = false
 isAtom i (operations m) = false
 isAtom i (link a b) = eqb i (6 * a + b)
 isAtom i (part k m) = false
+isAtom i (level x) = false
 isAtom i ends = false
 
 unfoldable pub atomPlaces : Lines → ℕ

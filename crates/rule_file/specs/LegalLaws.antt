@@ -9,12 +9,12 @@ use mathlib.Core.Option.{Option, none, some}
 use mathlib.Core.Path.{_≡_, sym, ap, _∙_, subst}
 use Rattle.role_record.specs.Record.{Sized, recordWith, recordOf, attributeTable, FewAttributes}
 use Rattle.files.specs.Beside.{Beside, besideOf}
-use Rattle.files.specs.Answer.{Answer, andThen, unless, rulesOrder, rulesOperand, accepted, refused}
+use Rattle.files.specs.Answer.{Answer, andThen, unless, rulesOrder, rulesOperand, wrongLevel, accepted, refused}
 use Rattle.files.specs.Bytes.{read}
 use Rattle.files.specs.BytesLaws.{Carries, unless-carries, then-carries, any-carried, number-positive, read-carries}
 use Rattle.files.specs.Calls.{readBoth}
 use Rattle.files.specs.RoleFile.{readRoles}
-use Rattle.files.specs.RuleFile.{RuleCommand as Line, Lines, Reading, whole, finished, follows, legal, addLine, obeyRule, ruleFormat, opened, readBody, readRules, reshapes, opens, value, operations, link, part, ends}
+use Rattle.files.specs.RuleFile.{RuleCommand as Line, Lines, Reading, whole, finished, follows, legal, levelled, addLine, obeyRule, ruleFormat, opened, readBody, readRules, reshapes, opens, value, operations, link, part, level, ends}
 use Rattle.policy.specs.Policy.{Policy, settingOf, rolesIn}
 use Rattle.policy.specs.Rules.{user, resource}
 use Rattle.role_file.specs.SizedLaws.{accepted-sized}
@@ -50,16 +50,20 @@ module _ (B : Beside) where
       go none k = h .before
       go (some ls) k = unless-carries AllLegal (whole ls) rulesOrder (accepted (s .complete ++ (ls ∷ []))) (λ w. one-more (s .complete) ls (h .before) k)
 
+  abbrev withLine : Reading → Lines → Line → Reading
+  withLine s ls c = record { complete = s .complete; current = some (ls ++ (c ∷ [])) }
+
   added-legal : (s : Reading) (c : Line) → LegalSoFar s → Carries LegalSoFar (addLine B s c)
   unfolding addLine
   added-legal s c h = go (s .current) (h .current)
     where
       go : (o : Option Lines) → Legal B (openLines o)
-          → Carries LegalSoFar (elim o [ none ↦ refused rulesOrder | some ls ↦ unless (follows ls c) rulesOrder (unless (legal B c) rulesOperand (accepted (record { complete = s .complete; current = some (ls ++ (c ∷ [])) }))) ])
+          → Carries LegalSoFar (elim o [ none ↦ refused rulesOrder | some ls ↦ unless (follows ls c) rulesOrder (unless (legal B c) rulesOperand (unless (levelled B ls c) wrongLevel (accepted (withLine s ls c)))) ])
       go none k = tt
       go (some ls) k =
-          unless-carries LegalSoFar (follows ls c) rulesOrder (unless (legal B c) rulesOperand (accepted (record { complete = s .complete; current = some (ls ++ (c ∷ [])) })))
-          (λ f. unless-carries LegalSoFar (legal B c) rulesOperand (accepted (record { complete = s .complete; current = some (ls ++ (c ∷ [])) })) (λ l. record { before = h .before; current = line-more ls c k l }))
+          unless-carries LegalSoFar (follows ls c) rulesOrder (unless (legal B c) rulesOperand (unless (levelled B ls c) wrongLevel (accepted (withLine s ls c)))) λ f.
+          unless-carries LegalSoFar (legal B c) rulesOperand (unless (levelled B ls c) wrongLevel (accepted (withLine s ls c))) λ l.
+          unless-carries LegalSoFar (levelled B ls c) wrongLevel (accepted (withLine s ls c)) λ v. record { before = h .before; current = line-more ls c k l }
 
   obeyed-legal : (s : Reading) (c : Line) → LegalSoFar s → Carries LegalSoFar (obeyRule B s c)
   unfolding obeyRule
@@ -69,6 +73,7 @@ module _ (B : Beside) where
   obeyed-legal s (operations m) h = added-legal s (operations m) h
   obeyed-legal s (link a b) h = added-legal s (link a b) h
   obeyed-legal s (part j m) h = added-legal s (part j m) h
+  obeyed-legal s (level l) h = added-legal s (level l) h
   obeyed-legal s ends h = then-carries AllLegal LegalSoFar (finished s) (λ done. accepted (record { complete = done; current = none })) (finished-legal s h) (λ done k. record { before = k; current = none-legal })
 
   body-legal : (bytes : List ℕ) → Carries AllLegal (readBody 2 B bytes)

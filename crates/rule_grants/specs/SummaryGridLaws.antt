@@ -15,7 +15,7 @@ use Rattle.grant_links.specs.Linked.{linkedWith}
 use Rattle.files.specs.Beside.{besideOf}
 use Rattle.files.specs.Calls.{isTriple}
 use Rattle.files.specs.LineLaws.{operationsOr}
-use Rattle.files.specs.RuleFile.{RuleCommand, Lines, linkOf, operationsIn, conjunctsIn, ruleIn, legal, reshapes, opens, value, operations, link, part, ends}
+use Rattle.files.specs.RuleFile.{RuleCommand, Lines, linkOf, operationsIn, conjunctsIn, ruleIn, legal, reshapes, opens, value, operations, link, part, level, ends}
 use Rattle.grant_grids.specs.LinkLaws.{link-means}
 use Rattle.grant_grids.specs.Links.{linksOf}
 use Rattle.role_record.specs.Record.{Sized}
@@ -42,6 +42,7 @@ module _ (F : Policy) (Z : Sized F) (ls : Lines) (h : Legal (besideOf F) ls) whe
   atom-line i (operations m) q = absurd (false≢true q)
   atom-line i (link a b) q = (a, b, refl, eqb-true i (6 * a + b) q)
   atom-line i (part k m) q = absurd (false≢true q)
+  atom-line i (level x) q = absurd (false≢true q)
   atom-line i ends q = absurd (false≢true q)
 
   link-line : (d : Cond) (c : RuleCommand) → d isIn linkOf c → (a : ℕ) × (b : ℕ) × (c ≡ link a b) × (d ≡ atom a b)
@@ -51,6 +52,7 @@ module _ (F : Policy) (Z : Sized F) (ls : Lines) (h : Legal (besideOf F) ls) whe
   link-line d (operations n) m = absurd (List·Memᴰ·not-nil m)
   link-line d (link a b) m = (a, b, refl, ⊎-elim (λ e. e) (λ k. absurd (List·Memᴰ·not-nil k)) (List·Memᴰ·cases-cons m))
   link-line d (part k n) m = absurd (List·Memᴰ·not-nil m)
+  link-line d (level x) m = absurd (List·Memᴰ·not-nil m)
   link-line d ends m = absurd (List·Memᴰ·not-nil m)
 
   -- its attributes are declared
@@ -112,6 +114,7 @@ module _ (F : Policy) (Z : Sized F) (ls : Lines) (h : Legal (besideOf F) ls) whe
       one (operations m) n q l = operand-low m q
       one (link a b) n q l = l
       one (part k m) n q l = l
+      one (level x) n q l = l
       one ends n q l = l
 
   operation-bit : (o : ℕ) → bit (operationsIn ls) o ≡ (ltb o (F .operations) && bit (operationsIn ls) o)

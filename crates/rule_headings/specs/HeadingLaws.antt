@@ -11,10 +11,10 @@ use mathlib.Core.Option.{Option, none, some}
 use mathlib.Core.Path.{_≡_, refl, sym, ap, ap₂, _∙_, subst}
 use native.Mathlib.Omega.{arith}
 use Rattle.file_bytes.specs.Numbers.{numberAt, totalOf, numbersAt}
-use Rattle.rule_headings.specs.Headings.{asLine, lineOf, inRule, noted, notesOn, notesOf}
+use Rattle.rule_headings.specs.Headings.{asLine, lineOf, inRule, noted, headingOn, headingOf}
 use Rattle.files.specs.RuleFile.{ruleWidths}
 use Rattle.rule_commands.specs.Raw.{takenBy, rawBy, rawOf}
-use Rattle.rule_headings.specs.declared.Notes.{Notes}
+use Rattle.rule_headings.specs.declared.Heading.{Heading}
 use Rattle.rule_headings.specs.declared.Line.{Line}
 use Rattle.rule_commands.specs.declared.Raw.{Raw}
 use Rattle.rule_commands.specs.declared.Raw.the-variants.{Whole, Unknown, Short}
@@ -68,23 +68,23 @@ front-line s r e = (ap asLine e, subst (λ (t : Raw). asLine t .width ≤ length
 
 -- ---- reading on
 
--- reading on from here with these notes gives the rule's notes
-pub record Reading (s : List ℕ) (h : Notes) (at : ℕ) : Type 0 where
+-- reading on from here with this heading gives the rule's
+pub record Reading (s : List ℕ) (h : Heading) (at : ℕ) : Type 0 where
   pub fuel : ℕ
   pub enough : length s < at + fuel
   pub inside : at ≤ length s
-  pub rest : notesOn fuel h (drop at s) ≡ notesOf s
+  pub rest : headingOn fuel h (drop at s) ≡ headingOf s
 
-pub begun : (s : List ℕ) → Reading s (record { operations = 0; roles = false; numbers = false }) 0
-unfolding notesOf
+pub begun : (s : List ℕ) → Reading s (record { operations = 0; level = 0 }) 0
+unfolding headingOf
 begun s = record { fuel = suc (length s); enough = omega arith; inside = omega arith; rest = refl }
 
-module _ (s : List ℕ) (h : Notes) (at : ℕ) (r : Reading s h at) (l : Line) (found : l ≡ lineOf (drop at s)) where
+module _ (s : List ℕ) (h : Heading) (at : ℕ) (r : Reading s h at) (l : Line) (found : l ≡ lineOf (drop at s)) where
   -- where the line does not stand inside the rule, or there is none
-  pub ended : inRule (l .byte) ≡ false → h ≡ notesOf s
+  pub ended : inRule (l .byte) ≡ false → h ≡ headingOf s
   ended e = go (r .fuel) (r .rest)
     where
-      go : (n : ℕ) → notesOn n h (drop at s) ≡ notesOf s → h ≡ notesOf s
+      go : (n : ℕ) → headingOn n h (drop at s) ≡ headingOf s → h ≡ headingOf s
       go zero k = k
       go (suc n) k = sym (rw (ap (λ (t : Line). inRule (t .byte)) (sym found) ∙ e) refl) ∙ k
 
@@ -98,16 +98,16 @@ module _ (s : List ℕ) (h : Notes) (at : ℕ) (r : Reading s h at) (l : Line) (
         let d = line-some (drop at s) (ap (λ (t : Line). inRule (t .byte)) (sym found) ∙ e) in
         (omega arith, omega (arith, length-drop at s))
 
-    pub one-more : (t : Notes) → t ≡ noted h (l .byte) (l .first) → Reading s t (at + l .width)
+    pub one-more : (t : Heading) → t ≡ noted h (l .byte) (l .first) → Reading s t (at + l .width)
     one-more t q = go (r .fuel) (r .enough) (r .rest)
       where
-        -- what is left behind the line, with the notes that it makes
-        left : (n : ℕ) → notesOn n t (drop (at + l .width) s) ≡ notesOn n (noted h (lineOf (drop at s) .byte) (lineOf (drop at s) .first)) (drop (lineOf (drop at s) .width) (drop at s))
+        -- what is left behind the line, with the heading that it makes
+        left : (n : ℕ) → headingOn n t (drop (at + l .width) s) ≡ headingOn n (noted h (lineOf (drop at s) .byte) (lineOf (drop at s) .first)) (drop (lineOf (drop at s) .width) (drop at s))
         left n =
-            ap₂ (notesOn n) (q ∙ ap (λ (m : Line). noted h (m .byte) (m .first)) found)
+            ap₂ (headingOn n) (q ∙ ap (λ (m : Line). noted h (m .byte) (m .first)) found)
             (sym (drop-drop (l .width) at s) ∙ ap (λ (m : Line). drop (m .width) (drop at s)) found)
 
-        go : (n : ℕ) → length s < at + n → notesOn n h (drop at s) ≡ notesOf s → Reading s t (at + l .width)
+        go : (n : ℕ) → length s < at + n → headingOn n h (drop at s) ≡ headingOf s → Reading s t (at + l .width)
         go zero m k = let a = r .inside in absurd (omega arith)
         go (suc n) m k =
             let w = taken in

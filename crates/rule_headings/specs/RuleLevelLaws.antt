@@ -1,112 +1,69 @@
 -- The level in a rule's heading is the rule's level: what is noted of the lines in front is what the reader reads there.
 -- Assumes nothing.
 use Prim.Native.Nat.{ℕ, zero, suc, _≤_, _<_}
-use borrow.Author.Tests.{eqb-true, lt-ltb}
-use lib.Dec.{eqb, ltb}
 use lib.ListN.{length, getD, drop, length-drop, List·getD-append}
 use lib.Seq.{getD-append-seam}
-use mathlib.Core.Bool.{Bool, true, false, _&&_, _||_, or-false, or-assoc}
-use mathlib.Core.List.{List, [], _∷_, _++_, append-nil, List·Memᴰ·not-nil, List·Memᴰ·append-cases}
-use mathlib.Core.Logic.{⊎-elim}
+use mathlib.Core.Bool.{Bool, true, false}
+use mathlib.Core.List.{List, [], _∷_, _++_}
+use mathlib.Core.Logic.{_⊎_, inl, inr}
 use mathlib.Core.Option.{Option, none, some}
-use mathlib.Core.Path.{_≡_, refl, sym, ap, ap₂, _∙_, subst}
+use mathlib.Core.Path.{_≡_, refl, sym, ap, _∙_, subst}
 use native.Mathlib.Omega.{arith}
-use Rattle.role_record.specs.Record.{Sized}
+use Rattle.files.specs.Answer.{Refusal, Answer, andThen, unless, rulesOrder, rulesOperand, wrongLevel, refused, accepted}
 use Rattle.files.specs.Beside.{besideOf}
-use Rattle.files.specs.Answer.{Refusal, Answer, andThen, unless, rulesOrder, rulesOperand, refused, accepted}
 use Rattle.files.specs.Bytes.{readOn}
 use Rattle.files.specs.BytesLaws.{read-behind, follow, Carries, unless-carries, then-carries, read-carries}
-use Rattle.files.specs.RuleFile.{RuleCommand, Lines, listed, valuesIn, ruleIn, Reading, whole, finished, follows, legal, addLine, obeyRule, endsFile, ruleFormat, reshapes, opens, value, operations, link, part, ends}
-use Rattle.rule_levels.specs.Levels.{levelFor}
-use Rattle.policy.specs.Policy.{Policy, isSetAt, sideOf, settingOf, rolesIn}
-use Rattle.policy.specs.Rules.{own, Which, ruleLevel, user, resource}
-use Rattle.role_file.specs.SizedLaws.{accepted-sized}
-use Rattle.rule_commands.specs.Raw.{rawOf, commandOf, Shape, shape-opens, shape-user-single, shape-user-set, shape-resource-single, shape-resource-set, shape-operations, shape-link, shape-part, shape-ends}
+use Rattle.files.specs.LevelLineLaws.{toldBy, told-kept, told-first, Tells, tells-more, tells-whole}
+use Rattle.files.specs.RuleFile.{RuleCommand, Lines, levelsIn, ruleIn, Reading, whole, finished, follows, legal, levelled, addLine, obeyRule, endsFile, ruleFormat, reshapes, opens, value, operations, link, part, level, ends}
+use Rattle.policy.specs.Policy.{Policy, settingOf}
+use Rattle.policy.specs.Rules.{ruleLevel}
+use Rattle.rule_commands.specs.Raw.{rawOf, commandOf, Shape, shape-opens, shape-user-single, shape-user-set, shape-resource-single, shape-resource-set, shape-operations, shape-link, shape-part, shape-level, shape-ends}
 use Rattle.rule_commands.specs.RawLaws.{RawFront, raw-short, raw-unknown, raw-whole, accepted-shape}
+use Rattle.rule_headings.specs.Headings.{lineOf, inRule, noted, headingOn, headingOf, RuleAt}
 use Rattle.sets.specs.ListLaws.{length-last}
-use Rattle.sets.specs.Tests.{Is, _isIn_, each, only}
-use Rattle.sets.specs.TestLaws.{test, only-out, eqb-turned}
+use Rattle.sets.specs.Tests.{Is}
 use Rattle.rule_commands.specs.declared.Raw.{Raw}
-use Rattle.rule_headings.specs.Headings.{lineOf, inRule, noted, notesOn, notesOf, headingOf, RuleAt}
-use Rattle.rule_levels.specs.LevelLaws.{lines-level}
-use Rattle.rule_levels.specs.Levels.{listsOwn, linesLevel}
-use Rattle.rule_headings.specs.declared.Heading.{Heading}
-use Rattle.rule_headings.specs.declared.Notes.{Notes}
 use Rattle.rule_commands.specs.declared.Raw.the-variants.{Whole, Unknown, Short}
+use Rattle.rule_headings.specs.declared.Heading.{Heading}
 
 -- ---- one line more
 
-some-append : (xs ys : List ℕ) → ltb 0 (length (xs ++ ys)) ≡ (ltb 0 (length xs) || ltb 0 (length ys))
-some-append [] ys = refl
-some-append (x ∷ xs) ys = lt-ltb 0 (length (x ∷ (xs ++ ys))) (omega arith) ∙ sym (ap (λ (b : Bool). b || ltb 0 (length ys)) (lt-ltb 0 (length (x ∷ xs)) (omega arith)))
-
-some-more : (f : RuleCommand → List ℕ) (ls : Lines) (c : RuleCommand) → ltb 0 (length (each f (ls ++ (c ∷ [])))) ≡ (ltb 0 (length (each f ls)) || ltb 0 (length (f c)))
-some-more f [] c = ap (λ (l : List ℕ). ltb 0 (length l)) (append-nil (f c))
-some-more f (d ∷ ls) c =
-    some-append (f d) (each f (ls ++ (c ∷ [])))
-    ∙ ap (λ (b : Bool). ltb 0 (length (f d)) || b) (some-more f ls c)
-    ∙ sym (or-assoc (ltb 0 (length (f d))) (ltb 0 (length (each f ls))) (ltb 0 (length (f c))))
-    ∙ ap (λ (b : Bool). b || ltb 0 (length (f c))) (sym (some-append (f d) (each f ls)))
-
-only-some : (b : Bool) (v : ℕ) → ltb 0 (length (only b v)) ≡ b
-only-some true v = refl
-only-some false v = refl
+-- a line that tells no level leaves the one noted, and a 29 tells its own
+line-noted : (h : Heading) {b x y : ℕ} → Shape b x y → ((toldBy (commandOf b x y) ≡ []) × (noted h b x .level ≡ h .level)) ⊎ ((commandOf b x y ≡ level x) × (noted h b x .level ≡ x))
+unfolding commandOf noted
+line-noted h shape-opens = inl (refl, refl)
+line-noted h (shape-user-single a v) = inl (refl, refl)
+line-noted h (shape-user-set a v) = inl (refl, refl)
+line-noted h (shape-resource-single a v) = inl (refl, refl)
+line-noted h (shape-resource-set a v) = inl (refl, refl)
+line-noted h (shape-operations m) = inl (refl, refl)
+line-noted h (shape-link a b) = inl (refl, refl)
+line-noted h (shape-part k m) = inl (refl, refl)
+line-noted h (shape-level l) = inr (refl, refl)
+line-noted h shape-ends = inl (refl, refl)
 
 module _ (F : Policy) where
-  -- a line lists a value of the user's 255, or of the resource's
-  line-roles : {b x y : ℕ} → Shape b x y → ltb 0 (length (listed user (settingOf F .side user .isSet own) own (commandOf b x y))) ≡ (eqb b 0x23 && eqb x 255)
-  unfolding commandOf settingOf sideOf isSetAt
-  line-roles shape-opens = refl
-  line-roles (shape-user-single a v) = refl
-  line-roles (shape-user-set a v) = only-some (eqb 255 a) v ∙ eqb-turned 255 a
-  line-roles (shape-resource-single a v) = refl
-  line-roles (shape-resource-set a v) = refl
-  line-roles (shape-operations m) = refl
-  line-roles (shape-link a b) = refl
-  line-roles (shape-part k m) = refl
-  line-roles shape-ends = refl
+  -- what is noted of lines that a rule may have: the level, once they tell it
+  record Agrees (h : Heading) (ls : Lines) : Type 0 where
+    tells : Tells (besideOf F) ls
+    heard : (l : ℕ) → levelsIn ls ≡ l ∷ [] → h .level ≡ l
 
-  line-numbers : {b x y : ℕ} → Shape b x y → ltb 0 (length (listed resource (settingOf F .side resource .isSet own) own (commandOf b x y))) ≡ (eqb b 0x24 && eqb x 255)
-  unfolding commandOf settingOf sideOf isSetAt
-  line-numbers shape-opens = refl
-  line-numbers (shape-user-single a v) = refl
-  line-numbers (shape-user-set a v) = refl
-  line-numbers (shape-resource-single a v) = only-some (eqb 255 a) v ∙ eqb-turned 255 a
-  line-numbers (shape-resource-set a v) = refl
-  line-numbers (shape-operations m) = refl
-  line-numbers (shape-link a b) = refl
-  line-numbers (shape-part k m) = refl
-  line-numbers shape-ends = refl
-
-  -- what is noted of legal lines of a rule: whether they list roles, and resources by their numbers
-  record Agrees (h : Notes) (ls : Lines) : Type 0 where
-    all-legal : (c : RuleCommand) → c isIn ls → Is (legal (besideOf F) c)
-    of-roles : h .roles ≡ listsOwn (settingOf F) ls user
-    of-numbers : h .numbers ≡ listsOwn (settingOf F) ls resource
-
-  noted-roles : (h : Notes) (b x : ℕ) → noted h b x .roles ≡ (h .roles || (eqb b 0x23 && eqb x 255))
-  unfolding noted
-  noted-roles h b x = test (eqb b 0x26)
-      (λ e. rw (e, eqb-true b 0x26 e) (sym (or-false (h .roles))))
-      (λ e. rw e refl)
-
-  noted-numbers : (h : Notes) (b x : ℕ) → noted h b x .numbers ≡ (h .numbers || (eqb b 0x24 && eqb x 255))
-  unfolding noted
-  noted-numbers h b x = test (eqb b 0x26)
-      (λ e. rw (e, eqb-true b 0x26 e) (sym (or-false (h .numbers))))
-      (λ e. rw e refl)
-
-  agrees-more : (h : Notes) (ls : Lines) (b x y : ℕ) → Shape b x y → Is (legal (besideOf F) (commandOf b x y)) → Agrees h ls → Agrees (noted h b x) (ls ++ (commandOf b x y ∷ []))
-  unfolding listsOwn valuesIn
-  agrees-more h ls b x y p k n = record {
-    all-legal = λ c m. ⊎-elim (λ i. n .all-legal c i) (λ i. subst (λ (d : RuleCommand). Is (legal (besideOf F) d)) (sym (only-out true i .1)) k) (List·Memᴰ·append-cases ls m);
-    of-roles =
-        noted-roles h b x ∙ ap₂ _||_ (n .of-roles) (sym (line-roles p))
-        ∙ sym (some-more (listed user (settingOf F .side user .isSet own) own) ls (commandOf b x y));
-    of-numbers =
-        noted-numbers h b x ∙ ap₂ _||_ (n .of-numbers) (sym (line-numbers p))
-        ∙ sym (some-more (listed resource (settingOf F .side resource .isSet own) own) ls (commandOf b x y));
+  agrees-more : (h : Heading) (ls : Lines) (b x y : ℕ) → Shape b x y → Is (follows ls (commandOf b x y)) → Is (levelled (besideOf F) ls (commandOf b x y)) → Agrees h ls
+      → Agrees (noted h b x) (ls ++ (commandOf b x y ∷ []))
+  agrees-more h ls b x y p f v n = record {
+    tells = tells-more (besideOf F) ls (commandOf b x y) f v (n .tells);
+    heard = go (line-noted h p);
   }
+    where
+      go : ((toldBy (commandOf b x y) ≡ []) × (noted h b x .level ≡ h .level)) ⊎ ((commandOf b x y ≡ level x) × (noted h b x .level ≡ x)) → (l : ℕ) → levelsIn (ls ++ (commandOf b x y ∷ [])) ≡ l ∷ [] → noted h b x .level ≡ l
+      go (inl q) l k = q .1 ∙ n .heard l (sym (told-kept ls (commandOf b x y) (q .0)) ∙ k)
+      go (inr q) l k =
+          let e = told-first ls x (rw (q .0) at f) in
+          q .1 ∙ ap (λ (t : List ℕ). getD t 0 0) (sym e ∙ ap (λ (c : RuleCommand). levelsIn (ls ++ (c ∷ []))) (sym (q .0)) ∙ k)
+
+  -- of a rule that may be closed it is the level
+  agrees-whole : (h : Heading) (ls : Lines) → Is (whole ls) → Agrees h ls → h .level ≡ ruleLevel (settingOf F) (ruleIn (settingOf F) ls)
+  agrees-whole h ls w n = n .heard (ruleLevel (settingOf F) (ruleIn (settingOf F) ls)) (tells-whole (besideOf F) ls w (n .tells))
 
   -- ---- what the reader reads
 
@@ -137,16 +94,20 @@ module _ (F : Policy) where
         go none = d
         go (some ks) = unless-carries Done (whole ks) rulesOrder (accepted (t .complete ++ (ks ∷ []))) (λ w. done-more (t .complete) ks d)
 
+    abbrev withLine : Reading → Lines → RuleCommand → Reading
+    withLine t ks c = record { complete = t .complete; current = some (ks ++ (c ∷ [])) }
+
     added-done : (t : Reading) (c : RuleCommand) → DoneIn t → Carries DoneIn (addLine (besideOf F) t c)
     unfolding addLine
     added-done t c d = go (t .current)
       where
         go : (o : Option Lines)
-            → Carries DoneIn (elim o [ none ↦ refused rulesOrder | some ks ↦ unless (follows ks c) rulesOrder (unless (legal (besideOf F) c) rulesOperand (accepted (record { complete = t .complete; current = some (ks ++ (c ∷ [])) }))) ])
+            → Carries DoneIn (elim o [ none ↦ refused rulesOrder | some ks ↦ unless (follows ks c) rulesOrder (unless (legal (besideOf F) c) rulesOperand (unless (levelled (besideOf F) ks c) wrongLevel (accepted (withLine t ks c)))) ])
         go none = tt
         go (some ks) =
-            unless-carries DoneIn (follows ks c) rulesOrder (unless (legal (besideOf F) c) rulesOperand (accepted (record { complete = t .complete; current = some (ks ++ (c ∷ [])) })))
-            (λ f. unless-carries DoneIn (legal (besideOf F) c) rulesOperand (accepted (record { complete = t .complete; current = some (ks ++ (c ∷ [])) })) (λ l. d))
+            unless-carries DoneIn (follows ks c) rulesOrder (unless (legal (besideOf F) c) rulesOperand (unless (levelled (besideOf F) ks c) wrongLevel (accepted (withLine t ks c)))) λ f.
+            unless-carries DoneIn (legal (besideOf F) c) rulesOperand (unless (levelled (besideOf F) ks c) wrongLevel (accepted (withLine t ks c))) λ l.
+            unless-carries DoneIn (levelled (besideOf F) ks c) wrongLevel (accepted (withLine t ks c)) λ v. d
 
     obeyed-done : (t : Reading) (c : RuleCommand) → DoneIn t → Carries DoneIn (obeyRule (besideOf F) t c)
     unfolding obeyRule
@@ -156,6 +117,7 @@ module _ (F : Policy) where
     obeyed-done t (operations m) d = added-done t (operations m) d
     obeyed-done t (link a b) d = added-done t (link a b) d
     obeyed-done t (part j m) d = added-done t (part j m) d
+    obeyed-done t (level l) d = added-done t (level l) d
     obeyed-done t ends d = then-carries Done DoneIn (finished t) (λ done. accepted (record { complete = done; current = none })) (finished-done t d) (λ done k. k)
 
     stays : (n : ℕ) (t : Reading) (s : List ℕ) (rules : List Lines) → DoneIn t → comesTo n t s ≡ accepted rules → getD rules i [] ≡ ls
@@ -180,48 +142,54 @@ module _ (F : Policy) where
       abbrev opened : Lines → Reading
       opened ls = record { complete = earlier; current = some ls }
 
-      abbrev Told : Notes → Type 0
-      Told h = Agrees h (getD rules (length earlier) [])
+      -- the rule's level is the one noted
+      abbrev Told : Heading → Type 0
+      Told h = h .level ≡ ruleLevel (settingOf F) (ruleIn (settingOf F) (getD rules (length earlier) []))
+
+      told-of : (h : Heading) (ls : Lines) → Is (whole ls) → Agrees h ls → getD rules (length earlier) [] ≡ ls → Told h
+      told-of h ls w g e = agrees-whole h ls w g ∙ ap (λ (k : Lines). ruleLevel (settingOf F) (ruleIn (settingOf F) k)) (sym e)
 
       -- a 21 closes it
-      opening : (n : ℕ) (ls : Lines) (h : Notes) (rest : List ℕ) → Agrees h ls → onFrom n opens rest (obeyRule (besideOf F) (opened ls) opens) ≡ accepted rules → Told h
+      opening : (n : ℕ) (ls : Lines) (h : Heading) (rest : List ℕ) → Agrees h ls → onFrom n opens rest (obeyRule (besideOf F) (opened ls) opens) ≡ accepted rules → Told h
       unfolding obeyRule finished
-      opening n ls h rest g q = go (whole ls) q
+      opening n ls h rest g q = go (whole ls) refl q
         where
-          go : (b : Bool) → onFrom n opens rest (andThen (unless b rulesOrder (accepted (earlier ++ (ls ∷ [])))) (λ done. accepted (record { complete = done; current = some [] }))) ≡ accepted rules → Told h
-          go true k = subst (Agrees h) (sym (closed-so n earlier ls (record { complete = earlier ++ (ls ∷ []); current = some [] }) rest refl k)) g
-          go false k = refuted k
+          go : (b : Bool) → whole ls ≡ b → onFrom n opens rest (andThen (unless b rulesOrder (accepted (earlier ++ (ls ∷ [])))) (λ done. accepted (record { complete = done; current = some [] }))) ≡ accepted rules → Told h
+          go true w k = told-of h ls w g (closed-so n earlier ls (record { complete = earlier ++ (ls ∷ []); current = some [] }) rest refl k)
+          go false w k = refuted k
 
       -- and so does a 2F
-      ending : (n : ℕ) (ls : Lines) (h : Notes) (rest : List ℕ) → Agrees h ls → onFrom n ends rest (obeyRule (besideOf F) (opened ls) ends) ≡ accepted rules → Told h
+      ending : (n : ℕ) (ls : Lines) (h : Heading) (rest : List ℕ) → Agrees h ls → onFrom n ends rest (obeyRule (besideOf F) (opened ls) ends) ≡ accepted rules → Told h
       unfolding obeyRule finished
-      ending n ls h rest g q = go n (whole ls) rest q
+      ending n ls h rest g q = go n (whole ls) rest refl q
         where
           -- however far reading may go on behind the end
-          go : (n : ℕ) (b : Bool) (rest : List ℕ) → onFrom n ends rest (andThen (unless b rulesOrder (accepted (earlier ++ (ls ∷ [])))) (λ done. accepted (record { complete = done; current = none }))) ≡ accepted rules → Told h
-          go n true [] k = told (sym (ap (λ (r : Answer Reading). andThen r (λ u. accepted (u .complete))) (read-behind (ruleFormat 2 (besideOf F)) n (record { complete = earlier ++ (ls ∷ []); current = none }) [])) ∙ k)
+          go : (n : ℕ) (b : Bool) (rest : List ℕ) → whole ls ≡ b → onFrom n ends rest (andThen (unless b rulesOrder (accepted (earlier ++ (ls ∷ [])))) (λ done. accepted (record { complete = done; current = none }))) ≡ accepted rules → Told h
+          go n true [] w k = told (sym (ap (λ (r : Answer Reading). andThen r (λ u. accepted (u .complete))) (read-behind (ruleFormat 2 (besideOf F)) n (record { complete = earlier ++ (ls ∷ []); current = none }) [])) ∙ k)
             where
               told : _≡_ {A = Answer (List Lines)} (accepted (earlier ++ (ls ∷ []))) (accepted rules) → Told h
-              told e = let z : earlier ++ (ls ∷ []) ≡ rules = cc in subst (Agrees h) (sym (ap (λ (l : List Lines). getD l (length earlier) []) (sym z) ∙ getD-append-seam earlier ls [] [])) g
-          go zero true (x ∷ xs) k = refuted k
-          go (suc n) true (x ∷ xs) k = refuted k
-          go n false rest k = refuted k
+              told e = let z : earlier ++ (ls ∷ []) ≡ rules = cc in told-of h ls w g (ap (λ (l : List Lines). getD l (length earlier) []) (sym z) ∙ getD-append-seam earlier ls [] [])
+          go zero true (x ∷ xs) w k = refuted k
+          go (suc n) true (x ∷ xs) w k = refuted k
+          go n false rest w k = refuted k
 
       -- a line is added to it
       lining : (n : ℕ) (ls : Lines) (c : RuleCommand) (rest : List ℕ) → endsFile c ≡ false → onFrom n c rest (addLine (besideOf F) (opened ls) c) ≡ accepted rules
-          → Is (legal (besideOf F) c) × (comesTo n (opened (ls ++ (c ∷ []))) rest ≡ accepted rules)
+          → Is (follows ls c) × Is (levelled (besideOf F) ls c) × (comesTo n (opened (ls ++ (c ∷ []))) rest ≡ accepted rules)
       unfolding addLine
-      lining n ls c rest e q = go (follows ls c) (legal (besideOf F) c) refl q
+      lining n ls c rest e q = go (follows ls c) (legal (besideOf F) c) (levelled (besideOf F) ls c) refl refl q
         where
-          go : (f l : Bool) → legal (besideOf F) c ≡ l → onFrom n c rest (unless f rulesOrder (unless l rulesOperand (accepted (opened (ls ++ (c ∷ [])))))) ≡ accepted rules
-              → Is (legal (besideOf F) c) × (comesTo n (opened (ls ++ (c ∷ []))) rest ≡ accepted rules)
-          go true true p k = (p, sym (rw e refl) ∙ k)
-          go true false p k = refuted k
-          go false l p k = refuted k
+          go : (f l v : Bool) → follows ls c ≡ f → levelled (besideOf F) ls c ≡ v
+              → onFrom n c rest (unless f rulesOrder (unless l rulesOperand (unless v wrongLevel (accepted (opened (ls ++ (c ∷ []))))))) ≡ accepted rules
+              → Is (follows ls c) × Is (levelled (besideOf F) ls c) × (comesTo n (opened (ls ++ (c ∷ []))) rest ≡ accepted rules)
+          go true true true p r k = (p, r, sym (rw e refl) ∙ k)
+          go true true false p r k = refuted k
+          go true false v p r k = refuted k
+          go false l v p r k = refuted k
 
       -- what is noted from here on is noted of the rule that the reader comes to
       abbrev Noting : ℕ → ℕ → Type 0
-      Noting n m = (ls : Lines) (h : Notes) (s : List ℕ) → length s < m → Agrees h ls → comesTo n (opened ls) s ≡ accepted rules → Told (notesOn m h s)
+      Noting n m = (ls : Lines) (h : Heading) (s : List ℕ) → length s < m → Agrees h ls → comesTo n (opened ls) s ≡ accepted rules → Told (headingOn m h s)
 
       read-notes : (n m : ℕ) → Noting n m
       unfolding lineOf commandOf obeyRule
@@ -229,22 +197,22 @@ module _ (F : Policy) where
       read-notes (suc n) zero ls h s l g q = absurd (omega arith)
       read-notes (suc n) (suc m) ls h s l g q = go (read-notes n m) (rawOf s) refl
         where
-          stops : (b x y w : ℕ) → rawOf s ≡ Whole b x y w → inRule b ≡ false → Told h → Told (notesOn (suc m) h s)
-          stops b x y w e k t = subst Told (sym (rw (e, k) refl)) t
+          stops : (b x y w : ℕ) → rawOf s ≡ Whole b x y w → inRule b ≡ false → Told h → Told (headingOn (suc m) h s)
+          stops b x y w e k t = subst Told {x = h} {y = headingOn (suc m) h s} (sym (rw (e, k) refl)) t
 
-          goes : (b x y w : ℕ) → rawOf s ≡ Whole b x y w → inRule b ≡ true → Told (notesOn m (noted h b x) (drop w s)) → Told (notesOn (suc m) h s)
-          goes b x y w e k t = subst Told (sym (rw (e, k) refl)) t
+          goes : (b x y w : ℕ) → rawOf s ≡ Whole b x y w → inRule b ≡ true → Told (headingOn m (noted h b x) (drop w s)) → Told (headingOn (suc m) h s)
+          goes b x y w e k t = subst Told {x = headingOn m (noted h b x) (drop w s)} {y = headingOn (suc m) h s} (sym (rw (e, k) refl)) t
 
           inside : Noting n m → (b x y w : ℕ) → rawOf s ≡ Whole b x y w → RawFront (besideOf F) n (opened ls) s b x y w → Shape b x y → inRule b ≡ true → endsFile (commandOf b x y) ≡ false
-              → obeyRule (besideOf F) (opened ls) (commandOf b x y) ≡ addLine (besideOf F) (opened ls) (commandOf b x y) → Told (notesOn (suc m) h s)
+              → obeyRule (besideOf F) (opened ls) (commandOf b x y) ≡ addLine (besideOf F) (opened ls) (commandOf b x y) → Told (headingOn (suc m) h s)
           inside again b x y w e f p k d o =
               let r = lining n ls (commandOf b x y) (drop w s) d (sym (ap (onFrom n (commandOf b x y) (drop w s)) o) ∙ sym (ap (λ (a : Answer Reading). andThen a (λ u. accepted (u .complete))) (f .turned)) ∙ q) in
               let a = f .some-bytes in
               let i = f .inside in
               let z = length-drop w s in
-              goes b x y w e k (again (ls ++ (commandOf b x y ∷ [])) (noted h b x) (drop w s) (omega arith) (agrees-more h ls b x y p (r .0) g) (r .1))
+              goes b x y w e k (again (ls ++ (commandOf b x y ∷ [])) (noted h b x) (drop w s) (omega arith) (agrees-more h ls b x y p (r .0) (r .1) g) (r .2))
 
-          by-shape : Noting n m → {b x y : ℕ} → Shape b x y → (w : ℕ) → rawOf s ≡ Whole b x y w → RawFront (besideOf F) n (opened ls) s b x y w → Told (notesOn (suc m) h s)
+          by-shape : Noting n m → {b x y : ℕ} → Shape b x y → (w : ℕ) → rawOf s ≡ Whole b x y w → RawFront (besideOf F) n (opened ls) s b x y w → Told (headingOn (suc m) h s)
           by-shape again shape-opens w e f = stops _ _ _ w e refl (opening n ls h (drop w s) g (sym (ap (λ (a : Answer Reading). andThen a (λ u. accepted (u .complete))) (f .turned)) ∙ q))
           by-shape again shape-ends w e f = stops _ _ _ w e refl (ending n ls h (drop w s) g (sym (ap (λ (a : Answer Reading). andThen a (λ u. accepted (u .complete))) (f .turned)) ∙ q))
           by-shape again (shape-user-single a v) w e f = inside again _ _ _ w e f (shape-user-single a v) refl refl refl
@@ -254,32 +222,17 @@ module _ (F : Policy) where
           by-shape again (shape-operations k) w e f = inside again _ _ _ w e f (shape-operations k) refl refl refl
           by-shape again (shape-link a b) w e f = inside again _ _ _ w e f (shape-link a b) refl refl refl
           by-shape again (shape-part k o) w e f = inside again _ _ _ w e f (shape-part k o) refl refl refl
+          by-shape again (shape-level l) w e f = inside again _ _ _ w e f (shape-level l) refl refl refl
 
-          go : Noting n m → (r : Raw) → rawOf s ≡ r → Told (notesOn (suc m) h s)
+          go : Noting n m → (r : Raw) → rawOf s ≡ r → Told (headingOn (suc m) h s)
           go again Short e = refuted (sym (ap (λ (a : Answer Reading). andThen a (λ u. accepted (u .complete))) (raw-short (besideOf F) n (opened ls) s e)) ∙ q)
           go again Unknown e = refuted (sym (ap (λ (a : Answer Reading). andThen a (λ u. accepted (u .complete))) (raw-unknown (besideOf F) n (opened ls) s e)) ∙ q)
           go again (Whole b x y w) e = let f = raw-whole (besideOf F) n (opened ls) s b x y w e in by-shape again (accepted-shape (besideOf F) n (opened ls) s b x y w f (λ u. accepted (u .complete)) rules q) w e f
 
 -- THE LAW: the level in the heading is that of the rule
-pub heading-level : (F : Policy) (rules : List Lines) (n : ℕ) (s : List ℕ) → RuleAt F rules n s → headingOf s .level ≡ ruleLevel (settingOf F) (ruleIn (settingOf F) (getD rules n []))
-unfolding headingOf notesOf settingOf sideOf listsOwn valuesIn linesLevel
-heading-level F rules n s at =
-    ap₂ levelFor (a .of-roles) (a .of-numbers) ∙ lines-level (besideOf F) numbered (getD rules (length (at .earlier)) []) (a .all-legal)
-    ∙ ap (λ (k : ℕ). ruleLevel (settingOf F) (ruleIn (settingOf F) (getD rules k []))) (at .number)
-  where
-    sized : Sized F
-    sized = subst (Carries Sized) (at .stated) (accepted-sized (at .file))
-
-    numbered : (w : Which) → settingOf F .side w .attrs ≤ own
-    numbered w = let d = sized .declared w in omega arith
-
-    a : Agrees F (notesOn (suc (length s)) (record { operations = 0; roles = false; numbers = false }) s) (getD rules (length (at .earlier)) [])
-    a = read-notes F rules (at .earlier) (at .fuel) (suc (length s)) [] (record { operations = 0; roles = false; numbers = false }) s (omega arith) (record { all-legal = λ c m. absurd (List·Memᴰ·not-nil m); of-roles = refl; of-numbers = refl }) (at .accepts)
-
--- what was noted makes the heading
-pub headed : (s : List ℕ) (n : Notes) (l : ℕ) → n ≡ notesOf s → l ≡ levelFor (n .roles) (n .numbers)
-    → _≡_ {A = Heading} (record { operations = n .operations; level = l }) (headingOf s) × ((F : Policy) (rules : List Lines) (k : ℕ) → RuleAt F rules k s → l ≡ ruleLevel (settingOf F) (ruleIn (settingOf F) (getD rules k [])))
+pub heading-level : (s : List ℕ) (h : Heading) → h ≡ headingOf s → (F : Policy) (rules : List Lines) (n : ℕ) → RuleAt F rules n s → h .level ≡ ruleLevel (settingOf F) (ruleIn (settingOf F) (getD rules n []))
 unfolding headingOf
-headed s n l e q =
-    let m : l ≡ headingOf s .level = q ∙ ap (λ (t : Notes). levelFor (t .roles) (t .numbers)) e in
-    (ap₂ (λ (t : Notes) (v : ℕ). record { operations = t .operations; level = v }) e m, λ F rules k at. m ∙ heading-level F rules k s at)
+heading-level s h e F rules n at =
+    ap (λ (t : Heading). t .level) e
+    ∙ read-notes F rules (at .earlier) (at .fuel) (suc (length s)) [] (record { operations = 0; level = 0 }) s (omega arith) (record { tells = inl refl; heard = λ l k. ap (λ (t : List ℕ). getD t 0 0) k }) (at .accepts)
+    ∙ ap (λ (k : ℕ). ruleLevel (settingOf F) (ruleIn (settingOf F) (getD rules k []))) (at .number)

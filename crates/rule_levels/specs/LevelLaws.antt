@@ -10,7 +10,7 @@ use mathlib.Core.Logic.{_⊎_, inl, inr}
 use mathlib.Core.Path.{_≡_, refl, sym, ap, ap₂, _∙_, subst, fun-ext}
 use native.Mathlib.Omega.{arith}
 use Rattle.files.specs.Beside.{Beside}
-use Rattle.files.specs.RuleFile.{RuleCommand, Lines, linkOf, valuesIn, conjunctsIn, ruleIn, legal, reshapes, opens, value, operations, link, part, ends}
+use Rattle.files.specs.RuleFile.{RuleCommand, Lines, linkOf, valuesIn, conjunctsIn, ruleIn, legal, reshapes, opens, value, operations, link, part, level, ends}
 use Rattle.rule_levels.specs.Levels.{levelFor}
 use Rattle.policy.specs.OrderLaws.{Numbered}
 use Rattle.policy.specs.Rules.{own, ownAt, Which, Setting, Cond, attrsOf, allowed, at, ruleLevel, atomForm, user, resource, conjunct}
@@ -76,6 +76,7 @@ module _ (B : Beside) (N : (w : Which) → Numbered (B .setting .side w)) where
   link-allowed l (value w x a v) h m = absurd (List·Memᴰ·not-nil m)
   link-allowed l (operations n) h m = absurd (List·Memᴰ·not-nil m)
   link-allowed l (part k n) h m = absurd (List·Memᴰ·not-nil m)
+  link-allowed l (level x) h m = absurd (List·Memᴰ·not-nil m)
   link-allowed l ends h m = absurd (List·Memᴰ·not-nil m)
 
   -- THE LAW: of lines that may stand in a rule file

@@ -6,7 +6,7 @@ use lib.ListN.{length, getD, set}
 use mathlib.Core.Bool.{Bool, false, cond, _&&_}
 use mathlib.Core.List.{List, [], _∷_}
 use mathlib.Core.Option.{Option, none, some}
-use Rattle.files.specs.RuleFile.{RuleCommand, Lines, reshapes, opens, value, operations, link, part, ends}
+use Rattle.files.specs.RuleFile.{RuleCommand, Lines, reshapes, opens, value, operations, link, part, level, ends}
 use Rattle.grant_parts.specs.Parts.{isPartIn}
 use Rattle.role_record.specs.Cells.{rowStart, cellRow, cellOperation}
 use Rattle.role_record.specs.Record.{tableOf, marked}
@@ -38,6 +38,7 @@ listsLead k o (value w set a v) = false
 listsLead k o (operations m) = false
 listsLead k o (link a b) = false
 listsLead k o (part j m) = eqb k j && eqb o (leadOf m)
+listsLead k o (level x) = false
 listsLead k o ends = false
 
 -- how often the rules list one

@@ -15,7 +15,7 @@ use Rattle.role_record.specs.CellsLaws.{cell-parts}
 use Rattle.role_record.specs.Record.{Sized, tableOf, marked, permissionTable, recordWith, recordOf}
 use Rattle.files.specs.Beside.{besideOf}
 use Rattle.files.specs.Calls.{first, firstStrayPart}
-use Rattle.files.specs.RuleFile.{RuleCommand, Lines, isPartLine, namesPart, lists, listings, legal, reshapes, opens, value, operations, link, part, ends}
+use Rattle.files.specs.RuleFile.{RuleCommand, Lines, isPartLine, namesPart, lists, listings, legal, reshapes, opens, value, operations, link, part, level, ends}
 use Rattle.rule_listings.specs.Listed.{leadOf, seenAfter, againAfter, listsLead, timesListed, seenTable, againTable, onceIn, strayFrom, strayOf, strayPartOf}
 use Rattle.grant_parts.specs.PartTableLaws.{part-role, part-lead, part-shown, no-part}
 use Rattle.grant_parts.specs.Parts.{isPartIn}
@@ -161,6 +161,7 @@ no-part-listed k o (value w set a v) h = refl
 no-part-listed k o (operations m) h = refl
 no-part-listed k o (link a b) h = refl
 no-part-listed k o (part j m) h = never refl h
+no-part-listed k o (level x) h = refl
 no-part-listed k o ends h = refl
 
 -- a line that is no part line changes neither table
@@ -291,6 +292,7 @@ module _ (F : Policy) (Z : Sized F) where
     where
       class-by : (p q : Part) → p .role ≡ q .role → p .lead ≡ q .lead → classOf (settingOf F) (rolesIn F) p ≡ classOf (settingOf F) (rolesIn F) q
       class-by p q a b = ap₂ (λ (r l : ℕ). classOf (settingOf F) (rolesIn F) (record { role = r; lead = l })) a b
+  lists-lead i (level x) h = refl
   lists-lead i ends h = refl
 
   times-listings : (rules : List Lines) → ((ls : Lines) → ls isIn rules → (c : RuleCommand) → c isIn ls → Is (legal (besideOf F) c)) → (p : ℕ) → p < partCount (settingOf F) (rolesIn F)

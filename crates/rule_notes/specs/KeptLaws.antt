@@ -4,7 +4,7 @@ use Prim.Native.Nat.{ℕ, _+_, _*_, _≤_, _<_}
 use borrow.Author.Tests.{ne-eqb, lt-ltb, le-ltb, ltb-true}
 use lib.Dec.{eqb, ltb}
 use lib.ListN.{getD, set}
-use mathlib.Core.Bool.{Bool, true, false, _&&_, _||_, not}
+use mathlib.Core.Bool.{Bool, true, false, _&&_, _||_, not, and-true, and-false, or-false}
 use mathlib.Core.List.{List}
 use mathlib.Core.Path.{_≡_, refl, sym, ap, ap₂, _∙_}
 use native.Mathlib.Omega.{arith}
@@ -12,7 +12,8 @@ use Rattle.grant_grids.specs.Grid.{gridDifference, differenceOf, isSame}
 use Rattle.role_record.specs.Record.{marked}
 use Rattle.grant_blocks.specs.PartGrid.{joinedGrid}
 use Rattle.rule_commands.specs.Raw.{rawBefore}
-use Rattle.rule_notes.specs.Tally.{tallied, countedWith, ruleGrid, closedWith, finishedWith, finishedGrid, mayClose, followsWith}
+use Rattle.rule_levels.specs.Levels.{levelFor}
+use Rattle.rule_notes.specs.Tally.{tallied, countedWith, ruleGrid, closedWith, finishedWith, finishedGrid, mayClose, isSecond, followsWith, levelledWith}
 use Rattle.rule_notes.specs.LineSteps.{placeBy, pairNumber, tallyWith, notedWith, metMore}
 use Rattle.sets.specs.Sets.{bit, maskOf}
 use Rattle.sets.specs.TestLaws.{test}
@@ -50,9 +51,13 @@ module _ (k : Tally) where
   unfolding mayClose
   close-bare e z = rw (e, z) refl
 
-  pub close-inside : k .inside ≡ true → (k .operations ≡ 0 → ⊥) → k .listing ≡ mayClose k
+  pub close-untold : k .inside ≡ true → k .telling ≡ false → false ≡ mayClose k
   unfolding mayClose
-  close-inside e z = rw (e, ne-eqb (k .operations) 0 z) refl
+  close-untold e l = rw (e, l, and-false (k .listing)) (sym (and-false (not (eqb (k .operations) 0))))
+
+  pub close-inside : k .inside ≡ true → (k .operations ≡ 0 → ⊥) → k .telling ≡ true → k .listing ≡ mayClose k
+  unfolding mayClose
+  close-inside e z l = rw (e, ne-eqb (k .operations) 0 z, l) (sym (and-true (k .listing)))
 
   module _ (met listed links : List ℕ) (users resources acts : ℕ) (grid : List ℕ) where
     pub finish-inside : k .inside ≡ true → (closedWith k met listed links users resources acts ≡ finishedWith k met listed links users resources acts) × (joinedGrid (ruleGrid k met links users resources) grid ≡ finishedGrid k met links users resources grid)
@@ -68,13 +73,13 @@ module _ (k : Tally) where
     unfolding followsWith
     follow-outside e = rw e refl
 
-    pub follow-second : k .inside ≡ true → (eqb b 0x26 && not (eqb (k .operations) 0)) ≡ true → false ≡ followsWith k b x y
+    pub follow-second : k .inside ≡ true → isSecond k b ≡ true → false ≡ followsWith k b x y
     unfolding followsWith
-    follow-second e s = rw (e, s) refl
+    follow-second e s = sym (ap₂ (λ (p q : Bool). p && (not q && rawBefore (k .last) (k .x) (k .y) b x y)) e s)
 
-    pub follow-inside : k .inside ≡ true → (eqb b 0x26 && not (eqb (k .operations) 0)) ≡ false → rawBefore (k .last) (k .x) (k .y) b x y ≡ followsWith k b x y
+    pub follow-inside : k .inside ≡ true → isSecond k b ≡ false → rawBefore (k .last) (k .x) (k .y) b x y ≡ followsWith k b x y
     unfolding followsWith
-    follow-inside e s = rw (e, s) refl
+    follow-inside e s = sym (ap₂ (λ (p q : Bool). p && (not q && rawBefore (k .last) (k .x) (k .y) b x y)) e s)
 
 -- ---- places and numbers
 
@@ -105,17 +110,34 @@ pair-none a b h = rw (le-ltb a 6 h) refl
 -- ---- the numbers after a line
 
 module _ (k : Tally) (c : RuleCommand) (b x y i p m : ℕ) where
-  pub noted-value : p ≡ i → m ≡ marked (k .asked) p → notedWith k c b x y ≡ tallyWith k (marked (k .asked) i) (k .atoms) (k .operations) (k .listing) b x y → tallyWith k m (k .atoms) (k .operations) (k .listing) b x y ≡ notedWith k c b x y
-  noted-value e f g = ap (λ t. tallyWith k t (k .atoms) (k .operations) (k .listing) b x y) (f ∙ ap (marked (k .asked)) e) ∙ sym g
+  pub noted-value : p ≡ i → m ≡ marked (k .asked) p → notedWith k c b x y ≡ tallyWith k (marked (k .asked) i) (k .atoms) (k .operations) (k .listing) (k .telling) b x y → tallyWith k m (k .atoms) (k .operations) (k .listing) (k .telling) b x y ≡ notedWith k c b x y
+  noted-value e f g = ap (λ t. tallyWith k t (k .atoms) (k .operations) (k .listing) (k .telling) b x y) (f ∙ ap (marked (k .asked)) e) ∙ sym g
 
-  pub noted-link : p ≡ i → m ≡ marked (k .atoms) p → notedWith k c b x y ≡ tallyWith k (k .asked) (marked (k .atoms) i) (k .operations) (k .listing) b x y → tallyWith k (k .asked) m (k .operations) (k .listing) b x y ≡ notedWith k c b x y
-  noted-link e f g = ap (λ t. tallyWith k (k .asked) t (k .operations) (k .listing) b x y) (f ∙ ap (marked (k .atoms)) e) ∙ sym g
+  pub noted-link : p ≡ i → m ≡ marked (k .atoms) p → notedWith k c b x y ≡ tallyWith k (k .asked) (marked (k .atoms) i) (k .operations) (k .listing) (k .telling) b x y → tallyWith k (k .asked) m (k .operations) (k .listing) (k .telling) b x y ≡ notedWith k c b x y
+  noted-link e f g = ap (λ t. tallyWith k (k .asked) t (k .operations) (k .listing) (k .telling) b x y) (f ∙ ap (marked (k .atoms)) e) ∙ sym g
 
-pub second-some : (b m : ℕ) → b ≡ 0x26 → not (eqb m 0) ≡ (eqb b 0x26 && not (eqb m 0))
-second-some b m e = rw e refl
+module _ (k : Tally) (b : ℕ) where
+  pub second-operations : b ≡ 0x26 → not (eqb (k .operations) 0) ≡ isSecond k b
+  unfolding isSecond
+  second-operations e = rw e (sym (or-false (not (eqb (k .operations) 0))))
 
-pub second-none : (b m : ℕ) → (b ≡ 0x26 → ⊥) → false ≡ (eqb b 0x26 && not (eqb m 0))
-second-none b m e = rw (ne-eqb b 0x26 e) refl
+  pub second-level : b ≡ 0x29 → k .telling ≡ isSecond k b
+  unfolding isSecond
+  second-level e = rw e refl
+
+  pub second-none : (b ≡ 0x26 → ⊥) → (b ≡ 0x29 → ⊥) → false ≡ isSecond k b
+  unfolding isSecond
+  second-none e f = rw (ne-eqb b 0x26 e, ne-eqb b 0x29 f) refl
+
+  -- ---- the level that a 29 tells
+
+  pub levelled-other : (x : ℕ) → (b ≡ 0x29 → ⊥) → true ≡ levelledWith k b x
+  unfolding levelledWith
+  levelled-other x e = rw (ne-eqb b 0x29 e) refl
+
+  pub levelled-29 : (x l : ℕ) (roles numbers : Bool) → b ≡ 0x29 → roles ≡ bit (k .asked) 6 → numbers ≡ bit (k .asked) 13 → l ≡ levelFor roles numbers → eqb x l ≡ levelledWith k b x
+  unfolding levelledWith
+  levelled-29 x l roles numbers e p q f = rw (e, f, p, q) refl
 
 -- the table of who meets which attribute's values, with one word stored
 pub met-stored : (met : List ℕ) (at who v i j : ℕ) → at ≡ i → who ≡ j → v ≡ maskOf 64 (λ k. bit (getD met at 0) k || bit who k) → set met at v ≡ metMore met i j

@@ -15,7 +15,7 @@ use Rattle.rule_commands.specs.declared.RuleCommand.{RuleCommand}
 use Rattle.rule_notes.specs.declared.Tally.{Tally}
 use Rattle.rule_commands.specs.declared.ListedValue.{ListedValue}
 use Rattle.rule_commands.specs.declared.Atom.the-variants.{SetContainsSet, SetContainsSingle, SingleEqualsSingle}
-use Rattle.rule_commands.specs.declared.RuleCommand.the-variants.{Opens, Value, Operations, Link, Part, Ends}
+use Rattle.rule_commands.specs.declared.RuleCommand.the-variants.{Opens, Value, Operations, Link, Part, Level, Ends}
 
 -- the place of an attribute in a summary: any that is not one of the six counts as the 255
 unfoldable pub placeBy : ℕ → ℕ → ℕ
@@ -32,16 +32,17 @@ atomNumber (SingleEqualsSingle a b) = pairNumber a b
 
 -- ---- the numbers
 
-abbrev pub tallyWith : Tally → ℕ → ℕ → ℕ → Bool → ℕ → ℕ → ℕ → Tally
-tallyWith k asked atoms acts lists b x y = record { inside = k .inside; asked = asked; atoms = atoms; operations = acts; listing = lists; last = b; x = x; y = y; rules = k .rules; strays = k .strays; stray = k .stray }
+abbrev pub tallyWith : Tally → ℕ → ℕ → ℕ → Bool → Bool → ℕ → ℕ → ℕ → Tally
+tallyWith k asked atoms acts lists tells b x y = record { inside = k .inside; asked = asked; atoms = atoms; operations = acts; listing = lists; telling = tells; last = b; x = x; y = y; rules = k .rules; strays = k .strays; stray = k .stray }
 
 unfoldable pub notedWith : Tally → RuleCommand → ℕ → ℕ → ℕ → Tally
-notedWith k Opens b x y = tallyWith k (k .asked) (k .atoms) (k .operations) (k .listing) b x y
-notedWith k (Value v) b x y = tallyWith k (marked (k .asked) (placeBy (v .side) (v .attribute))) (k .atoms) (k .operations) (k .listing) b x y
-notedWith k (Operations m) b x y = tallyWith k (k .asked) (k .atoms) m (k .listing) b x y
-notedWith k (Link t) b x y = tallyWith k (k .asked) (marked (k .atoms) (atomNumber t)) (k .operations) (k .listing) b x y
-notedWith k (Part j m) b x y = tallyWith k (k .asked) (k .atoms) (k .operations) true b x y
-notedWith k Ends b x y = tallyWith k (k .asked) (k .atoms) (k .operations) (k .listing) b x y
+notedWith k Opens b x y = tallyWith k (k .asked) (k .atoms) (k .operations) (k .listing) (k .telling) b x y
+notedWith k (Value v) b x y = tallyWith k (marked (k .asked) (placeBy (v .side) (v .attribute))) (k .atoms) (k .operations) (k .listing) (k .telling) b x y
+notedWith k (Operations m) b x y = tallyWith k (k .asked) (k .atoms) m (k .listing) (k .telling) b x y
+notedWith k (Link t) b x y = tallyWith k (k .asked) (marked (k .atoms) (atomNumber t)) (k .operations) (k .listing) (k .telling) b x y
+notedWith k (Part j m) b x y = tallyWith k (k .asked) (k .atoms) (k .operations) true (k .telling) b x y
+notedWith k (Level l) b x y = tallyWith k (k .asked) (k .atoms) (k .operations) (k .listing) true b x y
+notedWith k Ends b x y = tallyWith k (k .asked) (k .atoms) (k .operations) (k .listing) (k .telling) b x y
 
 -- ---- the tables
 
@@ -59,6 +60,7 @@ module _ (users resources roles : ℕ) (known values holders : List ℕ) where
   metAfter met (Operations m) = met
   metAfter met (Link t) = met
   metAfter met (Part k m) = met
+  metAfter met (Level l) = met
   metAfter met Ends = met
 
 -- a part's role has a place in the tables
@@ -68,6 +70,7 @@ PartWithin (Value v) = Unit {0}
 PartWithin (Operations m) = Unit {0}
 PartWithin (Link t) = Unit {0}
 PartWithin (Part k m) = k < 32
+PartWithin (Level l) = Unit {0}
 PartWithin Ends = Unit {0}
 
 -- the part listed joins the grid of those listed before; which parts were listed, and listed again
@@ -77,6 +80,7 @@ listedAfter holders permissions listed (Value v) = listed
 listedAfter holders permissions listed (Operations m) = listed
 listedAfter holders permissions listed (Link t) = listed
 listedAfter holders permissions listed (Part k m) = addedPart (getD holders k 0) permissions k m listed
+listedAfter holders permissions listed (Level l) = listed
 listedAfter holders permissions listed Ends = listed
 
 unfoldable pub seenBy : List ℕ → RuleCommand → List ℕ
@@ -85,6 +89,7 @@ seenBy seen (Value v) = seen
 seenBy seen (Operations m) = seen
 seenBy seen (Link t) = seen
 seenBy seen (Part k m) = seenAfter seen k m
+seenBy seen (Level l) = seen
 seenBy seen Ends = seen
 
 unfoldable pub againBy : List ℕ → List ℕ → RuleCommand → List ℕ
@@ -93,4 +98,5 @@ againBy seen again (Value v) = again
 againBy seen again (Operations m) = again
 againBy seen again (Link t) = again
 againBy seen again (Part k m) = againAfter seen again k m
+againBy seen again (Level l) = again
 againBy seen again Ends = again

@@ -19,13 +19,15 @@ use rule_commands::RuleCommand;
 const NO_ATOM: usize = 64;
 
 // The numbers that are kept: of the open rule the places that have values, the atoms, the operations (0 until there is a 26), whether a
-// part is listed, and the last command with its operands; of the rules before it how many there are, and the first stray one.
+// part is listed, whether its level is told, and the last command with its operands; of the rules before it how many there are, and the
+// first stray one.
 pub struct Tally {
     pub inside: bool,
     pub asked: u64,
     pub atoms: u64,
     pub operations: u64,
     pub listing: bool,
+    pub telling: bool,
     pub last: usize,
     pub x: u64,
     pub y: u64,
@@ -92,6 +94,9 @@ pub fn note(k: Tally, c: RuleCommand, b: usize, x: u64, y: u64) -> Tally
         } => {
             n.listing = true;
         }
+        RuleCommand::Level(_) => {
+            n.telling = true;
+        }
         RuleCommand::Opens => {}
         RuleCommand::Ends => {}
     }
@@ -152,6 +157,7 @@ pub fn meet_line<'a>(
             role: _,
             operations: _,
         } => {}
+        RuleCommand::Level(_) => {}
         RuleCommand::Opens => {}
         RuleCommand::Ends => {}
     }

@@ -15,7 +15,7 @@ use Rattle.rule_operands.specs.declared.Checked.the-variants.{Legal, Ill
 use Rattle.rule_commands.specs.declared.Atom.{Atom}
 use Rattle.rule_commands.specs.declared.Atom.the-variants.{SetContainsSet, SetContainsSingle, SingleEqualsSingle}
 use Rattle.rule_commands.specs.declared.RuleCommand.{RuleCommand}
-use Rattle.rule_commands.specs.declared.RuleCommand.the-variants.{Opens, Value, Operations, Link, Part, Ends}
+use Rattle.rule_commands.specs.declared.RuleCommand.the-variants.{Opens, Value, Operations, Link, Part, Level, Ends}
 
 -- the command, if a test passes
 abbrev pub legalIf : Bool → RuleCommand → Checked
@@ -62,7 +62,8 @@ checkedOf b x y resources ops roles attributes kinds domains holders permissions
     (cond (eqb b 0x25) (checkedValue 1 true x y roles resources attributes kinds)
     (cond (eqb b 0x26) (checkedOperations x ops)
     (cond (eqb b 0x27) (checkedLink x y attributes kinds domains)
-    (cond (eqb b 0x28) (checkedPart x y roles ops holders permissions) (Legal Ends))))))))
+    (cond (eqb b 0x28) (checkedPart x y roles ops holders permissions)
+    (cond (eqb b 0x29) (Legal (Level x)) (Legal Ends)))))))))
 
 -- the same beside the tables that the record has of a policy
 abbrev pub checkedBeside : Policy → ℕ → ℕ → ℕ → Checked

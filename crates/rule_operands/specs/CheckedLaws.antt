@@ -16,13 +16,13 @@ use Rattle.rule_legal.specs.OperandLaws.{value-means, link-means}
 use Rattle.rule_operands.specs.PartLegalLaws.{part-means}
 use Rattle.policy.specs.Policy.{Policy, settingOf, rolesIn}
 use Rattle.policy.specs.Rules.{resource}
-use Rattle.rule_commands.specs.Raw.{commandOf, linkMeaning, ruleMeaning, Sided, Shape, shape-opens, shape-user-single, shape-user-set, shape-resource-single, shape-resource-set, shape-operations, shape-link, shape-part, shape-ends}
+use Rattle.rule_commands.specs.Raw.{commandOf, linkMeaning, ruleMeaning, Sided, Shape, shape-opens, shape-user-single, shape-user-set, shape-resource-single, shape-resource-set, shape-operations, shape-link, shape-part, shape-level, shape-ends}
 use Rattle.sets.specs.Sets.{bit}
 use Rattle.sets.specs.Tests.{Is}
 use Rattle.rule_operands.specs.declared.Checked.the-variants.{Legal, Illegal}
 use Rattle.rule_commands.specs.declared.Atom.the-variants.{SetContainsSet, SetContainsSingle, SingleEqualsSingle}
 use Rattle.rule_commands.specs.declared.RuleCommand.{RuleCommand}
-use Rattle.rule_commands.specs.declared.RuleCommand.the-variants.{Opens, Operations, Link, Part, Ends}
+use Rattle.rule_commands.specs.declared.RuleCommand.the-variants.{Opens, Operations, Link, Part, Level, Ends}
 
 -- ---- what the code works out
 
@@ -67,11 +67,15 @@ module _ (b x y resources ops roles : ℕ) (attributes kinds domains holders per
   unfolding checkedOf
   at-part e = rw e refl
 
-  pub at-rest : (b ≡ 0x21 → ⊥) → (b ≡ 0x22 → ⊥) → (b ≡ 0x23 → ⊥) → (b ≡ 0x24 → ⊥) → (b ≡ 0x25 → ⊥) → (b ≡ 0x26 → ⊥) → (b ≡ 0x27 → ⊥) → (b ≡ 0x28 → ⊥)
+  pub at-level : b ≡ 0x29 → Legal (Level x) ≡ checkedOf b x y resources ops roles attributes kinds domains holders permissions
+  unfolding checkedOf
+  at-level e = rw e refl
+
+  pub at-rest : (b ≡ 0x21 → ⊥) → (b ≡ 0x22 → ⊥) → (b ≡ 0x23 → ⊥) → (b ≡ 0x24 → ⊥) → (b ≡ 0x25 → ⊥) → (b ≡ 0x26 → ⊥) → (b ≡ 0x27 → ⊥) → (b ≡ 0x28 → ⊥) → (b ≡ 0x29 → ⊥)
       → Legal Ends ≡ checkedOf b x y resources ops roles attributes kinds domains holders permissions
   unfolding checkedOf
-  at-rest n1 n2 n3 n4 n5 n6 n7 n8 =
-      rw (ne-eqb b 0x21 n1, ne-eqb b 0x22 n2, ne-eqb b 0x23 n3, ne-eqb b 0x24 n4, ne-eqb b 0x25 n5, ne-eqb b 0x26 n6, ne-eqb b 0x27 n7, ne-eqb b 0x28 n8) refl
+  at-rest n1 n2 n3 n4 n5 n6 n7 n8 n9 =
+      rw (ne-eqb b 0x21 n1, ne-eqb b 0x22 n2, ne-eqb b 0x23 n3, ne-eqb b 0x24 n4, ne-eqb b 0x25 n5, ne-eqb b 0x26 n6, ne-eqb b 0x27 n7, ne-eqb b 0x28 n8, ne-eqb b 0x29 n9) refl
 
 -- ---- what an answer says
 
@@ -123,6 +127,7 @@ module _ (F : Policy) (Z : Sized F) where
     answer = ap (λ (t : Bool). legalIf t (Link (atomOf a b (kindTable F)))) (link-means F Z a b);
   }
   answered (shape-part k m) = record { command = Part k m; stands = refl; sided = tt; answer = ap (λ (t : Bool). legalIf t (Part k m)) (part-means F Z k m) }
+  answered (shape-level l) = record { command = Level l; stands = refl; sided = tt; answer = refl }
   answered shape-ends = record { command = Ends; stands = refl; sided = tt; answer = refl }
 
   -- THE LAWS

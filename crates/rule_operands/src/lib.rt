@@ -110,7 +110,8 @@ fn check_part<'a>(
     Checked::Illegal
 }
 
-// The command of byte b with operands x and y, as `rule_commands::Raw` has them. 21 and 2F have none that could be illegal.
+// The command of byte b with operands x and y, as `rule_commands::Raw` has them. 21 and 2F have none that could be illegal, and that of a 29
+// is tested against the rule, not against the role file.
 pub fn check<'a>(
     b: usize,
     x: u64,
@@ -137,6 +138,7 @@ pub fn check<'a>(
         rule_byte::OPERATIONS => check_operations(x, sizes.operations),
         rule_byte::LINK => check_link(x, y, attributes, kinds, domains),
         rule_byte::PART => check_part(x, y, sizes, holders, permissions),
+        rule_byte::LEVEL => Checked::Legal(RuleCommand::Level(x)),
         _ => Checked::Legal(RuleCommand::Ends),
     }
 }

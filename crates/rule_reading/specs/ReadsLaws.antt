@@ -23,7 +23,7 @@ use Rattle.role_file.specs.Reading.{refusal, loadedOf}
 use Rattle.role_file.specs.SizedLaws.{loaded-policy}
 use Rattle.rule_commands.specs.Raw.{rawOf, Sided}
 use Rattle.rule_reading.specs.BothFiles.{nothingRead, bothOf}
-use Rattle.rule_reading.specs.RuleStateLaws.{State, begin, turn-cut, turn-strange, some-bytes, not-past, close-refused, opened, ended-late, ended, line-refused, line-illegal, line-legal, line-added, start, outcome, outcome-beside, line-sided}
+use Rattle.rule_reading.specs.RuleStateLaws.{State, begin, turn-cut, turn-strange, some-bytes, not-past, close-refused, opened, ended-late, ended, line-refused, line-illegal, line-unlevelled, line-legal, line-added, start, outcome, outcome-beside, line-sided}
 use Rattle.rule_notes.specs.Tally.{begunWith, openedWith, finishedWith, finishedGrid}
 use Rattle.rule_notes.specs.LineSteps.{notedWith, metAfter, PartWithin, listedAfter, seenBy, againBy}
 use Rattle.rule_steps.specs.ShowsLaws.{part-within}
@@ -33,7 +33,7 @@ use Rattle.rule_commands.specs.declared.RuleCommand.{RuleCommand}
 use Rattle.rule_notes.specs.declared.Tally.{Tally}
 use native.Mathlib.Omega.{arith}
 use Rattle.files.specs.Bytes.{read}
-use Rattle.rule_reading.specs.TurnLaws.{Refuses, cut, strange, unfinished, late, misplaced, illegal, Closing, Lining}
+use Rattle.rule_reading.specs.TurnLaws.{Refuses, cut, strange, unfinished, late, misplaced, illegal, unlevelled, Closing, Lining}
 use Rattle.rule_reading.specs.Turns.{closesRule, sizesOf, Tabled, bothWith, readBeside}
 use Rattle.role_record.specs.declared.Sizes.{Sizes}
 use Rattle.rule_commands.specs.declared.Raw.the-variants.{Whole}
@@ -125,6 +125,7 @@ module _ (F : Policy) (f : RoleFile) (sizes : Sizes) (links : List ℕ) (v : Tab
         go _ (late b x y w e h z d) = ended-late F (v .sized) rules k met listed grid seen again at t b x y w e h z (no-end w d)
         go _ (misplaced b x y w e n h) = line-refused F (v .sized) rules k met listed grid seen again at t b x y w e n h
         go _ (illegal b x y w e n h i) = line-illegal F (v .sized) rules k met listed grid seen again at t b x y w e n h (checked b x y ∙ i)
+        go _ (unlevelled b x y w c e n h i u) = line-unlevelled F (v .sized) rules k met listed grid seen again at t b x y w e n h c (checked b x y ∙ i) u
 
     -- ---- a 21 or 2F
 
@@ -166,7 +167,7 @@ module _ (F : Policy) (f : RoleFile) (sizes : Sizes) (links : List ℕ) (v : Tab
       line-read =
           at-record
           (λ g z l. State F rules (notedWith k c b x y) (metAfter (z .users) (z .resources) (z .roles) (g .known) (g .values) (g .holders) met c) (listedAfter (g .holders) (g .permissions) listed c) grid (seenBy seen c) (againBy seen again c) (at + w))
-          (line-added F (v .sized) rules k met listed grid seen again at t b x y w (d .front) (d .lines) (d .placed) c (checked b x y ∙ d .made))
+          (line-added F (v .sized) rules k met listed grid seen again at t b x y w (d .front) (d .lines) (d .placed) c (checked b x y ∙ d .made) (d .told))
 
       pub reads-line : (m : Tally) (met₁ listed₁ seen₁ again₁ : List ℕ) → m ≡ notedWith k c b x y → met₁ ≡ metAfter (sizes .users) (sizes .resources) (sizes .roles) (f .known) (f .values) (f .holders) met c → listed₁ ≡ listedAfter (f .holders) (f .permissions) listed c
           → seen₁ ≡ seenBy seen c → again₁ ≡ againBy seen again c → State F rules m met₁ listed₁ grid seen₁ again₁ (at + w)

@@ -13,10 +13,10 @@ use native.Mathlib.Omega.{arith}
 use Rattle.role_record.specs.Cells.{userCells}
 use Rattle.role_record.specs.Record.{Sized, knownTable, valueTable, permissionTable, recordOf}
 use Rattle.files.specs.Beside.{Beside, besideOf}
-use Rattle.files.specs.Answer.{Answer, unless, andThen, rulesOrder, rulesOperand, refused, accepted}
+use Rattle.files.specs.Answer.{Answer, unless, andThen, rulesOrder, rulesOperand, wrongLevel, refused, accepted}
 use Rattle.files.specs.BytesLaws.{read-behind, follow}
 use Rattle.files.specs.Bytes.{behind, readOn, read}
-use Rattle.files.specs.RuleFile.{RuleCommand as Line, Lines, isOperations, precedes, Reading, endsFile, whole, finished, follows, legal, addLine, obeyRule, ruleFormat, readBody, opens, ends}
+use Rattle.files.specs.RuleFile.{RuleCommand as Line, Lines, isOperations, isLevel, precedes, Reading, endsFile, whole, finished, noSecond, follows, legal, levelled, addLine, obeyRule, ruleFormat, readBody, opens, ends}
 use Rattle.grant_grids.specs.Grid.{gridOf}
 use Rattle.role_record.specs.RecordLaws.{table-none}
 use Rattle.rule_operands.specs.Checked.{checkedBeside}
@@ -25,15 +25,15 @@ use Rattle.grant_blocks.specs.PartGrid.{joinedGrid}
 use Rattle.policy.specs.Policy.{Policy, settingOf, rolesIn}
 use Rattle.policy.specs.Rules.{user, resource}
 use Rattle.rule_commands.specs.CommandOrderLaws.{order-more}
-use Rattle.rule_commands.specs.Raw.{InOrder, rawOf, rawBefore, commandOf, ruleMeaning, Shape, shape-opens, shape-user-single, shape-user-set, shape-resource-single, shape-resource-set, shape-operations, shape-link, shape-part, shape-ends, Sided}
+use Rattle.rule_commands.specs.Raw.{InOrder, rawOf, rawBefore, commandOf, ruleMeaning, Shape, shape-opens, shape-user-single, shape-user-set, shape-resource-single, shape-resource-set, shape-operations, shape-link, shape-part, shape-level, shape-ends, Sided}
 use Rattle.rule_commands.specs.RawLaws.{raw-short, raw-unknown, RawFront, raw-whole, again-refused}
 use Rattle.rule_reading.specs.BothFiles.{nothingRead, bothOf}
-use Rattle.rule_notes.specs.Tally.{begunWith, openedWith, ruleGrid, closedWith, finishedWith, finishedGrid, mayClose, followsWith}
+use Rattle.rule_notes.specs.Tally.{begunWith, openedWith, ruleGrid, closedWith, finishedWith, finishedGrid, mayClose, isSecond, followsWith, levelledWith}
 use Rattle.rule_notes.specs.KeptLaws.{finish-inside, finish-outside}
 use Rattle.rule_notes.specs.LineSteps.{notedWith, metAfter, listedAfter, seenBy, againBy}
 use Rattle.rule_steps.specs.Shows.{Stored, Shows}
 use Rattle.grant_grids.specs.Links.{linksOf}
-use Rattle.rule_steps.specs.ShowsLaws.{nothing-granted, stored-begun, shows-opened, stored-closed, stored-outside, may-close-means, follows-means, shows-line}
+use Rattle.rule_steps.specs.ShowsLaws.{nothing-granted, stored-begun, shows-opened, stored-closed, stored-outside, may-close-means, follows-means, levelled-means, shows-line}
 use Rattle.sets.specs.ListLaws.{length-none}
 use Rattle.sets.specs.Tests.{Is, all, any, isSome}
 use Rattle.sets.specs.TestLaws.{and-l, and-r, or-l, or-r, never, test, fails}
@@ -43,7 +43,7 @@ use Rattle.rule_notes.specs.declared.Tally.{Tally}
 use Rattle.rule_reading.specs.Turns.{bothWith, readBeside}
 use Rattle.rule_operands.specs.declared.Checked.the-variants.{Legal, Illegal}
 use Rattle.rule_commands.specs.declared.Raw.the-variants.{Whole, Unknown, Short}
-use Rattle.rule_commands.specs.declared.RuleCommand.the-variants.{Opens, Value, Operations, Link, Part, Ends}
+use Rattle.rule_commands.specs.declared.RuleCommand.the-variants.{Opens, Value, Operations, Link, Part, Level, Ends}
 
 -- the lines of the open rule; none if none is open
 abbrev pub openLines : Option Lines → Lines
@@ -94,7 +94,7 @@ begin F s = record {
   few = omega arith;
   last = omega arith;
   inside = refl;
-  shows = shows-opened F [] begunWith begunWith (replicate 14 0) (replicate userCells 0) (replicate userCells 0) (replicate 32 0) (replicate 32 0) (stored-begun F) (table-none 14) nothing-granted refl refl refl refl refl refl refl refl;
+  shows = shows-opened F [] begunWith begunWith (replicate 14 0) (replicate userCells 0) (replicate userCells 0) (replicate 32 0) (replicate 32 0) (stored-begun F) (table-none 14) nothing-granted refl refl refl refl refl refl refl refl refl;
   same = refl;
 }
 
@@ -105,7 +105,7 @@ pub data Kind (b x y : ℕ) : Type 0 where
   reshaping : b ≡ 0x20 → Kind b x y
   opening : b ≡ 0x21 → commandOf b x y ≡ opens → Kind b x y
   ending : b ≡ 0x2F → commandOf b x y ≡ ends → Kind b x y
-  lining : 0x22 ≤ b → b ≤ 0x28 → endsFile (commandOf b x y) ≡ false → ((B : Beside) (t : Reading) → obeyRule B t (commandOf b x y) ≡ addLine B t (commandOf b x y)) → Kind b x y
+  lining : 0x22 ≤ b → b ≤ 0x29 → endsFile (commandOf b x y) ≡ false → ((B : Beside) (t : Reading) → obeyRule B t (commandOf b x y) ≡ addLine B t (commandOf b x y)) → Kind b x y
 
 kind-of : {b x y : ℕ} → Shape b x y → Kind b x y
 unfolding commandOf obeyRule
@@ -117,6 +117,7 @@ kind-of (shape-resource-set a v) = lining (omega arith) (omega arith) refl (λ B
 kind-of (shape-operations m) = lining (omega arith) (omega arith) refl (λ B t. refl)
 kind-of (shape-link a b) = lining (omega arith) (omega arith) refl (λ B t. refl)
 kind-of (shape-part j m) = lining (omega arith) (omega arith) refl (λ B t. refl)
+kind-of (shape-level l) = lining (omega arith) (omega arith) refl (λ B t. refl)
 kind-of shape-ends = ending refl refl
 
 kind-at : {b x y : ℕ} → ((b ≡ 0x20 → ⊥) → Shape b x y) → Kind b x y
@@ -129,7 +130,7 @@ moved F rules n m g h seen again p q s = subst (λ (l : List ℕ). Stored F rule
 
 opened-shows : (F : Policy) (rules : List Lines) (n : Tally) (grid seen again : List ℕ) → Stored F rules n grid seen again → Shows F rules [] (openedWith n) (replicate 14 0) (gridOf (λ u r o. false)) grid seen again
 unfolding openedWith
-opened-shows F rules n grid seen again s = shows-opened F rules n (openedWith n) (replicate 14 0) (gridOf (λ u r o. false)) grid seen again s (table-none 14) refl refl refl refl refl refl refl refl refl
+opened-shows F rules n grid seen again s = shows-opened F rules n (openedWith n) (replicate 14 0) (gridOf (λ u r o. false)) grid seen again s (table-none 14) refl refl refl refl refl refl refl refl refl refl
 
 opened-kept : (n : Tally) → (openedWith n .rules ≡ n .rules) × (openedWith n .inside ≡ true) × (openedWith n .last ≡ 0x21)
 unfolding openedWith
@@ -142,6 +143,7 @@ noted-kept k (Value v) b x y = (refl, refl, refl)
 noted-kept k (Operations m) b x y = (refl, refl, refl)
 noted-kept k (Link t) b x y = (refl, refl, refl)
 noted-kept k (Part j m) b x y = (refl, refl, refl)
+noted-kept k (Level l) b x y = (refl, refl, refl)
 noted-kept k Ends b x y = (refl, refl, refl)
 
 -- ---- a turn
@@ -279,7 +281,7 @@ module _ (F : Policy) (Z : Sized F) (s : List ℕ) (k : Tally) (met listed grid 
     unfinished h = go (t .reading .current) refl
       where
         go : (o : Option Lines) → t .reading .current ≡ o → finished (t .reading) ≡ refused rulesOrder
-        go none q = absurd (false≢true (sym h ∙ ap (λ (u : Bool). cond u (not (eqb (k .operations) 0) && k .listing) true) (inside-is none q)))
+        go none q = absurd (false≢true (sym h ∙ ap (λ (u : Bool). cond u (not (eqb (k .operations) 0) && (k .listing && k .telling)) true) (inside-is none q)))
         go (some ls) q = finished-some ls q ∙ ap (λ (u : Bool). unless u rulesOrder (accepted (t .reading .complete ++ (ls ∷ [])))) (sym (may-close-means F Z (t .reading .complete) ls k met listed grid seen again (shows-lines (some ls) q) (inside-is (some ls) q)) ∙ h)
 
     obey-opens : commandOf b x y ≡ opens → (a : Answer (List Lines)) → finished (t .reading) ≡ a → obeyRule (besideOf F) (t .reading) (commandOf b x y) ≡ andThen a (λ done. accepted (record { complete = done; current = some [] }))
@@ -360,12 +362,16 @@ module _ (F : Policy) (Z : Sized F) (s : List ℕ) (k : Tally) (met listed grid 
 
     -- ---- a line of the open rule
 
+    -- the reading with it
+    abbrev with-line : Lines → Reading
+    with-line ls = record { complete = t .reading .complete; current = some (ls ++ (commandOf b x y ∷ [])) }
+
     add-none : t .reading .current ≡ none → addLine (besideOf F) (t .reading) (commandOf b x y) ≡ refused rulesOrder
     unfolding addLine
     add-none q = rw q refl
 
     add-some : (ls : Lines) → t .reading .current ≡ some ls → addLine (besideOf F) (t .reading) (commandOf b x y)
-        ≡ unless (follows ls (commandOf b x y)) rulesOrder (unless (legal (besideOf F) (commandOf b x y)) rulesOperand (accepted (record { complete = t .reading .complete; current = some (ls ++ (commandOf b x y ∷ [])) })))
+        ≡ unless (follows ls (commandOf b x y)) rulesOrder (unless (legal (besideOf F) (commandOf b x y)) rulesOperand (unless (levelled (besideOf F) ls (commandOf b x y)) wrongLevel (accepted (with-line ls))))
     unfolding addLine
     add-some ls q = rw q refl
 
@@ -373,7 +379,7 @@ module _ (F : Policy) (Z : Sized F) (s : List ℕ) (k : Tally) (met listed grid 
       -- what a line is
       pub record OfRule : Type 0 where
         pub low : 0x22 ≤ b
-        pub high : b ≤ 0x28
+        pub high : b ≤ 0x29
         pub goes-on : endsFile (commandOf b x y) ≡ false
         pub adds : obeyRule (besideOf F) (t .reading) (commandOf b x y) ≡ addLine (besideOf F) (t .reading) (commandOf b x y)
 
@@ -396,7 +402,7 @@ module _ (F : Policy) (Z : Sized F) (s : List ℕ) (k : Tally) (met listed grid 
         where
           go : (b ≡ 0x20 → ⊥) → (o : Option Lines) → t .reading .current ≡ o → addLine (besideOf F) (t .reading) (commandOf b x y) ≡ refused rulesOrder
           go other none q = add-none q
-          go other (some ls) q = add-some ls q ∙ ap (λ (u : Bool). unless u rulesOrder (unless (legal (besideOf F) (commandOf b x y)) rulesOperand (accepted (record { complete = t .reading .complete; current = some (ls ++ (commandOf b x y ∷ [])) })))) (sym (follows-is other ls q) ∙ h)
+          go other (some ls) q = add-some ls q ∙ ap (λ (u : Bool). unless u rulesOrder (unless (legal (besideOf F) (commandOf b x y)) rulesOperand (unless (levelled (besideOf F) ls (commandOf b x y)) wrongLevel (accepted (with-line ls))))) (sym (follows-is other ls q) ∙ h)
 
       module _ (h : followsWith k b x y ≡ true) where
         -- the open rule
@@ -408,7 +414,7 @@ module _ (F : Policy) (Z : Sized F) (s : List ℕ) (k : Tally) (met listed grid 
 
         parts-of : (k .inside ≡ true) × (rawBefore (k .last) (k .x) (k .y) b x y ≡ true)
         unfolding followsWith
-        parts-of = (and-l (k .inside) _ h, and-r (not (eqb b 0x26 && not (eqb (k .operations) 0))) _ (and-r (k .inside) _ h))
+        parts-of = (and-l (k .inside) _ h, and-r (not (isSecond k b)) _ (and-r (k .inside) _ h))
 
         -- it is no 20
         other : b ≡ 0x20 → ⊥
@@ -425,16 +431,34 @@ module _ (F : Policy) (Z : Sized F) (s : List ℕ) (k : Tally) (met listed grid 
             go none q = absurd (false≢true (sym (inside-is none q) ∙ parts-of .0))
             go (some ls) q = record { lines = ls; current = q; follow = sym (follows-is other ls q) ∙ h; after = parts-of .1 }
 
-        added : obeyRule (besideOf F) (t .reading) (commandOf b x y)
-            ≡ unless (legal (besideOf F) (commandOf b x y)) rulesOperand (accepted (record { complete = t .reading .complete; current = some (open-rule .lines ++ (commandOf b x y ∷ [])) }))
-        added = of-rule other .adds ∙ add-some (open-rule .lines) (open-rule .current) ∙ ap (λ (u : Bool). unless u rulesOrder (unless (legal (besideOf F) (commandOf b x y)) rulesOperand (accepted (record { complete = t .reading .complete; current = some (open-rule .lines ++ (commandOf b x y ∷ [])) })))) (open-rule .follow)
+        -- what comes of it
+        abbrev tested : Bool → Answer Reading
+        tested l = unless l rulesOperand (unless (levelled (besideOf F) (open-rule .lines) (commandOf b x y)) wrongLevel (accepted (with-line (open-rule .lines))))
+
+        added : obeyRule (besideOf F) (t .reading) (commandOf b x y) ≡ tested (legal (besideOf F) (commandOf b x y))
+        added = of-rule other .adds ∙ add-some (open-rule .lines) (open-rule .current) ∙ ap (λ (u : Bool). unless u rulesOrder (tested (legal (besideOf F) (commandOf b x y)))) (open-rule .follow)
 
         operand-refused : obeyRule (besideOf F) (t .reading) (commandOf b x y) ≡ refused rulesOperand → nothingRead 13 ≡ answer
         unfolding outcome bothOf
         operand-refused q = ap (λ (r : Answer Reading). outcome F (andThen r onward)) (sym q) ∙ turned
 
         pub line-illegal : checkedBeside F b x y ≡ Illegal → nothingRead 13 ≡ outcome F (read (ruleFormat 2 (besideOf F)) start s)
-        line-illegal i = operand-refused (added ∙ ap (λ (u : Bool). unless u rulesOperand (accepted (record { complete = t .reading .complete; current = some (open-rule .lines ++ (commandOf b x y ∷ [])) }))) (checked-illegal F Z (front .shape other) i))
+        line-illegal i = operand-refused (added ∙ ap tested (checked-illegal F Z (front .shape other) i))
+
+        -- the level of a 29, tested behind that
+        level-is : levelledWith k b x ≡ levelled (besideOf F) (open-rule .lines) (commandOf b x y)
+        level-is = levelled-means F Z (t .reading .complete) (open-rule .lines) k met listed grid seen again (shows-lines (some (open-rule .lines)) (open-rule .current)) (front .shape other)
+
+        level-tested : Is (legal (besideOf F) (commandOf b x y)) → obeyRule (besideOf F) (t .reading) (commandOf b x y) ≡ unless (levelledWith k b x) wrongLevel (accepted (with-line (open-rule .lines)))
+        level-tested l = added ∙ ap tested l ∙ ap (λ (u : Bool). unless u wrongLevel (accepted (with-line (open-rule .lines)))) (sym level-is)
+
+        level-refused : obeyRule (besideOf F) (t .reading) (commandOf b x y) ≡ refused wrongLevel → nothingRead 18 ≡ answer
+        unfolding outcome bothOf
+        level-refused q = ap (λ (r : Answer Reading). outcome F (andThen r onward)) (sym q) ∙ turned
+
+        pub line-unlevelled : (c : RuleCommand) → checkedBeside F b x y ≡ Legal c → levelledWith k b x ≡ false → nothingRead 18 ≡ outcome F (read (ruleFormat 2 (besideOf F)) start s)
+        line-unlevelled c g v =
+            level-refused (level-tested (checked-legal F Z (front .shape other) c g .0) ∙ ap (λ (u : Bool). unless u wrongLevel (accepted (with-line (open-rule .lines)))) v)
 
         -- no second 26
         only-one : {p q : Bool} → Is (not (p && q)) → p ≡ true → q ≡ false
@@ -442,7 +466,9 @@ module _ (F : Policy) (Z : Sized F) (s : List ℕ) (k : Tally) (met listed grid 
 
         no-second : isOperations (commandOf b x y) ≡ true → any isOperations (open-rule .lines) ≡ false
         unfolding follows
-        no-second j = only-one (and-r (all (λ d. precedes d (commandOf b x y)) (open-rule .lines)) _ (open-rule .follow)) j
+        no-second j =
+            only-one (and-l (noSecond isOperations (open-rule .lines) (commandOf b x y)) (noSecond isLevel (open-rule .lines) (commandOf b x y))
+            (and-r (all (λ d. precedes d (commandOf b x y)) (open-rule .lines)) _ (open-rule .follow))) j
 
         module _ (c : RuleCommand) (g : checkedBeside F b x y ≡ Legal c) where
           legal-line : Is (legal (besideOf F) (commandOf b x y)) × (ruleMeaning c ≡ commandOf b x y) × Sided c
@@ -468,13 +494,13 @@ module _ (F : Policy) (Z : Sized F) (s : List ℕ) (k : Tally) (met listed grid 
               (subst (λ (d : Line). InOrder b x y (open-rule .lines ++ (d ∷ []))) (sym (legal-line .1)) (order-more (k .last) (k .x) (k .y) b x y (open-rule .lines) (shows-lines (some (open-rule .lines)) (open-rule .current) .ordered) (front .shape other) (of-rule other .low) (of-rule other .high) (open-rule .after)))
               (λ j. no-second (ap isOperations (sym (legal-line .1)) ∙ j)))
 
-          pub line-added : State F s (notedWith k c b x y) (metAfter (F .table user .count) (F .table resource .count) (F .roles) (knownTable F) (valueTable F) (recordOf F .holders) met c)
+          pub line-added : levelledWith k b x ≡ true → State F s (notedWith k c b x y) (metAfter (F .table user .count) (F .table resource .count) (F .roles) (knownTable F) (valueTable F) (recordOf F .holders) met c)
               (listedAfter (recordOf F .holders) (permissionTable F) listed c) grid (seenBy seen c) (againBy seen again c) (at + w)
-          line-added =
+          line-added v =
               stepped (record { complete = t .reading .complete; current = some (open-rule .lines ++ (commandOf b x y ∷ [])) }) (notedWith k c b x y)
               (metAfter (F .table user .count) (F .table resource .count) (F .roles) (knownTable F) (valueTable F) (recordOf F .holders) met c) (listedAfter (recordOf F .holders) (permissionTable F) listed c) grid (seenBy seen c) (againBy seen again c)
               (of-rule other .goes-on)
-              (added ∙ ap (λ (u : Bool). unless u rulesOperand (accepted (record { complete = t .reading .complete; current = some (open-rule .lines ++ (commandOf b x y ∷ [])) }))) (legal-line .0))
+              (level-tested (legal-line .0) ∙ ap (λ (u : Bool). unless u wrongLevel (accepted (with-line (open-rule .lines)))) v)
               (let l = t .few in let r = noted-kept k c b x y .0 in omega arith)
               (let r = noted-kept k c b x y .2 in let q = of-rule other .low in omega arith)
               (noted-kept k c b x y .1 ∙ inside-is (some (open-rule .lines)) (open-rule .current))

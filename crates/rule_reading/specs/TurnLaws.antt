@@ -11,7 +11,7 @@ use mathlib.Core.Path.{_≡_, refl, sym, ap, _∙_, subst}
 use Rattle.rule_commands.specs.Raw.{rawOf}
 use Rattle.rule_reading.specs.Turns.{closesRule, closingTurn, lineTurn, turnBy, turnOf}
 use Rattle.rule_operands.specs.Checked.{checkedOf}
-use Rattle.rule_notes.specs.Tally.{mayClose, followsWith}
+use Rattle.rule_notes.specs.Tally.{mayClose, followsWith, levelledWith}
 use Rattle.sets.specs.TestLaws.{or-out}
 use Rattle.role_record.specs.declared.Sizes.{Sizes}
 use Rattle.rule_commands.specs.declared.Raw.{Raw}
@@ -42,6 +42,15 @@ module _ (k : Tally) (b w left : ℕ) where
   unfolding closingTurn
   close-ends e h n = rw (e, ne-eqb b 0x21 h, eq-eqb w left n) refl
 
+-- a legal line, which tells no wrong level, and which does
+pub line-right : {a : Checked} {l : Bool} (c : RuleCommand) (b x y w : ℕ) → a ≡ Legal c → l ≡ true → Line c b x y w ≡ lineTurn a l b x y w
+unfolding lineTurn
+line-right c b x y w e f = rw (e, f) refl
+
+pub line-wrong : {a : Checked} {l : Bool} (c : RuleCommand) (b x y w : ℕ) → a ≡ Legal c → l ≡ false → Refused 18 ≡ lineTurn a l b x y w
+unfolding lineTurn
+line-wrong c b x y w e f = rw (e, f) refl
+
 module _ (k : Tally) (s : List ℕ) (sizes : Sizes) (attributes kinds domains holders permissions : List ℕ) where
   pub turn-strange : rawOf s ≡ Unknown → Refused 11 ≡ turnOf k s sizes attributes kinds domains holders permissions
   unfolding turnOf turnBy
@@ -60,7 +69,7 @@ module _ (k : Tally) (s : List ℕ) (sizes : Sizes) (attributes kinds domains ho
     unfolding turnOf turnBy
     turn-misplaced h f = rw (e, h, f) refl
 
-    pub turn-line : closesRule b ≡ false → followsWith k b x y ≡ true → lineTurn (checkedOf b x y (sizes .resources) (sizes .operations) (sizes .roles) attributes kinds domains holders permissions) b x y w ≡ turnOf k s sizes attributes kinds domains holders permissions
+    pub turn-line : closesRule b ≡ false → followsWith k b x y ≡ true → lineTurn (checkedOf b x y (sizes .resources) (sizes .operations) (sizes .roles) attributes kinds domains holders permissions) (levelledWith k b x) b x y w ≡ turnOf k s sizes attributes kinds domains holders permissions
     unfolding turnOf turnBy
     turn-line h f = rw (e, h, f) refl
 
@@ -78,6 +87,7 @@ module _ (k : Tally) (s : List ℕ) (sizes : Sizes) (attributes kinds domains ho
     late : (b x y w : ℕ) → rawOf s ≡ Whole b x y w → mayClose k ≡ true → b ≡ 0x2F → (w ≡ length s → ⊥) → Refuses 12
     misplaced : (b x y w : ℕ) → rawOf s ≡ Whole b x y w → closesRule b ≡ false → followsWith k b x y ≡ false → Refuses 12
     illegal : (b x y w : ℕ) → rawOf s ≡ Whole b x y w → closesRule b ≡ false → followsWith k b x y ≡ true → checkedHere b x y ≡ Illegal → Refuses 13
+    unlevelled : (b x y w : ℕ) (c : RuleCommand) → rawOf s ≡ Whole b x y w → closesRule b ≡ false → followsWith k b x y ≡ true → checkedHere b x y ≡ Legal c → levelledWith k b x ≡ false → Refuses 18
 
   -- a 21 or 2F
   pub record Closing (b w : ℕ) : Type 0 where
@@ -92,6 +102,7 @@ module _ (k : Tally) (s : List ℕ) (sizes : Sizes) (attributes kinds domains ho
     pub lines : closesRule b ≡ false
     pub placed : followsWith k b x y ≡ true
     pub made : checkedHere b x y ≡ Legal c
+    pub told : levelledWith k b x ≡ true
 
   unfoldable pub Turned : Turn → Type 0
   Turned (Refused n) = Refuses n
@@ -116,13 +127,15 @@ module _ (k : Tally) (s : List ℕ) (sizes : Sizes) (attributes kinds domains ho
 
     whole-turned : Turned (turnBy k s sizes attributes kinds domains holders permissions (Whole b x y w))
     unfolding turnBy lineTurn Turned
-    whole-turned = go (closesRule b) (followsWith k b x y) (checkedHere b x y) refl refl refl
+    whole-turned = go (closesRule b) (followsWith k b x y) (checkedHere b x y) (levelledWith k b x) refl refl refl refl
       where
-        go : (o f : Bool) (a : Checked) → closesRule b ≡ o → followsWith k b x y ≡ f → checkedHere b x y ≡ a → Turned (cond o (closingTurn k b w (length s)) (cond f (lineTurn a b x y w) (Refused 12)))
-        go true f a p q r = closing-turned p
-        go false true (Legal c) p q r = record { front = e; lines = p; placed = q; made = r }
-        go false true Illegal p q r = illegal b x y w e p q r
-        go false false a p q r = misplaced b x y w e p q
+        go : (o f : Bool) (a : Checked) (l : Bool) → closesRule b ≡ o → followsWith k b x y ≡ f → checkedHere b x y ≡ a → levelledWith k b x ≡ l
+            → Turned (cond o (closingTurn k b w (length s)) (cond f (lineTurn a l b x y w) (Refused 12)))
+        go true f a l p q r v = closing-turned p
+        go false true (Legal c) true p q r v = record { front = e; lines = p; placed = q; made = r; told = v }
+        go false true (Legal c) false p q r v = unlevelled b x y w c e p q r v
+        go false true Illegal l p q r v = illegal b x y w e p q r
+        go false false a l p q r v = misplaced b x y w e p q
 
   turned : Turned (turnOf k s sizes attributes kinds domains holders permissions)
   unfolding turnOf turnBy Turned

@@ -14,7 +14,7 @@ use Rattle.policy.specs.Policy.{Policy, settingOf, rolesIn}
 use Rattle.role_record.specs.Record.{Sized, recordOf}
 use Rattle.rule_commands.specs.Raw.{rawOf}
 use Rattle.rule_operands.specs.Checked.{checkedOf}
-use Rattle.rule_notes.specs.Tally.{mayClose, followsWith}
+use Rattle.rule_notes.specs.Tally.{mayClose, followsWith, levelledWith}
 use Rattle.role_record.specs.declared.RoleFile.{RoleFile}
 use Rattle.role_record.specs.declared.Sizes.{Sizes}
 use Rattle.rule_commands.specs.declared.Raw.{Raw}
@@ -36,10 +36,10 @@ closesRule b = eqb b 0x21 || eqb b 0x2F
 unfoldable pub closingTurn : Tally → ℕ → ℕ → ℕ → Turn
 closingTurn k b w left = cond (mayClose k) (cond (eqb b 0x21) (Opens w) (cond (eqb w left) Ends (Refused 12))) (Refused 12)
 
--- another command, where it may stand
-unfoldable pub lineTurn : Checked → ℕ → ℕ → ℕ → ℕ → Turn
-lineTurn (Legal c) b x y w = Line c b x y w
-lineTurn Illegal b x y w = Refused 13
+-- another command, where it may stand, and whether it tells no wrong level
+unfoldable pub lineTurn : Checked → Bool → ℕ → ℕ → ℕ → ℕ → Turn
+lineTurn (Legal c) l b x y w = cond l (Line c b x y w) (Refused 18)
+lineTurn Illegal l b x y w = Refused 13
 
 module _ (k : Tally) (s : List ℕ) (sizes : Sizes) (attributes kinds domains holders permissions : List ℕ) where
   unfoldable pub turnBy : Raw → Turn
@@ -47,7 +47,7 @@ module _ (k : Tally) (s : List ℕ) (sizes : Sizes) (attributes kinds domains ho
   turnBy Unknown = Refused 11
   turnBy (Whole b x y w) =
       cond (closesRule b) (closingTurn k b w (length s))
-      (cond (followsWith k b x y) (lineTurn (checkedOf b x y (sizes .resources) (sizes .operations) (sizes .roles) attributes kinds domains holders permissions) b x y w) (Refused 12))
+      (cond (followsWith k b x y) (lineTurn (checkedOf b x y (sizes .resources) (sizes .operations) (sizes .roles) attributes kinds domains holders permissions) (levelledWith k b x) b x y w) (Refused 12))
 
   unfoldable pub turnOf : Turn
   turnOf = turnBy (rawOf s)

@@ -66,12 +66,17 @@ fn closing_turn(k: Tally, b: usize, w: usize, left: usize) -> Turn
     Turn::Ends
 }
 
-// Another command, where it may stand.
-fn line_turn(checked: Checked, b: usize, x: u64, y: u64, w: usize) -> Turn
-    ensures { λ r. ⌜ r ≡ lineTurn checked b x y w ⌝ }
+// Another command, where it may stand; if it is a 29, with the right level or not.
+fn line_turn(checked: Checked, levelled: bool, b: usize, x: u64, y: u64, w: usize) -> Turn
+    ensures { λ r. ⌜ r ≡ lineTurn checked levelled b x y w ⌝ }
 {
     match checked {
-        Checked::Legal(c) => Turn::Line(c, b, x, y, w),
+        Checked::Legal(c) => {
+            if levelled {
+                return Turn::Line(c, b, x, y, w);
+            }
+            Turn::Refused(refusal::WRONG_LEVEL)
+        }
         Checked::Illegal => Turn::Refused(refusal::RULES_OPERAND),
     }
 }
@@ -114,7 +119,7 @@ pub fn next_turn<'a>(
                 holders,
                 permissions,
             );
-            line_turn(c, b, x, y, w)
+            line_turn(c, rule_steps::levelled(k, b, x), b, x, y, w)
         }
     }
 }

@@ -17,7 +17,7 @@ use Rattle.rule_conjuncts.specs.SummaryLaws.{side-met}
 use Rattle.files.specs.Beside.{Beside, besideOf}
 use Rattle.files.specs.LineLaws.{same-side}
 use Rattle.files.specs.RoleFile.{sideBy, sameSide}
-use Rattle.files.specs.RuleFile.{RuleCommand, Lines, listed, valuesIn, conjunctsIn, legal, reshapes, opens, value, operations, link, part, ends}
+use Rattle.files.specs.RuleFile.{RuleCommand, Lines, listed, valuesIn, conjunctsIn, legal, reshapes, opens, value, operations, link, part, level, ends}
 use Rattle.role_record.specs.Places.{placeSide, placeAttribute, setPlace}
 use Rattle.role_record.specs.PlacesLaws.{set-means}
 use Rattle.role_record.specs.Record.{Sized, recordOf}
@@ -146,6 +146,7 @@ module _ (F : Policy) (Z : Sized F) where
   not-listed w a n k s (operations m) h = refl
   not-listed w a n k s (link x b) h = refl
   not-listed w a n k s (part x m) h = refl
+  not-listed w a n k s (level x) h = refl
   not-listed w a n k s ends h = refl
 
   none-listed : (w : Which) (a : ℕ) → (a ≡ own → ⊥) → length (F .table w .kinds) ≤ a → (ls : Lines) → Legal (besideOf F) ls → valuesIn (settingOf F) ls w a ≡ []

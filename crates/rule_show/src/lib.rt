@@ -28,6 +28,7 @@ fn size_of(b: usize) -> usize
         rule_byte::OPERATIONS => 3,
         rule_byte::LINK => 3,
         rule_byte::SHAPE => 7,
+        rule_byte::LEVEL => 2,
         _ => 1,
     }
 }

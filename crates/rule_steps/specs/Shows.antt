@@ -8,7 +8,7 @@ use mathlib.Core.Path.{_≡_}
 use Rattle.rule_conjuncts.specs.Summary.{metTable, askedPlaces, atomPlaces}
 use Rattle.files.specs.Beside.{besideOf}
 use Rattle.files.specs.Calls.{isTriple, rulesGrant, partsGrant, firstStrayRule}
-use Rattle.files.specs.RuleFile.{Lines, isPartLine, operationsIn}
+use Rattle.files.specs.RuleFile.{Lines, isPartLine, isLevel, operationsIn}
 use Rattle.grant_grids.specs.Grid.{gridOf}
 use Rattle.rule_listings.specs.Listed.{seenTable, againTable}
 use Rattle.role_record.specs.Record.{numberOr}
@@ -43,6 +43,7 @@ module _ (F : Policy) where
     pub atoms-shown : k .atoms ≡ atomPlaces ls
     pub operations-shown : k .operations ≡ operationsIn ls
     pub listing-shown : k .listing ≡ any isPartLine ls
+    pub telling-shown : k .telling ≡ any isLevel ls
     pub ordered : InOrder (k .last) (k .x) (k .y) ls
     pub listed-shown : listed ≡ gridOf (partsGrant (settingOf F) (rolesIn F) ls)
     pub grid-shown : grid ≡ gridOf (grantedWithin rules)

@@ -11,15 +11,15 @@ use mathlib.Core.Option.{Option, none, some}
 use mathlib.Core.Path.{_≡_, refl, sym, ap, ap₂, _∙_, subst}
 use native.Mathlib.Omega.{arith}
 use Rattle.role_record.specs.Cells.{rowCells, userCells}
-use Rattle.role_record.specs.Places.{placeOf}
+use Rattle.role_record.specs.Places.{placeSide, placeAttribute, placeOf}
 use Rattle.role_record.specs.Record.{Sized, numberOr, tableOf, marked, knownTable, valueTable, permissionTable, recordOf}
 use Rattle.rule_conjuncts.specs.SummaryLineLaws.{met-kept, asked-kept, NoValue, met-line, asked-line, atoms-line, atoms-kept, operations-line, operations-kept, met-none, asked-none, atoms-none}
-use Rattle.rule_conjuncts.specs.Summary.{metTable, askedPlaces, atomPlaces, isAtom}
+use Rattle.rule_conjuncts.specs.Summary.{valuesFor, metTable, askedPlaces, atomPlaces, isAtom}
 use Rattle.files.specs.Beside.{besideOf}
 use Rattle.files.specs.Calls.{isTriple, rulesGrant, partsGrant, firstStrayRule}
 use Rattle.files.specs.RoleFile.{sideBy}
 use Rattle.files.specs.LineLaws.{operationsOr}
-use Rattle.files.specs.RuleFile.{RuleCommand as Line, Lines, isOperations, isPartLine, operationsIn, ruleIn, whole, follows, legal, ownValue, reshapes, opens, value, operations, link, part, ends}
+use Rattle.files.specs.RuleFile.{RuleCommand as Line, Lines, isOperations, isPartLine, isLevel, operationsIn, valuesIn, ruleIn, whole, noSecond, follows, legal, levelled, ownValue, reshapes, opens, value, operations, link, part, level, ends}
 use Rattle.grant_grids.specs.Grid.{gridOf, inGrid, gridDifference, differenceOf, isSame}
 use Rattle.grant_grids.specs.GridLaws.{in-grid, grid-same, grids-same}
 use Rattle.rule_listings.specs.Listed.{seenAfter, againAfter, seenTable, againTable}
@@ -30,21 +30,25 @@ use Rattle.rule_meeting.specs.MeetingMeansLaws.{meeting-means}
 use Rattle.grant_blocks.specs.PartGrid.{addedPart, joinedGrid}
 use Rattle.grant_blocks.specs.PartGridLaws.{grid-kept, none-listed, joined-means, part-added}
 use Rattle.policy.specs.ClassLaws.{part-facts}
+use Rattle.policy.specs.OrderLaws.{Numbered}
 use Rattle.policy.specs.Policy.{Policy, kindOf, isSetAt, sideOf, settingOf, rolesIn}
 use Rattle.policy.specs.Roles.{parts, classOf}
-use Rattle.policy.specs.Rules.{own, Which, by, Block, Triple, grants, sameBlock, user, resource}
+use Rattle.policy.specs.Rules.{own, Which, by, Block, Triple, grants, ruleLevel, sameBlock, user, resource}
 use Rattle.rule_commands.specs.CommandOrderLaws.{order-none}
-use Rattle.rule_commands.specs.Raw.{InOrder, rawBefore, commandOf, linkMeaning, ruleMeaning, Shape, shape-opens, shape-user-single, shape-user-set, shape-resource-single, shape-resource-set, shape-operations, shape-link, shape-part, shape-ends, Sided}
+use Rattle.rule_commands.specs.Raw.{InOrder, rawBefore, commandOf, linkMeaning, ruleMeaning, Shape, shape-opens, shape-user-single, shape-user-set, shape-resource-single, shape-resource-set, shape-operations, shape-link, shape-part, shape-level, shape-ends, Sided}
 use Rattle.rule_grants.specs.RuleGrid.{summaryGrants}
 use Rattle.rule_satisfaction.specs.Satisfaction.{Legal}
 use Rattle.rule_grants.specs.SummaryGridLaws.{summary-means}
-use Rattle.rule_notes.specs.Tally.{begunWith, countedWith, ruleGrid, closedWith, mayClose, followsWith}
+use Rattle.rule_levels.specs.LevelLaws.{lines-level}
+use Rattle.rule_levels.specs.Levels.{levelFor, listsOwn, linesLevel}
+use Rattle.rule_notes.specs.Tally.{begunWith, countedWith, ruleGrid, closedWith, mayClose, isSecond, followsWith, levelledWith}
 use Rattle.rule_notes.specs.LineSteps.{placeBy, pairNumber, atomNumber, tallyWith, notedWith, metMore, metAfter, PartWithin, listedAfter, seenBy, againBy}
 use Rattle.rule_steps.specs.Shows.{grantedWithin, Stored, Shows}
 use Rattle.grant_grids.specs.Links.{linksOf}
 use Rattle.rule_steps.specs.StrayLaws.{orElse, strays, stray-more, grants-more}
 use Rattle.sets.specs.ListLaws.{any-last}
 use Rattle.sets.specs.MaskLaws.{mask-none}
+use Rattle.sets.specs.SetLaws.{bit-mask}
 use Rattle.sets.specs.Sets.{bit, maskOf}
 use Rattle.sets.specs.Tests.{Is, iff, _isIn_, any, isSome}
 use Rattle.sets.specs.TestLaws.{and-in, and-l, and-r, test, iff-out, any-out, only-out}
@@ -53,7 +57,7 @@ use Rattle.rule_commands.specs.declared.RuleCommand.{RuleCommand}
 use Rattle.rule_notes.specs.declared.Tally.{Tally}
 use Rattle.rule_notes.specs.LineSteps.{metWith}
 use Rattle.rule_commands.specs.declared.Atom.the-variants.{SetContainsSet, SetContainsSingle, SingleEqualsSingle}
-use Rattle.rule_commands.specs.declared.RuleCommand.the-variants.{Opens, Value, Operations, Link, Part, Ends}
+use Rattle.rule_commands.specs.declared.RuleCommand.the-variants.{Opens, Value, Operations, Link, Part, Level, Ends}
 
 -- ---- the beginning
 
@@ -83,9 +87,9 @@ module _ (F : Policy) where
 
   -- behind a 21, or before the first: a rule without lines
   pub shows-opened : (rules : List Lines) (k n : Tally) (met listed grid seen again : List ℕ) → Stored F rules k grid seen again → met ≡ tableOf 14 (λ i. 0) → listed ≡ gridOf (λ u r o. false)
-      → n .asked ≡ 0 → n .atoms ≡ 0 → n .operations ≡ 0 → n .listing ≡ false → n .last ≡ 0x21 → n .rules ≡ k .rules → n .strays ≡ k .strays → n .stray ≡ k .stray
+      → n .asked ≡ 0 → n .atoms ≡ 0 → n .operations ≡ 0 → n .listing ≡ false → n .telling ≡ false → n .last ≡ 0x21 → n .rules ≡ k .rules → n .strays ≡ k .strays → n .stray ≡ k .stray
       → Shows F rules [] n met listed grid seen again
-  shows-opened rules k n met listed grid seen again s hm hl a b c d e f g h = record {
+  shows-opened rules k n met listed grid seen again s hm hl a b c d v e f g h = record {
     all-legal = s .all-legal;
     legal-open = λ c m. absurd (List·Memᴰ·not-nil m);
     met-shown = hm ∙ sym (met-none (settingOf F));
@@ -93,6 +97,7 @@ module _ (F : Policy) where
     atoms-shown = b ∙ sym atoms-none;
     operations-shown = c;
     listing-shown = d;
+    telling-shown = v;
     ordered = subst (λ (t : ℕ). InOrder t (n .x) (n .y) []) (sym e) (order-none (n .x) (n .y));
     listed-shown = hl ∙ none-listed (settingOf F) (rolesIn F);
     grid-shown = s .grid-shown;
@@ -280,6 +285,7 @@ module _ (F : Policy) (Z : Sized F) where
       let n = Z .few in
       let e = eqb-true k (q .0 .role) (and-l (eqb k (q .0 .role)) _ (q .2)) in
       omega arith
+  part-within (Level l) h = tt
   part-within Ends h = tt
 
   module _ (rules : List Lines) (ls : Lines) (k : Tally) (met listed grid seen again : List ℕ) (s : Shows F rules ls k met listed grid seen again) where
@@ -301,6 +307,7 @@ module _ (F : Policy) (Z : Sized F) where
         one (operations m) q e = some-operations m q
         one (link a b) q e = e
         one (part j m) q e = e
+        one (level l) q e = e
         one ends q e = e
 
     has-operations : any isOperations ls ≡ not (eqb (k .operations) 0)
@@ -308,7 +315,7 @@ module _ (F : Policy) (Z : Sized F) where
 
     pub may-close-means : k .inside ≡ true → mayClose k ≡ whole ls
     unfolding mayClose whole
-    may-close-means e = rw e (ap₂ _&&_ (sym has-operations) (s .listing-shown))
+    may-close-means e = rw e (ap₂ _&&_ (sym has-operations) (ap₂ _&&_ (s .listing-shown) (s .telling-shown)))
 
     is-operations : {b x y : ℕ} → Shape b x y → isOperations (commandOf b x y) ≡ eqb b 0x26
     unfolding commandOf
@@ -320,24 +327,80 @@ module _ (F : Policy) (Z : Sized F) where
     is-operations (shape-operations m) = refl
     is-operations (shape-link a b) = refl
     is-operations (shape-part j m) = refl
+    is-operations (shape-level l) = refl
     is-operations shape-ends = refl
 
-    pub follows-means : (b x y : ℕ) → k .inside ≡ true → Shape b x y → 0x22 ≤ b → b ≤ 0x28 → followsWith k b x y ≡ follows ls (commandOf b x y)
-    unfolding followsWith follows
+    is-level : {b x y : ℕ} → Shape b x y → isLevel (commandOf b x y) ≡ eqb b 0x29
+    unfolding commandOf
+    is-level shape-opens = refl
+    is-level (shape-user-single a v) = refl
+    is-level (shape-user-set a v) = refl
+    is-level (shape-resource-single a v) = refl
+    is-level (shape-resource-set a v) = refl
+    is-level (shape-operations m) = refl
+    is-level (shape-link a b) = refl
+    is-level (shape-part j m) = refl
+    is-level (shape-level l) = refl
+    is-level shape-ends = refl
+
+    -- neither of two
+    neither : (p q r : Bool) → (not (p || q) && r) ≡ (r && (not p && not q))
+    neither true q true = refl
+    neither true q false = refl
+    neither false true true = refl
+    neither false true false = refl
+    neither false false true = refl
+    neither false false false = refl
+
+    pub follows-means : (b x y : ℕ) → k .inside ≡ true → Shape b x y → 0x22 ≤ b → b ≤ 0x29 → followsWith k b x y ≡ follows ls (commandOf b x y)
+    unfolding followsWith isSecond follows
     follows-means b x y e t l m =
-        rw e (and-comm (not (eqb b 0x26 && not (eqb (k .operations) 0))) (rawBefore (k .last) (k .x) (k .y) b x y)
-        ∙ ap₂ (λ (p q : Bool). p && not q) (sym (s .ordered b x y t l m)) (sym (ap₂ _&&_ (is-operations t) has-operations)))
+        rw e (neither (eqb b 0x26 && not (eqb (k .operations) 0)) (eqb b 0x29 && k .telling) (rawBefore (k .last) (k .x) (k .y) b x y)
+        ∙ ap₂ (λ (p q : Bool). p && q) (sym (s .ordered b x y t l m))
+        (ap₂ (λ (p q : Bool). not p && not q) (sym (ap₂ _&&_ (is-operations t) has-operations)) (ap₂ _&&_ (sym (is-level t)) (s .telling-shown))))
+
+    -- ---- the level that it tells
+
+    -- the places of the 255s that have values
+    own-asked : (i : ℕ) (w : Which) → i < 14 → placeSide i ≡ w → placeAttribute i ≡ own → bit (k .asked) i ≡ listsOwn (settingOf F) ls w
+    unfolding askedPlaces valuesFor listsOwn
+    own-asked i w l p q =
+        ap (λ (m : ℕ). bit m i) (s .asked-shown) ∙ bit-mask 14 (λ i. ltb 0 (length (valuesFor (settingOf F) ls i))) i l
+        ∙ ap₂ (λ (v : Which) (a : ℕ). ltb 0 (length (valuesIn (settingOf F) ls v a))) p q
+
+    numbered : (w : Which) → Numbered (settingOf F .side w)
+    unfolding settingOf sideOf
+    numbered w = let d = Z .declared w in omega arith
+
+    open-level : levelFor (bit (k .asked) 6) (bit (k .asked) 13) ≡ ruleLevel (settingOf F) (ruleIn (settingOf F) ls)
+    unfolding linesLevel
+    open-level =
+        ap₂ levelFor (own-asked 6 user (omega arith) refl refl) (own-asked 13 resource (omega arith) refl refl)
+        ∙ lines-level (besideOf F) numbered ls (s .legal-open)
+
+    pub levelled-means : {b x y : ℕ} → Shape b x y → levelledWith k b x ≡ levelled (besideOf F) ls (commandOf b x y)
+    unfolding levelledWith levelled commandOf
+    levelled-means shape-opens = refl
+    levelled-means (shape-user-single a v) = refl
+    levelled-means (shape-user-set a v) = refl
+    levelled-means (shape-resource-single a v) = refl
+    levelled-means (shape-resource-set a v) = refl
+    levelled-means (shape-operations m) = refl
+    levelled-means (shape-link a b) = refl
+    levelled-means (shape-part j m) = refl
+    levelled-means (shape-level l) = ap (eqb l) open-level
+    levelled-means shape-ends = refl
 
     -- ---- the line itself
 
     module _ (b x y : ℕ) where
       assembled : (c : Line) → Is (legal (besideOf F) c) → InOrder b x y (ls ++ (c ∷ []))
-          → (asks joins acts : ℕ) (lists : Bool) (met₁ listed₁ seen₁ again₁ : List ℕ)
+          → (asks joins acts : ℕ) (lists tells : Bool) (met₁ listed₁ seen₁ again₁ : List ℕ)
           → met₁ ≡ metTable (settingOf F) (ls ++ (c ∷ [])) → asks ≡ askedPlaces (settingOf F) (ls ++ (c ∷ [])) → joins ≡ atomPlaces (ls ++ (c ∷ [])) → acts ≡ operationsIn (ls ++ (c ∷ []))
-          → lists ≡ any isPartLine (ls ++ (c ∷ [])) → listed₁ ≡ gridOf (partsGrant (settingOf F) (rolesIn F) (ls ++ (c ∷ [])))
+          → lists ≡ any isPartLine (ls ++ (c ∷ [])) → tells ≡ any isLevel (ls ++ (c ∷ [])) → listed₁ ≡ gridOf (partsGrant (settingOf F) (rolesIn F) (ls ++ (c ∷ [])))
           → seen₁ ≡ seenTable (rules ++ ((ls ++ (c ∷ [])) ∷ [])) → again₁ ≡ againTable (rules ++ ((ls ++ (c ∷ [])) ∷ []))
-          → Shows F rules (ls ++ (c ∷ [])) (tallyWith k asks joins acts lists b x y) met₁ listed₁ grid seen₁ again₁
-      assembled c h o asks joins acts lists met₁ listed₁ seen₁ again₁ e1 e2 e3 e4 e5 e6 e7 e8 = record {
+          → Shows F rules (ls ++ (c ∷ [])) (tallyWith k asks joins acts lists tells b x y) met₁ listed₁ grid seen₁ again₁
+      assembled c h o asks joins acts lists tells met₁ listed₁ seen₁ again₁ e1 e2 e3 e4 e5 e e6 e7 e8 = record {
         all-legal = s .all-legal;
         legal-open = λ d m. ⊎-elim (λ i. s .legal-open d i) (λ i. subst (λ (t : Line). Is (legal (besideOf F) t)) (sym (one-of c i)) h) (List·Memᴰ·append-cases ls m);
         met-shown = e1;
@@ -345,6 +408,7 @@ module _ (F : Policy) (Z : Sized F) where
         atoms-shown = e3;
         operations-shown = e4;
         listing-shown = e5;
+        telling-shown = e;
         ordered = o;
         listed-shown = e6;
         grid-shown = s .grid-shown;
@@ -371,6 +435,9 @@ module _ (F : Policy) (Z : Sized F) where
       listing-same : (c : Line) → isPartLine c ≡ false → k .listing ≡ any isPartLine (ls ++ (c ∷ []))
       listing-same c h = s .listing-shown ∙ sym (any-last isPartLine ls c ∙ ap (λ (t : Bool). any isPartLine ls || t) h ∙ or-false (any isPartLine ls))
 
+      telling-same : (c : Line) → isLevel c ≡ false → k .telling ≡ any isLevel (ls ++ (c ∷ []))
+      telling-same c h = s .telling-shown ∙ sym (any-last isLevel ls c ∙ ap (λ (t : Bool). any isLevel ls || t) h ∙ or-false (any isLevel ls))
+
       listed-same : (c : Line) → isPartLine c ≡ false → listed ≡ gridOf (partsGrant (settingOf F) (rolesIn F) (ls ++ (c ∷ [])))
       listed-same c h = s .listed-shown ∙ sym (grid-kept (settingOf F) (rolesIn F) ls c h)
 
@@ -382,32 +449,32 @@ module _ (F : Policy) (Z : Sized F) where
 
       -- a line of an attribute's value
       value-line : (side : ℕ) (kind : Bool) (a v : ℕ) → side < 2 → Is (legal (besideOf F) (value (sideBy side) kind a v)) → InOrder b x y (ls ++ (value (sideBy side) kind a v ∷ []))
-          → Shows F rules (ls ++ (value (sideBy side) kind a v ∷ [])) (tallyWith k (marked (k .asked) (placeBy side a)) (k .atoms) (k .operations) (k .listing) b x y)
+          → Shows F rules (ls ++ (value (sideBy side) kind a v ∷ [])) (tallyWith k (marked (k .asked) (placeBy side a)) (k .atoms) (k .operations) (k .listing) (k .telling) b x y)
           (metMore met (placeBy side a) (meetingOf side kind a v (F .table (sideBy side) .count) (F .roles) (knownTable F) (valueTable F) (recordOf F .holders))) listed grid seen again
       value-line side kind a v hs h o =
           let c = value (sideBy side) kind a v in
-          assembled c h o _ _ _ _ _ _ _ _
+          assembled c h o _ _ _ _ _ _ _ _ _
           (ap (λ (t : List ℕ). metMore t (placeBy side a) (meetingOf side kind a v (F .table (sideBy side) .count) (F .roles) (knownTable F) (valueTable F) (recordOf F .holders))) (s .met-shown) ∙ met-after F Z side kind a v hs h ls)
           (ap (λ (t : ℕ). marked t (placeBy side a)) (s .asked-shown) ∙ asked-after F Z side kind a v hs h ls)
-          (atoms-same c (λ i. refl)) (operations-same c (λ n. refl)) (listing-same c refl) (listed-same c refl) (seen-same c refl) (again-same c refl)
+          (atoms-same c (λ i. refl)) (operations-same c (λ n. refl)) (listing-same c refl) (telling-same c refl) (listed-same c refl) (seen-same c refl) (again-same c refl)
 
       -- a line of an atom
       link-line : (a j : ℕ) → Is (legal (besideOf F) (link a j)) → InOrder b x y (ls ++ (link a j ∷ []))
-          → Shows F rules (ls ++ (link a j ∷ [])) (tallyWith k (k .asked) (marked (k .atoms) (pairNumber a j)) (k .operations) (k .listing) b x y) met listed grid seen again
+          → Shows F rules (ls ++ (link a j ∷ [])) (tallyWith k (k .asked) (marked (k .atoms) (pairNumber a j)) (k .operations) (k .listing) (k .telling) b x y) met listed grid seen again
       link-line a j h o =
           let c = link a j in
-          assembled c h o _ _ _ _ _ _ _ _ (met-same c (λ w t i. refl)) (asked-same c (λ w t i. refl))
+          assembled c h o _ _ _ _ _ _ _ _ _ (met-same c (λ w t i. refl)) (asked-same c (λ w t i. refl))
           (ap₂ marked (s .atoms-shown) (pair-placed F Z a j h) ∙ atoms-line ls a j (link-low F Z a j h .0) (link-low F Z a j h .1))
-          (operations-same c (λ n. refl)) (listing-same c refl) (listed-same c refl) (seen-same c refl) (again-same c refl)
+          (operations-same c (λ n. refl)) (listing-same c refl) (telling-same c refl) (listed-same c refl) (seen-same c refl) (again-same c refl)
 
       -- a line that changes nothing
-      idle-line : (c : Line) → Is (legal (besideOf F) c) → InOrder b x y (ls ++ (c ∷ [])) → NoValue c → ((i : ℕ) → isAtom i c ≡ false) → ((n : ℕ) → operationsOr c n ≡ n) → isPartLine c ≡ false
-          → Shows F rules (ls ++ (c ∷ [])) (tallyWith k (k .asked) (k .atoms) (k .operations) (k .listing) b x y) met listed grid seen again
-      idle-line c h o p q r t =
-          assembled c h o _ _ _ _ _ _ _ _ (met-same c p) (asked-same c p) (atoms-same c q) (operations-same c r) (listing-same c t) (listed-same c t) (seen-same c t) (again-same c t)
+      idle-line : (c : Line) → Is (legal (besideOf F) c) → InOrder b x y (ls ++ (c ∷ [])) → NoValue c → ((i : ℕ) → isAtom i c ≡ false) → ((n : ℕ) → operationsOr c n ≡ n) → isPartLine c ≡ false → isLevel c ≡ false
+          → Shows F rules (ls ++ (c ∷ [])) (tallyWith k (k .asked) (k .atoms) (k .operations) (k .listing) (k .telling) b x y) met listed grid seen again
+      idle-line c h o p q r t v =
+          assembled c h o _ _ _ _ _ _ _ _ _ (met-same c p) (asked-same c p) (atoms-same c q) (operations-same c r) (listing-same c t) (telling-same c v) (listed-same c t) (seen-same c t) (again-same c t)
 
       linked : (t : Atom) → Is (legal (besideOf F) (linkMeaning t)) → InOrder b x y (ls ++ (linkMeaning t ∷ []))
-          → Shows F rules (ls ++ (linkMeaning t ∷ [])) (tallyWith k (k .asked) (marked (k .atoms) (atomNumber t)) (k .operations) (k .listing) b x y) met listed grid seen again
+          → Shows F rules (ls ++ (linkMeaning t ∷ [])) (tallyWith k (k .asked) (marked (k .atoms) (atomNumber t)) (k .operations) (k .listing) (k .telling) b x y) met listed grid seen again
       unfolding atomNumber
       linked (SetContainsSet a j) h o = link-line a j h o
       linked (SetContainsSingle a j) h o = link-line a j h o
@@ -422,7 +489,7 @@ module _ (F : Policy) (Z : Sized F) where
           (metAfter (F .table user .count) (F .table resource .count) (F .roles) (knownTable F) (valueTable F) (recordOf F .holders) met c)
           (listedAfter (recordOf F .holders) (permissionTable F) listed c) grid (seenBy seen c) (againBy seen again c)
       unfolding notedWith metAfter metWith listedAfter seenBy againBy Sided
-      shows-line Opens q h o n = idle-line opens h o (λ w t i. refl) (λ i. refl) (λ m. refl) refl
+      shows-line Opens q h o n = idle-line opens h o (λ w t i. refl) (λ i. refl) (λ m. refl) refl refl
       shows-line (Value v) q h o n =
           subst
           (λ (m : ℕ). Shows F rules (ls ++ (ruleMeaning (Value v) ∷ [])) (notedWith k (Value v) b x y)
@@ -430,14 +497,18 @@ module _ (F : Policy) (Z : Sized F) where
           (sym (count-shown (v .side))) (value-line (v .side) (v .set) (v .attribute) (v .value) q h o)
       shows-line (Operations m) q h o n =
           let c = operations m in
-          assembled c h o _ _ _ _ _ _ _ _ (met-same c (λ w t i. refl)) (asked-same c (λ w t i. refl)) (atoms-same c (λ i. refl)) (sym (operations-line ls m (n refl))) (listing-same c refl) (listed-same c refl) (seen-same c refl) (again-same c refl)
+          assembled c h o _ _ _ _ _ _ _ _ _ (met-same c (λ w t i. refl)) (asked-same c (λ w t i. refl)) (atoms-same c (λ i. refl)) (sym (operations-line ls m (n refl))) (listing-same c refl) (telling-same c refl) (listed-same c refl) (seen-same c refl) (again-same c refl)
       shows-line (Link t) q h o n = linked t h o
       shows-line (Part j m) q h o n =
           let c = part j m in
           let t = list-means F Z rules ls j m h in
-          assembled c h o _ _ _ _ _ _ _ _ (met-same c (λ w t i. refl)) (asked-same c (λ w t i. refl)) (atoms-same c (λ i. refl)) (operations-same c (λ n. refl))
-          (sym (any-last isPartLine ls c ∙ or-true (any isPartLine ls)))
+          assembled c h o _ _ _ _ _ _ _ _ _ (met-same c (λ w t i. refl)) (asked-same c (λ w t i. refl)) (atoms-same c (λ i. refl)) (operations-same c (λ n. refl))
+          (sym (any-last isPartLine ls c ∙ or-true (any isPartLine ls))) (telling-same c refl)
           (ap (addedPart (getD (recordOf F .holders) j 0) (permissionTable F) j m) (s .listed-shown) ∙ part-added F Z ls j m h)
           (ap (λ (u : List ℕ). seenAfter u j m) (s .seen-shown) ∙ t .0)
           (ap₂ (λ (u w : List ℕ). againAfter u w j m) (s .seen-shown) (s .again-shown) ∙ t .1)
-      shows-line Ends q h o n = idle-line ends h o (λ w t i. refl) (λ i. refl) (λ m. refl) refl
+      shows-line (Level l) q h o n =
+          let c = level l in
+          assembled c h o _ _ _ _ _ _ _ _ _ (met-same c (λ w t i. refl)) (asked-same c (λ w t i. refl)) (atoms-same c (λ i. refl)) (operations-same c (λ n. refl)) (listing-same c refl)
+          (sym (any-last isLevel ls c ∙ or-true (any isLevel ls))) (listed-same c refl) (seen-same c refl) (again-same c refl)
+      shows-line Ends q h o n = idle-line ends h o (λ w t i. refl) (λ i. refl) (λ m. refl) refl refl

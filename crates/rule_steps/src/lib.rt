@@ -1,12 +1,10 @@
 // The steps of reading a rule file beside a loaded role file. Of a rule nothing is kept but its summary; of the rules before it only what
 // they grant together, the first of them that grants other than its parts, and which parts were listed.
-ghost use lib.Dec.{eqb};
-ghost use mathlib.Core.Bool.{_&&_, not};
 ghost use mathlib.Core.Path.{_≡_};
 ghost use Prim.Native.Nat.{_+_, _^_, _<_};
 ghost use Rattle.grant_grids.specs.Grid.{isSame};
 ghost use Rattle.grant_blocks.specs.PartGrid.{joinedGrid};
-ghost use Rattle.rule_notes.specs.Tally.{begunWith, openedWith, countedWith, ruleGrid, closedWith, finishedWith, finishedGrid, mayClose, followsWith};
+ghost use Rattle.rule_notes.specs.Tally.{begunWith, openedWith, countedWith, ruleGrid, closedWith, finishedWith, finishedGrid, mayClose, isSecond, followsWith, levelledWith};
 ghost use Rattle.rule_notes.specs.LineSteps.{PartWithin, listedAfter, seenBy, againBy};
 ghost use Rattle.role_record.specs.Record.{WithinLimits};
 use files::rule_byte;
@@ -22,6 +20,11 @@ use role_record::Sizes;
 use rule_commands::RuleCommand;
 use rule_notes::Tally;
 
+// The places of the 255s: the users', behind their six attributes, and the resources', behind theirs.
+const OWN_ROLES: usize = RoleFile::ATTRIBUTES;
+
+const OWN_NUMBER: usize = RoleFile::CONJUNCTS + RoleFile::ATTRIBUTES;
+
 // Before the first command.
 pub fn begun() -> Tally
     ensures { λ r. ⌜ r ≡ begunWith ⌝ }
@@ -32,6 +35,7 @@ pub fn begun() -> Tally
         atoms: 0,
         operations: 0,
         listing: false,
+        telling: false,
         last: rule_byte::OPENS,
         x: 0,
         y: 0,
@@ -51,6 +55,7 @@ pub fn opened(k: Tally) -> Tally
         atoms: 0,
         operations: 0,
         listing: false,
+        telling: false,
         last: rule_byte::OPENS,
         x: 0,
         y: 0,
@@ -126,12 +131,15 @@ fn close<'a>(
     counted(k, same)
 }
 
-// Whether a 21 or 2F may stand here: the open rule, if there is one, has its operations and a part.
+// Whether a 21 or 2F may stand here: the open rule, if there is one, has its operations, a part and its level.
 pub fn may_close(k: Tally) -> bool
     ensures { λ r. ⌜ r ≡ mayClose k ⌝ }
 {
     if k.inside {
         if k.operations == 0 {
+            return false;
+        }
+        if !k.telling {
             return false;
         }
         return k.listing;
@@ -164,17 +172,21 @@ pub fn finish<'a>(
     k
 }
 
-// Whether a command is a 26 in a rule that has one. A legal 26 is not zero.
+// Whether a command is a 26 or a 29 in a rule that has one. A legal 26 is not zero.
 fn is_second(k: Tally, b: usize) -> bool
-    ensures { λ r. ⌜ r ≡ (eqb b 0x26 && not (eqb (k .operations) 0)) ⌝ }
+    ensures { λ r. ⌜ r ≡ isSecond k b ⌝ }
 {
     if b == rule_byte::OPERATIONS {
         return k.operations != 0;
     }
+    if b == rule_byte::LEVEL {
+        return k.telling;
+    }
     false
 }
 
-// Whether a command other than 21 and 2F may stand here: a rule is open, the command comes after the last one, and it is no second 26.
+// Whether a command other than 21 and 2F may stand here: a rule is open, the command comes after the last one, and it is no second 26
+// or 29.
 pub fn follows(k: Tally, b: usize, x: u64, y: u64) -> bool
     ensures { λ r. ⌜ r ≡ followsWith k b x y ⌝ }
 {
@@ -185,6 +197,18 @@ pub fn follows(k: Tally, b: usize, x: u64, y: u64) -> bool
         return rule_commands::before(k.last, k.x, k.y, b, x, y);
     }
     false
+}
+
+// Whether a command with the first operand x, if it is a 29, tells the level of the open rule: the conjuncts all stand before it.
+pub fn levelled(k: Tally, b: usize, x: u64) -> bool
+    ensures { λ r. ⌜ r ≡ levelledWith k b x ⌝ }
+{
+    if b != rule_byte::LEVEL {
+        return true;
+    }
+    let roles = sets::has(k.asked, OWN_ROLES);
+    let numbers = sets::has(k.asked, OWN_NUMBER);
+    x == rule_levels::level(roles, numbers)
 }
 
 // The grid of the parts that the open rule lists, after a legal command of it.
@@ -205,6 +229,7 @@ pub fn join_part<'a>(
         RuleCommand::Value(_) => {}
         RuleCommand::Operations(_) => {}
         RuleCommand::Link(_) => {}
+        RuleCommand::Level(_) => {}
         RuleCommand::Opens => {}
         RuleCommand::Ends => {}
     }
@@ -224,6 +249,7 @@ pub fn list_part<'a>(c: RuleCommand, seen: &'a mut ByRole, again: &'a mut ByRole
         RuleCommand::Value(_) => {}
         RuleCommand::Operations(_) => {}
         RuleCommand::Link(_) => {}
+        RuleCommand::Level(_) => {}
         RuleCommand::Opens => {}
         RuleCommand::Ends => {}
     }

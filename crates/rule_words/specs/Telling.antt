@@ -8,7 +8,6 @@ use mathlib.Core.List.{List}
 use mathlib.Core.Path.{_≡_}
 use Rattle.files.specs.Beside.{besideOf}
 use Rattle.files.specs.Answer.{accepted}
-use Rattle.files.specs.RoleFile.{readRoles}
 use Rattle.files.specs.RuleFile.{Lines, readBody}
 use Rattle.policy.specs.Policy.{Policy, settingOf, rolesIn}
 use Rattle.digits.specs.Digits.{isWithin}
@@ -16,8 +15,6 @@ use Rattle.digits.specs.Digits.{isWithin}
 -- what stands behind the first command of a rule file that was accepted beside a role file
 pub record AcceptedRules (s : List ℕ) : Type 0 where
   pub policy : Policy
-  pub file : List ℕ
-  pub stated : readRoles 2 file ≡ accepted policy
   pub rules : List Lines
   pub accepts : readBody 2 (besideOf policy) s ≡ accepted rules
 

@@ -11,13 +11,13 @@ use mathlib.Core.Path.{_≡_, refl, sym, ap, _∙_, subst}
 use native.Mathlib.Omega.{arith}
 use Rattle.rule_words.specs.Telling.{AcceptedRules}
 use Rattle.files.specs.Beside.{besideOf}
-use Rattle.files.specs.Answer.{Answer, andThen, unless, rulesOrder, rulesOperand, refused, accepted}
+use Rattle.files.specs.Answer.{Answer, andThen, unless, rulesOrder, rulesOperand, wrongLevel, refused, accepted}
 use Rattle.files.specs.BytesLaws.{number-positive}
 use Rattle.files.specs.Calls.{readBoth}
 use Rattle.files.specs.RoleFile.{readRoles}
-use Rattle.files.specs.RuleFile.{RuleCommand, Lines, Reading, whole, finished, follows, legal, addLine, obeyRule, endsFile, readBody, readRules, opens, ends}
+use Rattle.files.specs.RuleFile.{RuleCommand, Lines, Reading, whole, finished, follows, legal, levelled, addLine, obeyRule, endsFile, readBody, readRules, opens, ends}
 use Rattle.policy.specs.Policy.{Policy, settingOf, rolesIn}
-use Rattle.rule_commands.specs.Raw.{rawOf, commandOf, Shape, shape-opens, shape-user-single, shape-user-set, shape-resource-single, shape-resource-set, shape-operations, shape-link, shape-part, shape-ends}
+use Rattle.rule_commands.specs.Raw.{rawOf, commandOf, Shape, shape-opens, shape-user-single, shape-user-set, shape-resource-single, shape-resource-set, shape-operations, shape-link, shape-part, shape-level, shape-ends}
 use Rattle.rule_opening.specs.OpeningLaws.{accepted-body}
 use Rattle.rule_commands.specs.RawLaws.{raw-whole, accepted-shape}
 use Rattle.rule_reading.specs.BothFiles.{nothingRead, bothOf}
@@ -78,16 +78,17 @@ module _ (F : Policy) (rules : List Lines) where
     unfolding addLine
     lining b d rest other e q = inr (other, go current c q)
       where
-        added : (ls : Lines) (f l : Bool) → number ≡ suc (length complete)
-            → onFrom F n d rest (unless f rulesOrder (unless l rulesOperand (accepted (record { complete = complete; current = some (ls ++ (d ∷ [])) })))) ≡ accepted rules → Onward n number rest
-        added ls true true h k = going complete (some (ls ++ (d ∷ []))) h (sym (rw e refl) ∙ k)
-        added ls true false h k = refuted F k
-        added ls false l h k = refuted F k
+        added : (ls : Lines) (f l v : Bool) → number ≡ suc (length complete)
+            → onFrom F n d rest (unless f rulesOrder (unless l rulesOperand (unless v wrongLevel (accepted (record { complete = complete; current = some (ls ++ (d ∷ [])) }))))) ≡ accepted rules → Onward n number rest
+        added ls true true true h k = going complete (some (ls ++ (d ∷ []))) h (sym (rw e refl) ∙ k)
+        added ls true true false h k = refuted F k
+        added ls true false v h k = refuted F k
+        added ls false l v h k = refuted F k
 
         go : (o : Option Lines) → number ≡ begunOf complete o
-            → onFrom F n d rest (elim o [ none ↦ refused rulesOrder | some ls ↦ unless (follows ls d) rulesOrder (unless (legal (besideOf F) d) rulesOperand (accepted (record { complete = complete; current = some (ls ++ (d ∷ [])) }))) ]) ≡ accepted rules → Onward n number rest
+            → onFrom F n d rest (elim o [ none ↦ refused rulesOrder | some ls ↦ unless (follows ls d) rulesOrder (unless (legal (besideOf F) d) rulesOperand (unless (levelled (besideOf F) ls d) wrongLevel (accepted (record { complete = complete; current = some (ls ++ (d ∷ [])) })))) ]) ≡ accepted rules → Onward n number rest
         go none h k = refuted F k
-        go (some ls) h k = added ls (follows ls d) (legal (besideOf F) d) h k
+        go (some ls) h k = added ls (follows ls d) (legal (besideOf F) d) (levelled (besideOf F) ls d) h k
 
     by-shape : {b x y : ℕ} → Shape b x y → (rest : List ℕ) → onFrom F n (commandOf b x y) rest (obeyRule (besideOf F) now (commandOf b x y)) ≡ accepted rules → Next n number b rest
     unfolding commandOf obeyRule
@@ -99,6 +100,7 @@ module _ (F : Policy) (rules : List Lines) where
     by-shape (shape-operations m) rest q = lining 0x26 _ rest (λ z. omega arith) refl q
     by-shape (shape-link a b) rest q = lining 0x27 _ rest (λ z. omega arith) refl q
     by-shape (shape-part k m) rest q = lining 0x28 _ rest (λ z. omega arith) refl q
+    by-shape (shape-level l) rest q = lining 0x29 _ rest (λ z. omega arith) refl q
     by-shape shape-ends rest q = ending rest q
 
     -- whatever stands in front
@@ -146,7 +148,7 @@ module _ (s : List ℕ) (number at : ℕ) (t : Telling s number at) (l : Line) (
   heads e = go (next .0) (next .1)
     where
       go : (n : ℕ) → Next F (t .legal .rules) n number (l .byte) (drop (at + l .width) s) → (F : Policy) × (rules : List Lines) × RuleAt F rules number (drop (at + l .width) s)
-      go n (inl k) = (F, t .legal .rules, record { file = t .legal .file; stated = t .legal .stated; earlier = k .1; number = k .2; fuel = n; accepts = k .3 })
+      go n (inl k) = (F, t .legal .rules, record { earlier = k .1; number = k .2; fuel = n; accepts = k .3 })
       go n (inr k) = absurd (k .0 e)
 
   pub headed-on : l .byte ≡ 0x21 → Telling s (number + 1) (at + l .width)
@@ -171,7 +173,7 @@ both-legal file s b e h = roles (readRoles 2 file) refl e
   where
     rules : (F : Policy) → readRoles 2 file ≡ accepted F → (a : Answer (List Lines)) → readRules 2 (besideOf F) s ≡ a → b ≡ bothOf (andThen a (λ ls. accepted (F, ls))) → (7 ≤ length s) × AcceptedRules (drop 7 s)
     rules F q (refused d) k z = absurd (number-positive d (ap (λ (m : BothFiles). m .code) (sym z) ∙ h))
-    rules F q (accepted ls) k z = let r = accepted-body (besideOf F) s ls k in (r .0, record { policy = F; file = file; stated = q; rules = ls; accepts = r .1 })
+    rules F q (accepted ls) k z = let r = accepted-body (besideOf F) s ls k in (r .0, record { policy = F; rules = ls; accepts = r .1 })
 
     roles : (a : Answer Policy) → readRoles 2 file ≡ a → b ≡ bothOf (andThen a (λ F. andThen (readRules 2 (besideOf F) s) (λ ls. accepted (F, ls)))) → (7 ≤ length s) × AcceptedRules (drop 7 s)
     roles (refused d) q z = absurd (number-positive d (ap (λ (m : BothFiles). m .code) (sym z) ∙ h))

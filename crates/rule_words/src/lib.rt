@@ -39,7 +39,7 @@ fn tell_heading(printed: bool, wanted: bool, first: usize, number: usize, s: &[u
     }
     let h = heading_of(s);
     let named = say_count(say_gap(printed, first, number), b"rule ", number);
-    let leveled = say_count(named, b", level ", h.level);
+    let leveled = say_count(named, b", level ", h.level as usize);
     let told = say_operations(say(leveled, b": any user may do "), h.operations);
     say(told, b" on any resource")
 }

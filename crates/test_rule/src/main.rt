@@ -103,20 +103,22 @@ const OPERATIONS: u8 = rule_byte::OPERATIONS as u8;
 
 const PART: u8 = rule_byte::PART as u8;
 
+const LEVEL: u8 = rule_byte::LEVEL as u8;
+
 const ENDS: u8 = rule_byte::ENDS as u8;
 
-// As many rules of eight bytes as make a rule file longer than a role file may be.
-const RULES: usize = (RoleFile::BYTES + 1) / 8;
+// As many rules of ten bytes as make a rule file longer than a role file may be.
+const RULES: usize = (RoleFile::BYTES + 1) / 10;
 
 const FIRST: usize = rule_opening::BYTES;
 
-const LAST: usize = FIRST + 8 * RULES;
+const LAST: usize = FIRST + 10 * RULES;
 
 const LENGTH: usize = LAST + 1;
 
-// The 20 of a role file with one of everything and no attributes, rules that list the one part there is, and the end; and a zero behind it.
+// The 20 of a role file with one of everything and no attributes, rules of level 0 that list the one part there is, and the end; and a zero behind it.
 fn many_rules() -> [u8; LENGTH + 1]
-    ensures { λ r. ⌜ 65545 ≡ length r ⌝ }
+    ensures { λ r. ⌜ 65539 ≡ length r ⌝ }
 {
     let mut s = [0u8; LENGTH + 1];
     s[0] = SHAPE;
@@ -125,11 +127,12 @@ fn many_rules() -> [u8; LENGTH + 1]
     s[3] = 1;
     s[4] = 1;
     for k in 0..RULES {
-        s[FIRST + 8 * k] = OPENS;
-        s[FIRST + 8 * k + 1] = OPERATIONS;
-        s[FIRST + 8 * k + 2] = 1;
-        s[FIRST + 8 * k + 4] = PART;
-        s[FIRST + 8 * k + 6] = 1;
+        s[FIRST + 10 * k] = OPENS;
+        s[FIRST + 10 * k + 1] = OPERATIONS;
+        s[FIRST + 10 * k + 2] = 1;
+        s[FIRST + 10 * k + 4] = PART;
+        s[FIRST + 10 * k + 6] = 1;
+        s[FIRST + 10 * k + 8] = LEVEL;
     }
     s[LAST] = ENDS;
     s
@@ -137,7 +140,7 @@ fn many_rules() -> [u8; LENGTH + 1]
 
 // Prints the lines of a long rule file: whole, a byte less and a byte more.
 fn print_long(file: &[u8], s: &[u8])
-    requires { ⌜ 65545 ≡ length (now s) ⌝ }
+    requires { ⌜ 65539 ≡ length (now s) ⌝ }
 {
     print_answers(file, &s[0..LENGTH], 0, 0, 0);
     print_answers(file, &s[0..LAST], 0, 0, 0);
@@ -146,7 +149,7 @@ fn print_long(file: &[u8], s: &[u8])
 
 fn main() {
     // tests/rulecases.py makes no longer corpus
-    let mut corpus = [0u8; 262144];
+    let mut corpus = [0u8; 327680];
     let n = io::read_full(0, &mut corpus);
     groups(&corpus[..n]);
     let zeros = io::large_buffer();

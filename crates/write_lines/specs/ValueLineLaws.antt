@@ -21,6 +21,10 @@ use Rattle.role_record.specs.Places.{placeSide, placeAttribute}
 pub store-one : (a : ℕ) (o : List ℕ) → 1 ≤ length o → set o 0 a ≡ wrote (a ∷ []) o
 store-one a o h = sets-eq (a ∷ []) o 0 h
 
+-- two bytes
+pub store-two : (a b : ℕ) (o : List ℕ) → 2 ≤ length o → set (set o 0 a) 1 b ≡ wrote (a ∷ b ∷ []) o
+store-two a b o h = sets-eq (a ∷ b ∷ []) o 0 h
+
 -- three bytes
 pub store-three : (a b c : ℕ) (o : List ℕ) → 3 ≤ length o → set (set (set o 0 a) 1 b) 2 c ≡ wrote (a ∷ b ∷ c ∷ []) o
 store-three a b c o h = sets-eq (a ∷ b ∷ c ∷ []) o 0 h

@@ -21,6 +21,14 @@ pub fn put_one(out: &mut [u8], command: usize)
     out[0] = command as u8;
 }
 
+pub fn put_two(out: &mut [u8], command: usize, x: usize)
+    requires { ⌜ (2 ≤ length (now out)) × (command < 256) × (x < 256) ⌝ }
+    ensures { λ _. ⌜ now (out .exit) ≡ wrote (command ∷ x ∷ []) (now (out .entry)) ⌝ }
+{
+    out[0] = command as u8;
+    out[1] = x as u8;
+}
+
 pub fn put_three(out: &mut [u8], command: usize, x: usize, y: usize)
     requires { ⌜ (3 ≤ length (now out)) × (command < 256) × (x < 256) × (y < 256) ⌝ }
     ensures { λ _. ⌜ now (out .exit) ≡ wrote (command ∷ x ∷ y ∷ []) (now (out .entry)) ⌝ }

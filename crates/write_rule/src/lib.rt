@@ -6,7 +6,7 @@ ghost use Prim.Native.Nat.{_≤_, _<_};
 ghost use Rattle.mine_seats.specs.Seats.{scratchWords};
 ghost use Rattle.write_lines.specs.Writing.{wrote};
 ghost use Rattle.role_record.specs.Cells.{roleCells};
-ghost use Rattle.write_theory.specs.RuleTable.{ruleBytesIn, operationBytesIn};
+ghost use Rattle.write_theory.specs.RuleTable.{ruleBytesIn, operationBytesIn, levelBytesIn};
 ghost use Rattle.write_roles.specs.GroupRoles.{rolesFor};
 use files::rule_byte;
 use role_record::ByPlaceMember;
@@ -34,7 +34,23 @@ fn put_operations(scratch: &[u64], head: usize, out: &mut [u8]) -> usize
     3
 }
 
-// Writes a rule: what opens it, its conjuncts, operations, atoms and parts. Answers how many bytes it has.
+// The line 29: merging has left the group's level with its words.
+fn put_level(scratch: &[u64], head: usize, out: &mut [u8]) -> usize
+    requires { ⌜
+        (length (now scratch) ≡ scratchWords)
+        × (head < roleCells)
+        × (length (levelBytesIn (now scratch) head) ≤ length (now out)) ⌝ }
+    ensures { λ r. ⌜
+        (r ≡ length (levelBytesIn (now (scratch .entry)) head))
+        × (now (out .exit) ≡ wrote (levelBytesIn (now (scratch .entry)) head) (now (out .entry))) ⌝ }
+{
+    let level = mine_seats::level_at(scratch, head);
+    write_lines::put_two(out, rule_byte::LEVEL, level);
+    2
+}
+
+// Writes a rule, one section for each command byte in the order of the bytes: what opens it, its conjuncts, operations, atoms, parts and
+// level. Answers how many bytes it has.
 pub fn write_rule<'a>(
     distinct: &'a ByPlaceMember,
     having: &'a ByPlaceMember,
@@ -80,5 +96,6 @@ pub fn write_rule<'a>(
     at += put_operations(scratch, rule.head, &mut out[at..]);
     at += write_atoms::put_atoms(rule.kept, &mut out[at..]);
     at += write_listings::put_parts(permissions, operations, scratch, rule, &mut out[at..]);
+    at += put_level(scratch, rule.head, &mut out[at..]);
     at
 }

@@ -14,7 +14,7 @@ use Rattle.sets.specs.MemberLaws.{bit-less}
 use Rattle.policy.specs.Rules.{Which, by, user, resource}
 use Rattle.mine_theory.specs.Lines.RuleBytesLaws.{atom-bytes, atom-length, value-length}
 use Rattle.mine_theory.specs.Lines.RuleLines.{valueBytes, partBytes, atomSet, kindPlace}
-use Rattle.mine_seats.specs.Seats.{operationsAt}
+use Rattle.mine_seats.specs.Seats.{operationsAt, restAt, levelIn}
 use Rattle.sets.specs.MaskLaws.{bit-maskOf, size-most}
 use Rattle.sets.specs.Sets.{bit, size, lessOne}
 use Rattle.sets.specs.SetLaws.{bit-none, bit-mask}
@@ -25,7 +25,7 @@ use Rattle.role_record.specs.Places.{placeAttribute, setPlace}
 use Rattle.write_theory.specs.ListingLaws.{listed-none, classes-most}
 use Rattle.write_theory.specs.RuleLists.{listedAt, memberSet, classesAt}
 use Rattle.write_sizes.specs.Sizes.{linesLong, placeLongIn, sideLongIn}
-use Rattle.write_theory.specs.RuleTable.{keptAs, placeBytesIn, kindBytesIn, atomBytesAt, atomBytesIn, roleBytesIn, partBytesIn, ruleBytesIn}
+use Rattle.write_theory.specs.RuleTable.{keptAs, placeBytesIn, kindBytesIn, atomBytesAt, atomBytesIn, roleBytesIn, partBytesIn, levelBytesIn, ruleBytesIn}
 use Rattle.write_roles.specs.GroupRoles.{rolesFor}
 use Rattle.write_sizes.specs.ListSizeLaws.{longs-most}
 
@@ -188,22 +188,22 @@ atoms-long kept = sym (ap length (atom-bytes kept)) ∙ atom-length kept
 module _ (distinct having inside kinds permissions : List ℕ) (operations : ℕ) (t : List ℕ) (head kept : ℕ) (users resources atoms parts : ℕ)
     (u : users ≡ sideLongIn distinct having inside kinds t head kept 0) (r : resources ≡ sideLongIn distinct having inside kinds t head kept 1) (p : parts ≡ sum (partCount permissions operations t head) (upTo 32)) where
   -- it is small
-  pub size-within : (set : ℕ) → atoms ≡ size set → 4 + users + resources + 3 * atoms + 4 * parts ≤ 12288
+  pub size-within : (set : ℕ) → atoms ≡ size set → 6 + users + resources + 3 * atoms + 4 * parts ≤ 12288
   size-within set a =
       within u (longs-most distinct having inside kinds t head kept 0) r (longs-most distinct having inside kinds t head kept 1) a (size-most set) p (counts-most permissions operations t head)
     where
-      within : {x y z w : ℕ} → users ≡ x → x ≤ 4480 → resources ≡ y → y ≤ 4480 → atoms ≡ z → z ≤ 64 → parts ≡ w → w ≤ roleCells → 4 + users + resources + 3 * atoms + 4 * parts ≤ 12288
+      within : {x y z w : ℕ} → users ≡ x → x ≤ 4480 → resources ≡ y → y ≤ 4480 → atoms ≡ z → z ≤ 64 → parts ≡ w → w ≤ roleCells → 6 + users + resources + 3 * atoms + 4 * parts ≤ 12288
       within b c d e f g h i = omega arith
 
   -- section by section
-  pub size-added : (set : ℕ) → atoms ≡ size set → set ≡ atomSet kept → 4 + users + resources + 3 * atoms + 4 * parts ≡ length (ruleBytesIn distinct having inside kinds permissions operations t head kept)
-  unfolding ruleBytesIn
+  pub size-added : (set : ℕ) → atoms ≡ size set → set ≡ atomSet kept → 6 + users + resources + 3 * atoms + 4 * parts ≡ length (ruleBytesIn distinct having inside kinds permissions operations t head kept)
+  unfolding ruleBytesIn levelBytesIn
   size-added set a e =
       go (kindBytesIn distinct having inside kinds t head kept user false) (kindBytesIn distinct having inside kinds t head kept user true) (kindBytesIn distinct having inside kinds t head kept resource false) (kindBytesIn distinct having inside kinds t head kept resource true)
-      (operationsAt t head % 256) (operationsAt t head / 256 % 256) (atomBytesIn kept) (partBytesIn permissions operations t head)
+      (operationsAt t head % 256) (operationsAt t head / 256 % 256) (atomBytesIn kept) (partBytesIn permissions operations t head) (levelIn (restAt t head))
       (side-long distinct having inside kinds t head kept user) (side-long distinct having inside kinds t head kept resource) u r
       (atoms-long kept) (a ∙ ap size e) (parts-long permissions operations t head) p
     where
-      go : (i j k l : List ℕ) (x y : ℕ) (e f : List ℕ) {us rs n m : ℕ} → length i + length j ≡ us → length k + length l ≡ rs → users ≡ us → resources ≡ rs → length e ≡ 3 * n → atoms ≡ n → length f ≡ 4 * m → parts ≡ m
-          → 4 + users + resources + 3 * atoms + 4 * parts ≡ length (0x21 ∷ (i ++ (j ++ (k ++ (l ++ ((0x26 ∷ x ∷ y ∷ []) ++ (e ++ f)))))))
-      go i j k l x y e f q r s t u v w z = simp length-append (omega arith)
+      go : (i j k l : List ℕ) (x y : ℕ) (e f : List ℕ) (b : ℕ) {us rs n m : ℕ} → length i + length j ≡ us → length k + length l ≡ rs → users ≡ us → resources ≡ rs → length e ≡ 3 * n → atoms ≡ n → length f ≡ 4 * m → parts ≡ m
+          → 6 + users + resources + 3 * atoms + 4 * parts ≡ length (0x21 ∷ (i ++ (j ++ (k ++ (l ++ ((0x26 ∷ x ∷ y ∷ []) ++ (e ++ (f ++ (0x29 ∷ b ∷ [])))))))))
+      go i j k l x y e f b q r s t u v w z = simp length-append (omega arith)

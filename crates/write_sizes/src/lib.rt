@@ -156,8 +156,8 @@ fn count_parts<'a>(
     n
 }
 
-// How many bytes the rule has that write_rule writes, and what its cost is made of. One byte opens the rule, three have its operations; a
-// line of an atom has 3, one of a part 4.
+// How many bytes the rule has that write_rule writes, and what its cost is made of. One byte opens the rule, three have its operations and
+// two its level; a line of an atom has 3, one of a part 4.
 pub fn rule_size<'a>(
     distinct: &'a ByPlaceMember,
     having: &'a ByPlaceMember,
@@ -195,7 +195,7 @@ pub fn rule_size<'a>(
         atoms: atoms as u32,
     };
     RuleSize {
-        bytes: 4 + users.bytes + resources.bytes + 3 * atoms + 4 * parts,
+        bytes: 6 + users.bytes + resources.bytes + 3 * atoms + 4 * parts,
         sums: sums,
     }
 }

@@ -8,11 +8,11 @@ use mathlib.Core.List.{List, [], _∷_, _++_}
 use Rattle.files.specs.Bytes.{spread}
 use Rattle.files.specs.RoleFile.{sideBy}
 use Rattle.policy.specs.Rules.{Which, user, resource}
-use Rattle.mine_theory.specs.Lines.RuleLines.{linkBytes, valueBytes, partBytes, kindPlace}
+use Rattle.mine_theory.specs.Lines.RuleLines.{linkBytes, valueBytes, partBytes, levelBytes, kindPlace}
 use Rattle.write_theory.specs.RuleLists.{listedAt, classesAt}
 use Rattle.sets.specs.Sets.{bit}
 use Rattle.sets.specs.Tests.{iff, each, upTo}
-use Rattle.mine_seats.specs.Seats.{wordsAt}
+use Rattle.mine_seats.specs.Seats.{restAt, levelIn, wordsAt}
 use Rattle.role_record.specs.Places.{placeAttribute, setPlace}
 
 -- a conjunct of this kind, sets or singles, is kept at a place
@@ -57,6 +57,10 @@ module _ (permissions : List ℕ) (operations : ℕ) (t : List ℕ) (head : ℕ)
 unfoldable pub operationBytesIn : List ℕ → ℕ → List ℕ
 operationBytesIn t head = 0x26 ∷ spread 2 (wordsAt t head .ops)
 
+-- the line 29
+unfoldable pub levelBytesIn : List ℕ → ℕ → List ℕ
+levelBytesIn t head = levelBytes (levelIn (restAt t head))
+
 module _ (distinct having inside kinds permissions : List ℕ) (operations : ℕ) (t : List ℕ) (head kept : ℕ) where
   -- the bytes of the rule
   unfoldable pub ruleBytesIn : List ℕ
@@ -66,4 +70,4 @@ module _ (distinct having inside kinds permissions : List ℕ) (operations : ℕ
       ++ (kindBytesIn distinct having inside kinds t head kept user true
       ++ (kindBytesIn distinct having inside kinds t head kept resource false
       ++ (kindBytesIn distinct having inside kinds t head kept resource true
-      ++ ((0x26 ∷ spread 2 (wordsAt t head .ops)) ++ (atomBytesIn kept ++ partBytesIn permissions operations t head))))))
+      ++ ((0x26 ∷ spread 2 (wordsAt t head .ops)) ++ (atomBytesIn kept ++ (partBytesIn permissions operations t head ++ levelBytesIn t head)))))))

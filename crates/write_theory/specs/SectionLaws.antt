@@ -12,11 +12,11 @@ use Rattle.write_lines.specs.Writing.{wrote}
 use Rattle.write_lines.specs.WritingLaws.{tailOf, backIn, length-wrote, Writing, write-on, runs-list}
 use Rattle.policy.specs.Rules.{Which, user, resource}
 use Rattle.mine_theory.specs.Lines.RuleBytesLaws.{value-length}
-use Rattle.mine_theory.specs.Lines.RuleLines.{linkBytes, valueBytes, partBytes, kindPlace}
+use Rattle.mine_theory.specs.Lines.RuleLines.{linkBytes, valueBytes, partBytes, levelBytes, kindPlace}
 use Rattle.write_theory.specs.ListingLaws.{listed-most, classes-most}
 use Rattle.write_theory.specs.RuleLists.{listedAt, classesAt}
-use Rattle.write_theory.specs.RuleTable.{keptAs, placeBytesIn, kindBytesIn, kindBytesAt, conjunctBytesIn, atomBytesAt, atomBytesIn, roleBytesIn, partBytesIn, operationBytesIn, ruleBytesIn}
-use Rattle.mine_seats.specs.Seats.{operationsAt}
+use Rattle.write_theory.specs.RuleTable.{keptAs, placeBytesIn, kindBytesIn, kindBytesAt, conjunctBytesIn, atomBytesAt, atomBytesIn, roleBytesIn, partBytesIn, levelBytesIn, operationBytesIn, ruleBytesIn}
+use Rattle.mine_seats.specs.Seats.{operationsAt, restAt, levelIn}
 use Rattle.sets.specs.ListLaws.{length-each, sum-each, sum-most, sum-both, from-length}
 use Rattle.sets.specs.Sets.{bit}
 use Rattle.sets.specs.TestLaws.{beq-iff}
@@ -117,18 +117,22 @@ four-joined a b c d r = sym
 
 module _ (distinct having inside kinds permissions : List ℕ) (operations : ℕ) (t : List ℕ) (head kept : ℕ) where
   -- section by section
-  pub rule-sections : ruleBytesIn distinct having inside kinds permissions operations t head kept ≡ (0x21 ∷ []) ++ (conjunctBytesIn distinct having inside kinds t head kept ++ (operationBytesIn t head ++ (atomBytesIn kept ++ (partBytesIn permissions operations t head ++ []))))
-  unfolding ruleBytesIn operationBytesIn conjunctBytesIn kindBytesAt
+  pub rule-sections : ruleBytesIn distinct having inside kinds permissions operations t head kept ≡ (0x21 ∷ []) ++ (conjunctBytesIn distinct having inside kinds t head kept ++ (operationBytesIn t head ++ (atomBytesIn kept ++ (partBytesIn permissions operations t head ++ (levelBytesIn t head ++ [])))))
+  unfolding ruleBytesIn operationBytesIn levelBytesIn conjunctBytesIn kindBytesAt
   rule-sections =
       ap (λ (l : List ℕ). 0x21 ∷ l)
       (four-joined (kindBytesIn distinct having inside kinds t head kept user false) (kindBytesIn distinct having inside kinds t head kept user true) (kindBytesIn distinct having inside kinds t head kept resource false) (kindBytesIn distinct having inside kinds t head kept resource true)
-      ((0x26 ∷ operationsAt t head % 256 ∷ operationsAt t head / 256 % 256 ∷ []) ++ (atomBytesIn kept ++ partBytesIn permissions operations t head))
-      ∙ ap (λ (l : List ℕ). conjunctBytesIn distinct having inside kinds t head kept ++ ((0x26 ∷ operationsAt t head % 256 ∷ operationsAt t head / 256 % 256 ∷ []) ++ (atomBytesIn kept ++ l))) (sym (append-nil (partBytesIn permissions operations t head))))
+      ((0x26 ∷ operationsAt t head % 256 ∷ operationsAt t head / 256 % 256 ∷ []) ++ (atomBytesIn kept ++ (partBytesIn permissions operations t head ++ levelBytesIn t head))))
 
 -- the line of the operations
 pub operations-line : {ops : ℕ} (t : List ℕ) (head : ℕ) → ops ≡ operationsAt t head → 0x26 ∷ ops % 256 ∷ ops / 256 % 256 ∷ [] ≡ operationBytesIn t head
 unfolding operationBytesIn
 operations-line t head e = ap (λ (x : ℕ). 0x26 ∷ x % 256 ∷ x / 256 % 256 ∷ []) e
+
+-- the line of the level, which is a byte
+pub level-line : {l : ℕ} (t : List ℕ) (head : ℕ) → l ≡ levelIn (restAt t head) → (0x29 ∷ l ∷ [] ≡ levelBytesIn t head) × (l < 256)
+unfolding levelBytesIn
+level-line t head e = (ap levelBytes e, omega arith)
 
 -- what opens the rule is written, at the front of the whole output
 pub opened : (whole o out left e : List ℕ) → whole ≡ e ++ left → length whole ≤ length o → out ≡ wrote e o → Writing whole o out (length e) left
@@ -210,12 +214,12 @@ parts-most permissions operations t head =
 
 -- a rule has at most 12288 bytes, whatever the tables hold
 pub bytes-most : (distinct having inside kinds permissions : List ℕ) (operations : ℕ) (t : List ℕ) (head kept : ℕ) → length (ruleBytesIn distinct having inside kinds permissions operations t head kept) ≤ 12288
-unfolding ruleBytesIn
+unfolding ruleBytesIn levelBytesIn
 bytes-most distinct having inside kinds permissions operations t head kept =
     go (kindBytesIn distinct having inside kinds t head kept user false) (kindBytesIn distinct having inside kinds t head kept user true) (kindBytesIn distinct having inside kinds t head kept resource false) (kindBytesIn distinct having inside kinds t head kept resource true)
-    (operationsAt t head % 256) (operationsAt t head / 256 % 256) (atomBytesIn kept) (partBytesIn permissions operations t head)
+    (operationsAt t head % 256) (operationsAt t head / 256 % 256) (atomBytesIn kept) (partBytesIn permissions operations t head) (levelIn (restAt t head))
     (side-most distinct having inside kinds t head kept user) (side-most distinct having inside kinds t head kept resource) (atoms-most kept) (parts-most permissions operations t head)
   where
-    go : (a b c d : List ℕ) (x y : ℕ) (e f : List ℕ) → length a + length b ≤ 4480 → length c + length d ≤ 4480 → length e ≤ 108 → length f ≤ 2048
-        → length (0x21 ∷ (a ++ (b ++ (c ++ (d ++ ((0x26 ∷ x ∷ y ∷ []) ++ (e ++ f))))))) ≤ 12288
-    go a b c d x y e f h i j k = simp length-append (omega arith)
+    go : (a b c d : List ℕ) (x y : ℕ) (e f : List ℕ) (z : ℕ) → length a + length b ≤ 4480 → length c + length d ≤ 4480 → length e ≤ 108 → length f ≤ 2048
+        → length (0x21 ∷ (a ++ (b ++ (c ++ (d ++ ((0x26 ∷ x ∷ y ∷ []) ++ (e ++ (f ++ (0x29 ∷ z ∷ []))))))))) ≤ 12288
+    go a b c d x y e f z h i j k = simp length-append (omega arith)

@@ -28,7 +28,7 @@ use Rattle.policy.specs.Roles.{classOf}
 use Rattle.policy.specs.Rules.{own, Which, by, Setting, Block, attrsOf, ownAt, sameBlock, user, resource, conjunct}
 use Rattle.mine_theory.specs.Lines.PartLinesLaws.{seats-sorted}
 use Rattle.mine_theory.specs.Lines.RuleBytesLaws.{parts-bytes, placeBytes, rule-bytes, placeCost, rule-side, rule-atoms}
-use Rattle.mine_theory.specs.Lines.RuleLines.{valueBytes, partBytes, atomSet, kindPlace, writtenValues, ruleLines, ofRole, partLinesOf}
+use Rattle.mine_theory.specs.Lines.RuleLines.{valueBytes, partBytes, levelBytes, atomSet, kindPlace, writtenValues, ruleLines, ofRole, partLinesOf}
 use Rattle.mine_theory.specs.Lines.RuleLinesLaws.{written-conjunct, place-side, place-below}
 use Rattle.sets.specs.ListLaws.{each-ext, sum-ext, sort-same}
 use Rattle.sets.specs.MaskLaws.{mask-lt, bit-maskOf}
@@ -48,7 +48,7 @@ use Rattle.write_cost.specs.CostSumLaws.{sums-same}
 use Rattle.write_cost.specs.CostSums.{ruleSums}
 use Rattle.mine_theory.specs.Words.Words.{Words, membersOf, wordsOf, spans}
 use Rattle.write_theory.specs.RuleLists.{listedAt, classAt, inGroup, partsAt, classesAt, placeCostIn, sideCostIn, ruleSumsIn}
-use Rattle.write_theory.specs.RuleTable.{keptAs, placeBytesIn, kindBytesIn, atomBytesAt, atomBytesIn, roleBytesIn, partBytesIn, ruleBytesIn}
+use Rattle.write_theory.specs.RuleTable.{keptAs, placeBytesIn, kindBytesIn, atomBytesAt, atomBytesIn, roleBytesIn, partBytesIn, levelBytesIn, ruleBytesIn}
 use Rattle.mine_matches.specs.ValueMeansLaws.{valuesIn, least-means, values-place, members-valued}
 use Rattle.grant_listed.specs.Values.{listsLeast, listedOf}
 
@@ -168,15 +168,18 @@ module _ (F : Policy) (Z : Sized F) where
     unfolding partBytesIn
     parts-written = each-ext _ _ (upTo 32) (λ r m. role-written r (upTo-out 32 m)) ∙ sym (parts-bytes cls (s .group head) group-low)
 
+    level-byte : levelOf (settingOf F) block < 256
+    level-byte = let e = shows .level head low alive in omega arith
+
     -- THE LAW of what is written: the lines of the group's rule
     pub written-bytes : ruleBytesIn (distinctIn F) (havingIn F) (insideIn F) (recordOf F .kinds) (recordOf F .permissions) (recordOf F .operations) t head kept ≡ each (encode 2) (opens ∷ seatLines F (s .group head))
-    unfolding ruleBytesIn atomBytesIn atomBytesAt seatLines seatRule
+    unfolding ruleBytesIn levelBytesIn atomBytesIn atomBytesAt seatLines seatRule
     written-bytes =
         ap (λ (l : List ℕ). 0x21 ∷ l)
         (ap₂ _++_ (kind-written user false) (ap₂ _++_ (kind-written user true) (ap₂ _++_ (kind-written resource false) (ap₂ _++_ (kind-written resource true)
-        (ap₂ (λ (W : Words) (l : List ℕ). (0x26 ∷ spread 2 (W .ops)) ++ (atomBytesIn kept ++ l)) words parts-written)))))
-        ∙ sym (rule-bytes (settingOf F) (wordsOf (settingOf F) block) kept (partLinesOf cls (s .group head)))
-        ∙ ap (λ (m : ℕ). each (encode 2) (opens ∷ ruleLines (settingOf F) (wordsOf (settingOf F) block) m (partLinesOf cls (s .group head)))) kept-places
+        (ap₂ (λ (W : Words) (l : List ℕ). (0x26 ∷ spread 2 (W .ops)) ++ (atomBytesIn kept ++ l)) words (ap₂ _++_ parts-written (ap levelBytes (shows .level head low alive))))))))
+        ∙ sym (rule-bytes (settingOf F) (wordsOf (settingOf F) block) kept (levelOf (settingOf F) block) level-byte (partLinesOf cls (s .group head)))
+        ∙ ap (λ (m : ℕ). each (encode 2) (opens ∷ ruleLines (settingOf F) (wordsOf (settingOf F) block) m (levelOf (settingOf F) block) (partLinesOf cls (s .group head)))) kept-places
         ∙ ap (λ (ls : Lines). each (encode 2) (opens ∷ ls)) (sym (seats-sorted (settingOf F) (roomy F Z) (lawful F) block (shows .fitting head low alive) cls (s .group head)))
 
     cost-written : (i : ℕ) → i < 14 → placeCostIn (distinctIn F) (havingIn F) (insideIn F) (recordOf F .kinds) t head kept i ≡ placeCost (settingOf F) (wordsOf (settingOf F) block) kept i

@@ -1,6 +1,6 @@
 //! The files of a case, all made from its seed.
 
-use crate::{loads, roles, rules, shapes, tally::Tally, REV};
+use crate::{levels, loads, roles, rules, shapes, tally::Tally, REV};
 use second_miner::{makers, random::Random, world::World};
 
 /// One case in so many is of a profile with files of the largest sizes, which take the second miner
@@ -45,9 +45,10 @@ fn beside(
     Ok(Some(mined))
 }
 
-/// The mined one and four with another 20, two that the second miner's maker makes, and these damaged.
+/// The mined one, four with another 20 and four with another 29, two that the second miner's maker makes, and these damaged.
 fn rule_files(world: &World, mined: &[u8], random: &mut Random) -> Vec<Vec<u8>> {
     let mut files = shapes::others(mined, random);
+    files.extend(levels::others(mined, random));
     files.push(mined.to_vec());
     for _ in 0..2 {
         let made = makers::rule_file(world, random.next(), REV);

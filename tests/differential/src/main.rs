@@ -4,7 +4,7 @@
 //!     tests/differential/run SEED COUNT
 //!
 //! Case n has the seed SEED + n: a role file of one of the second miner's profiles, the same file
-//! damaged, and beside each that is accepted nine rule files, beside the damaged one also the rules of
+//! damaged, and beside each that is accepted up to thirteen rule files, beside the damaged one also the rules of
 //! the other; and a role file that both make from a seed and sizes. Where the two disagree, the case's
 //! seed, the files in hexadecimal and both answers are printed, and the status is 1.
 //!
@@ -14,6 +14,7 @@
 mod case;
 mod circles;
 mod costs;
+mod levels;
 mod loads;
 mod memory;
 mod parts;
@@ -29,7 +30,7 @@ use std::thread::{available_parallelism, scope};
 use tally::Tally;
 
 /// How many of the change requests have landed: the second miner is asked as of then.
-pub const REV: second_miner::revision::Rev = 8;
+pub const REV: second_miner::revision::Rev = 9;
 
 /// Both sides must say the same.
 pub fn same<T: PartialEq + std::fmt::Debug>(what: &str, ours: T, theirs: T) -> Result<(), String> {

@@ -54,7 +54,7 @@ fn repeated(right: &[u8], random: &mut Random) -> Vec<u8> {
 }
 
 /// Where the commands behind the 20 begin, and the file's end.
-fn commands(right: &[u8]) -> Vec<usize> {
+pub fn commands(right: &[u8]) -> Vec<usize> {
     let mut places = vec![];
     let mut at = OPENING;
     while at < right.len() {

@@ -12,8 +12,8 @@ pub struct Tally {
     pub circles: usize,
     pub loads: usize,
     pub edits: usize,
-    /// By number: how often the library accepted (0) or refused (1 to 17).
-    answers: [usize; 18],
+    /// By number: how often the library accepted (0) or refused (1 to 18).
+    answers: [usize; 19],
     verdicts: [usize; 4],
 }
 

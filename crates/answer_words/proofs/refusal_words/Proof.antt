@@ -76,15 +76,21 @@ unfolding refusalWords refusalTable causeWords
 returns-17 c = holds-same (ap refusalWords (sym (c .before .before .before .before .before .match .keys17))) (c .before .before .put17 .ensures)
 
 returns-18 : tie.Need-returns-18
-returns-18 c =
+unfolding refusalWords refusalTable causeWords
+returns-18 c = holds-same (ap refusalWords (sym (c .before .before .before .before .before .match .keys18))) (c .before .before .put18 .ensures)
+
+returns-19 : tie.Need-returns-19
+returns-19 c =
     let n = c .before .before .before .before .before .before .before .args .n in
     let other = c .before .before .before .before .before .match .rest in
-    holds-same (past-refusals n (λ z. above 17 (above 16 (above 15 (above 14 (above 13 (above 12 (above 11 (above 10 (above 9 (above 8 (above 7 (above 6 (above 5 (above 4 (above 3 (above 2 (above 1 (omega arith) (other .0 .0 .0 .0 .0 .0 .0 .0 .0 .0 .0 .0 .0 .0 .0 .0 .1)) (other .0 .0 .0 .0 .0 .0 .0 .0 .0 .0 .0 .0 .0 .0 .0 .1)) (other .0 .0 .0 .0 .0 .0 .0 .0 .0 .0 .0 .0 .0 .0 .1)) (other .0 .0 .0 .0 .0 .0 .0 .0 .0 .0 .0 .0 .0 .1)) (other .0 .0 .0 .0 .0 .0 .0 .0 .0 .0 .0 .0 .1)) (other .0 .0 .0 .0 .0 .0 .0 .0 .0 .0 .0 .1)) (other .0 .0 .0 .0 .0 .0 .0 .0 .0 .0 .1)) (other .0 .0 .0 .0 .0 .0 .0 .0 .0 .1)) (other .0 .0 .0 .0 .0 .0 .0 .0 .1)) (other .0 .0 .0 .0 .0 .0 .0 .1)) (other .0 .0 .0 .0 .0 .0 .1)) (other .0 .0 .0 .0 .0 .1)) (other .0 .0 .0 .0 .1)) (other .0 .0 .0 .1)) (other .0 .0 .1)) (other .0 .1)) (other .1))) (c .before .before .put18 .ensures)
+    holds-same (past-refusals n (λ z. above 18 (above 17 (above 16 (above 15 (above 14 (above 13 (above 12 (above 11 (above 10 (above 9 (above 8 (above 7 (above 6 (above 5 (above 4 (above 3 (above 2 (above 1 (omega arith) (other .0 .0 .0 .0 .0 .0 .0 .0 .0 .0 .0 .0 .0 .0 .0 .0 .0 .1)) (other .0 .0 .0 .0 .0 .0 .0 .0 .0 .0 .0 .0 .0 .0 .0 .0 .1)) (other .0 .0 .0 .0 .0 .0 .0 .0 .0 .0 .0 .0 .0 .0 .0 .1)) (other .0 .0 .0 .0 .0 .0 .0 .0 .0 .0 .0 .0 .0 .0 .1)) (other .0 .0 .0 .0 .0 .0 .0 .0 .0 .0 .0 .0 .0 .1)) (other .0 .0 .0 .0 .0 .0 .0 .0 .0 .0 .0 .0 .1)) (other .0 .0 .0 .0 .0 .0 .0 .0 .0 .0 .0 .1)) (other .0 .0 .0 .0 .0 .0 .0 .0 .0 .0 .1)) (other .0 .0 .0 .0 .0 .0 .0 .0 .0 .1)) (other .0 .0 .0 .0 .0 .0 .0 .0 .1)) (other .0 .0 .0 .0 .0 .0 .0 .1)) (other .0 .0 .0 .0 .0 .0 .1)) (other .0 .0 .0 .0 .0 .1)) (other .0 .0 .0 .0 .1)) (other .0 .0 .0 .1)) (other .0 .0 .1)) (other .0 .1)) (other .1))) (c .before .before .put19 .ensures)
 
 pub refusal-words-spec : {M : Type 1} → statement M
 refusal-words-spec =
     tie.close
     (tie.spec
+    (λ c. search needs)
+    (λ c κs. search needs)
     (λ c. search needs)
     (λ c κs. search needs)
     (λ c. search needs)
@@ -156,4 +162,6 @@ refusal-words-spec =
     (λ c. search needs)
     returns-17
     (λ c. search needs)
-    returns-18)
+    returns-18
+    (λ c. search needs)
+    returns-19)

@@ -7,12 +7,12 @@ use mathlib.Core.List.{List, _∷_, _++_, map, map-map}
 use mathlib.Core.Path.{_≡_, refl, sym, ap, _∙_}
 use native.Mathlib.Omega.{arith}
 use Rattle.files.specs.ReadBackLaws.{lines-strict}
-use Rattle.files.specs.RuleFile.{RuleCommand, precedes, isPartLine, Lines, condLines, operations, part}
+use Rattle.files.specs.RuleFile.{RuleCommand, precedes, isPartLine, Lines, condLines, operations, part, level}
 use Rattle.policy.specs.Covering.{fits, levelOf}
 use Rattle.policy.specs.MergeLaws.{Every}
 use Rattle.policy.specs.Roles.{Part}
 use Rattle.policy.specs.RuleLaws.{Lawful}
-use Rattle.policy.specs.Rules.{Setting, Block}
+use Rattle.policy.specs.Rules.{Setting, Block, ruleLevel}
 use Rattle.policy.specs.Thinning.{written}
 use Rattle.mine_theory.specs.Lines.RuleLines.{ruleLines, ofRole, partLinesOf}
 use Rattle.mine_theory.specs.Lines.RuleLinesLaws.{role-first, part-next, lines-sorted}
@@ -77,6 +77,7 @@ partOf i = record { role = cellRow i; lead = cellOperation i }
 
 -- the lines of a written rule and of a list of seats, sorted
 pub seats-sorted : (P : Setting) → Roomy P → Lawful P → (B : Block) → Is (fits P B 3) → (cls : ℕ → ℕ) (g : List ℕ)
-    → sort precedes (each (condLines P) (written P B .conds) ++ (operations (written P B .ops) ∷ map (λ i. part (cellRow i) (cls i)) g)) ≡ ruleLines P (wordsOf P B) (keptPlaces P (wordsOf P B) (levelOf P B)) (partLinesOf cls g)
+    → sort precedes (each (condLines P) (written P B .conds) ++ (operations (written P B .ops) ∷ level (ruleLevel P (written P B)) ∷ map (λ i. part (cellRow i) (cls i)) g))
+    ≡ ruleLines P (wordsOf P B) (keptPlaces P (wordsOf P B) (levelOf P B)) (levelOf P B) (partLinesOf cls g)
 unfolding partLinesOf
 seats-sorted P Z L B fit cls g = lines-sorted P Z L B fit (map (λ i. part (cellRow i) (cls i)) g) (part-lines-only cls g)

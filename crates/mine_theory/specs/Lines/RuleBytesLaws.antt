@@ -9,7 +9,7 @@ use mathlib.Core.List.{List, [], _∷_, _++_, append-nil, map}
 use mathlib.Core.Path.{_≡_, refl, sym, ap, ap₂, _∙_}
 use native.Mathlib.Omega.{arith}
 use Rattle.files.specs.Bytes.{spread}
-use Rattle.files.specs.RuleFile.{Lines, encode, opens, value, operations, link, part}
+use Rattle.files.specs.RuleFile.{Lines, encode, opens, value, operations, link, part, level}
 use Rattle.policy.specs.Cost.{isOf, singleCost, setCost, atomCost, sideCost}
 use Rattle.policy.specs.Covering.{fits, levelOf}
 use Rattle.policy.specs.MergeLaws.{Every}
@@ -17,9 +17,9 @@ use Rattle.policy.specs.RuleLaws.{Lawful}
 use Rattle.policy.specs.Rules.{Which, by, Setting, Cond, Block, user, resource}
 use Rattle.policy.specs.Thinning.{trimCond, written}
 use Rattle.mine_theory.specs.Lines.PartLinesLaws.{part-lines-sorted}
-use Rattle.mine_theory.specs.Lines.RuleLines.{kindPlace, writtenValues, attributeLines, isKind, kindLines, atomLines, ruleLines, ofRole, partLinesOf, valueBytes, partBytes, atomSet, linkBytes}
+use Rattle.mine_theory.specs.Lines.RuleLines.{kindPlace, writtenValues, attributeLines, isKind, kindLines, atomLines, ruleLines, ofRole, partLinesOf, valueBytes, partBytes, levelBytes, atomSet, linkBytes}
 use Rattle.mine_theory.specs.Lines.RuleLinesLaws.{attribute-byte, written-conjunct, written-atom}
-use Rattle.sets.specs.ListLaws.{each-ext, each-append, each-only, each-cond, length-each, each-each, each-map, sum-ext, sum-kept, sum-both}
+use Rattle.sets.specs.ListLaws.{each-ext, each-append, each-last, each-only, each-cond, length-each, each-each, each-map, sum-ext, sum-kept, sum-both}
 use Rattle.sets.specs.MaskLaws.{size-mask}
 use Rattle.sets.specs.Sets.{bit, size}
 use Rattle.sets.specs.Sorted.{sort}
@@ -57,6 +57,11 @@ encode-link a b h k = let e : b % 256 ≡ b = omega arith in two-operands 0x27 a
 pub encode-part : (k n : ℕ) → k < 256 → encode 2 (part k n) ≡ partBytes k n
 unfolding encode
 encode-part k n h = two-operands 0x28 k (spread 2 n) h
+
+-- the line of the level
+pub encode-level : (l : ℕ) → l < 256 → encode 2 (level l) ≡ levelBytes l
+unfolding encode
+encode-level l h = let e : l % 256 ≡ l = omega arith in ap (λ (x : ℕ). 0x29 ∷ x ∷ []) e
 
 -- ---- lengths
 
@@ -133,33 +138,35 @@ module _ (P : Setting) (W : Words) (m : ℕ) where
   -- ---- the lines of a rule
 
   -- section by section
-  pub encoded : (ps : Lines) → each (encode 2) (ruleLines P W m ps)
+  pub encoded : (n : ℕ) (ps : Lines) → each (encode 2) (ruleLines P W m n ps)
       ≡ each (encode 2) (kindLines P W m user false)
       ++ (each (encode 2) (kindLines P W m user true)
       ++ (each (encode 2) (kindLines P W m resource false)
       ++ (each (encode 2) (kindLines P W m resource true)
-      ++ (encode 2 (operations (W .ops)) ++ (each (encode 2) (atomLines m) ++ each (encode 2) ps)))))
+      ++ (encode 2 (operations (W .ops)) ++ (each (encode 2) (atomLines m) ++ (each (encode 2) ps ++ encode 2 (level n)))))))
   unfolding ruleLines
-  encoded ps =
-      in-front user false _ (in-front user true _ (in-front resource false _ (in-front resource true _ (ap (λ (l : List ℕ). encode 2 (operations (W .ops)) ++ l) (each-append (encode 2) (atomLines m) ps)))))
+  encoded n ps =
+      in-front user false _ (in-front user true _ (in-front resource false _ (in-front resource true _
+      (ap (λ (l : List ℕ). encode 2 (operations (W .ops)) ++ l)
+      (each-append (encode 2) (atomLines m) (ps ++ (level n ∷ [])) ∙ ap (λ (l : List ℕ). each (encode 2) (atomLines m) ++ l) (each-last (encode 2) ps (level n)))))))
     where
       in-front : (w : Which) (set : Bool) (t : Lines) {l : List ℕ} → each (encode 2) t ≡ l → each (encode 2) (kindLines P W m w set ++ t) ≡ each (encode 2) (kindLines P W m w set) ++ l
       in-front w set t e = each-append (encode 2) (kindLines P W m w set) t ∙ ap (λ (l : List ℕ). each (encode 2) (kindLines P W m w set) ++ l) e
 
   -- place by place, with the 21 in front
-  pub rule-bytes : (ps : Lines) → each (encode 2) (opens ∷ ruleLines P W m ps)
+  pub rule-bytes : (n : ℕ) → n < 256 → (ps : Lines) → each (encode 2) (opens ∷ ruleLines P W m n ps)
       ≡ 0x21
       ∷ (each (placeBytes user false) (upTo 7)
       ++ (each (placeBytes user true) (upTo 7)
       ++ (each (placeBytes resource false) (upTo 7)
       ++ (each (placeBytes resource true) (upTo 7)
-      ++ ((0x26 ∷ spread 2 (W .ops)) ++ (each (λ j. cond (bit m (14 + j)) (linkBytes (j / 6) (j % 6)) []) (upTo 36) ++ each (encode 2) ps))))))
+      ++ ((0x26 ∷ spread 2 (W .ops)) ++ (each (λ j. cond (bit m (14 + j)) (linkBytes (j / 6) (j % 6)) []) (upTo 36) ++ (each (encode 2) ps ++ levelBytes n)))))))
   unfolding encode
-  rule-bytes ps =
+  rule-bytes n h ps =
       ap (λ (l : List ℕ). 0x21 ∷ l)
-      (encoded ps
+      (encoded n ps
       ∙ ap₂ _++_ (kind-bytes user false) (ap₂ _++_ (kind-bytes user true) (ap₂ _++_ (kind-bytes resource false) (ap₂ _++_ (kind-bytes resource true)
-      (ap₂ _++_ (encode-operations (W .ops)) (ap (λ (l : List ℕ). l ++ each (encode 2) ps) (atom-bytes m)))))))
+      (ap₂ _++_ (encode-operations (W .ops)) (ap₂ _++_ (atom-bytes m) (ap (λ (l : List ℕ). each (encode 2) ps ++ l) (encode-level n h))))))))
 
   -- ---- the cost
 

@@ -5,7 +5,7 @@ use lib.Dec.{eqb}
 use mathlib.Core.Bool.{Bool, true, false, cond, _&&_}
 use mathlib.Core.List.{List, [], _∷_, _++_, map}
 use Rattle.files.specs.Bytes.{spread}
-use Rattle.files.specs.RuleFile.{Lines, precedes, value, operations, link, part, valueByte}
+use Rattle.files.specs.RuleFile.{Lines, precedes, value, operations, link, part, level, valueByte}
 use Rattle.policy.specs.Covering.{valuesOf}
 use Rattle.policy.specs.Rules.{Which, by, Setting, user, resource}
 use Rattle.policy.specs.Thinning.{trim}
@@ -43,14 +43,14 @@ module _ (P : Setting) where
   unfoldable pub kindLines : Words → ℕ → Which → Bool → Lines
   kindLines W m w set = each (λ j. cond (isKind m w set (kindPlace w j)) (attributeLines W w set (kindPlace w j)) []) (upTo 7)
 
-  -- all lines of a rule, ps being its lines 28
-  unfoldable pub ruleLines : Words → ℕ → Lines → Lines
-  ruleLines W m ps =
+  -- all lines of a rule of level l, ps being its lines 28
+  unfoldable pub ruleLines : Words → ℕ → ℕ → Lines → Lines
+  ruleLines W m l ps =
       kindLines W m user false
       ++ (kindLines W m user true
       ++ (kindLines W m resource false
       ++ (kindLines W m resource true
-      ++ (operations (W .ops) ∷ (atomLines m ++ ps)))))
+      ++ (operations (W .ops) ∷ (atomLines m ++ (ps ++ (level l ∷ [])))))))
 
 -- the seats of a role
 abbrev pub ofRole : List ℕ → ℕ → List ℕ
@@ -69,6 +69,10 @@ valueBytes w set a v = valueByte w set ∷ a ∷ spread (cond set 8 2) v
 -- the bytes of a line 28
 abbrev pub partBytes : ℕ → ℕ → List ℕ
 partBytes k n = 0x28 ∷ k ∷ spread 2 n
+
+-- the bytes of the line 29
+abbrev pub levelBytes : ℕ → List ℕ
+levelBytes l = 0x29 ∷ l ∷ []
 
 -- ---- the lines of atoms
 

@@ -9,15 +9,17 @@ use mathlib.Core.Logic.{_⊎_, inl, inr}
 use mathlib.Core.Path.{_≡_, refl, sym, ap, ap₂, _∙_, subst}
 use native.Mathlib.Omega.{arith}
 use Rattle.files.specs.ReadBackLaws.{lines-strict}
-use Rattle.files.specs.RuleFile.{RuleCommand, valueByte, byteOf, operandsOf, precedes, isPartLine, Lines, condLines, reshapes, opens, value, operations, link, part, ends}
+use Rattle.files.specs.RuleFile.{RuleCommand, valueByte, byteOf, operandsOf, precedes, isPartLine, Lines, condLines, reshapes, opens, value, operations, link, part, level, ends}
 use Rattle.policy.specs.Covering.{fits, levelOf}
 use Rattle.policy.specs.MergeLaws.{Every}
 use Rattle.policy.specs.RuleLaws.{Lawful}
-use Rattle.policy.specs.Rules.{own, Which, by, Setting, Cond, Block, user, resource, conjunct, atom}
+use Rattle.policy.specs.Rules.{own, Which, by, Setting, Cond, Block, ruleLevel, user, resource, conjunct, atom}
 use Rattle.policy.specs.SideLaws.{values-rising}
+use Rattle.policy.specs.ThinLaws.{written-level}
 use Rattle.policy.specs.Thinning.{trim, trimCond, written}
 use Rattle.mine_theory.specs.Lines.RuleLines.{kindPlace, writtenValues, attributeLines, isKind, kindLines, atomLines, ruleLines}
 use Rattle.sets.specs.ListLaws.{map-rising, sort-is}
+use Rattle.sets.specs.LowestLaws.{lowest-passes}
 use Rattle.sets.specs.Sets.{bit}
 use Rattle.sets.specs.Sorted.{before, Rising, sort, none-left, and-then}
 use Rattle.sets.specs.SortedLaws.{Before, sort-in, sort-out, sort-rising, keep-rising, append-rising, each-rising, only-rising, from-rising}
@@ -134,6 +136,7 @@ part-byte (value w set a v) h = absurd (false≢true h)
 part-byte (operations m) h = absurd (false≢true h)
 part-byte (link a b) h = absurd (false≢true h)
 part-byte (part k m) h = refl
+part-byte (level x) h = absurd (false≢true h)
 part-byte ends h = absurd (false≢true h)
 
 -- ---- the lines of atoms
@@ -227,16 +230,17 @@ module _ (P : Setting) where
     -- ---- all lines
 
     -- where a line comes from
-    data LineFrom (ps : Lines) (c : RuleCommand) : Type 0 where
-      from-kind : (w : Which) (set : Bool) → c isIn kindLines P W m w set → LineFrom ps c
-      from-operations : c ≡ operations (W .ops) → LineFrom ps c
-      from-atoms : c isIn atomLines m → LineFrom ps c
-      from-parts : c isIn ps → LineFrom ps c
+    data LineFrom (l : ℕ) (ps : Lines) (c : RuleCommand) : Type 0 where
+      from-kind : (w : Which) (set : Bool) → c isIn kindLines P W m w set → LineFrom l ps c
+      from-operations : c ≡ operations (W .ops) → LineFrom l ps c
+      from-atoms : c isIn atomLines m → LineFrom l ps c
+      from-parts : c isIn ps → LineFrom l ps c
+      from-level : c ≡ level l → LineFrom l ps c
 
-    module _ (ps : Lines) where
+    module _ (l : ℕ) (ps : Lines) where
       -- the lines from a section on
       abbrev afterKinds : Lines
-      afterKinds = operations (W .ops) ∷ (atomLines m ++ ps)
+      afterKinds = operations (W .ops) ∷ (atomLines m ++ (ps ++ (level l ∷ [])))
 
       abbrev afterUsers : Lines
       afterUsers = kindLines P W m resource false ++ (kindLines P W m resource true ++ afterKinds)
@@ -244,64 +248,69 @@ module _ (P : Setting) where
       abbrev afterSingles : Lines
       afterSingles = kindLines P W m user true ++ afterUsers
 
-      rule-out : {c : RuleCommand} → c isIn ruleLines P W m ps → LineFrom ps c
+      rule-out : {c : RuleCommand} → c isIn ruleLines P W m l ps → LineFrom l ps c
       unfolding ruleLines
       rule-out {c} k = first (List·Memᴰ·append-cases (kindLines P W m user false) k)
         where
-          last : (c isIn atomLines m) ⊎ (c isIn ps) → LineFrom ps c
-          last (inl k) = from-atoms k
-          last (inr k) = from-parts k
+          last : (c isIn ps) ⊎ (c isIn (level l ∷ [])) → LineFrom l ps c
+          last (inl k) = from-parts k
+          last (inr k) = from-level (only-out true k .1)
 
-          sixth : (c ≡ operations (W .ops)) ⊎ (c isIn (atomLines m ++ ps)) → LineFrom ps c
+          seventh : (c isIn atomLines m) ⊎ (c isIn (ps ++ (level l ∷ []))) → LineFrom l ps c
+          seventh (inl k) = from-atoms k
+          seventh (inr k) = last (List·Memᴰ·append-cases ps k)
+
+          sixth : (c ≡ operations (W .ops)) ⊎ (c isIn (atomLines m ++ (ps ++ (level l ∷ [])))) → LineFrom l ps c
           sixth (inl e) = from-operations e
-          sixth (inr k) = last (List·Memᴰ·append-cases (atomLines m) k)
+          sixth (inr k) = seventh (List·Memᴰ·append-cases (atomLines m) k)
 
-          fourth : (c isIn kindLines P W m resource true) ⊎ (c isIn afterKinds) → LineFrom ps c
+          fourth : (c isIn kindLines P W m resource true) ⊎ (c isIn afterKinds) → LineFrom l ps c
           fourth (inl k) = from-kind resource true k
           fourth (inr k) = sixth (List·Memᴰ·cases-cons k)
 
-          third : (c isIn kindLines P W m resource false) ⊎ (c isIn (kindLines P W m resource true ++ afterKinds)) → LineFrom ps c
+          third : (c isIn kindLines P W m resource false) ⊎ (c isIn (kindLines P W m resource true ++ afterKinds)) → LineFrom l ps c
           third (inl k) = from-kind resource false k
           third (inr k) = fourth (List·Memᴰ·append-cases (kindLines P W m resource true) k)
 
-          second : (c isIn kindLines P W m user true) ⊎ (c isIn afterUsers) → LineFrom ps c
+          second : (c isIn kindLines P W m user true) ⊎ (c isIn afterUsers) → LineFrom l ps c
           second (inl k) = from-kind user true k
           second (inr k) = third (List·Memᴰ·append-cases (kindLines P W m resource false) k)
 
-          first : (c isIn kindLines P W m user false) ⊎ (c isIn afterSingles) → LineFrom ps c
+          first : (c isIn kindLines P W m user false) ⊎ (c isIn afterSingles) → LineFrom l ps c
           first (inl k) = from-kind user false k
           first (inr k) = second (List·Memᴰ·append-cases (kindLines P W m user true) k)
 
-      behind-kinds : {c : RuleCommand} → c isIn afterKinds → c isIn ruleLines P W m ps
+      behind-kinds : {c : RuleCommand} → c isIn afterKinds → c isIn ruleLines P W m l ps
       unfolding ruleLines
       behind-kinds k = Memᴰ·append-right (kindLines P W m user false) (Memᴰ·append-right (kindLines P W m user true) (Memᴰ·append-right (kindLines P W m resource false) (Memᴰ·append-right (kindLines P W m resource true) k)))
 
-      rule-in : {c : RuleCommand} → LineFrom ps c → c isIn ruleLines P W m ps
+      rule-in : {c : RuleCommand} → LineFrom l ps c → c isIn ruleLines P W m l ps
       unfolding ruleLines
       rule-in (from-kind user false k) = Memᴰ·append-left afterSingles k
       rule-in (from-kind user true k) = Memᴰ·append-right (kindLines P W m user false) (Memᴰ·append-left afterUsers k)
       rule-in (from-kind resource false k) = Memᴰ·append-right (kindLines P W m user false) (Memᴰ·append-right (kindLines P W m user true) (Memᴰ·append-left (kindLines P W m resource true ++ afterKinds) k))
       rule-in (from-kind resource true k) = Memᴰ·append-right (kindLines P W m user false) (Memᴰ·append-right (kindLines P W m user true) (Memᴰ·append-right (kindLines P W m resource false) (Memᴰ·append-left afterKinds k)))
       rule-in (from-operations e) = behind-kinds (List·Memᴰ·head e)
-      rule-in (from-atoms k) = behind-kinds (List·Memᴰ·tail (Memᴰ·append-left ps k))
-      rule-in (from-parts k) = behind-kinds (List·Memᴰ·tail (Memᴰ·append-right (atomLines m) k))
+      rule-in (from-atoms k) = behind-kinds (List·Memᴰ·tail (Memᴰ·append-left (ps ++ (level l ∷ [])) k))
+      rule-in (from-parts k) = behind-kinds (List·Memᴰ·tail (Memᴰ·append-right (atomLines m) (Memᴰ·append-left (level l ∷ []) k)))
+      rule-in (from-level e) = behind-kinds (List·Memᴰ·tail (Memᴰ·append-right (atomLines m) (Memᴰ·append-right ps (List·Memᴰ·head e))))
 
       -- a rule's lines ascend where those of its parts do
-      pub rule-rising : Every (λ c. Is (isPartLine c)) ps → Rising (Before precedes) ps → Rising (Before precedes) (ruleLines P W m ps)
+      pub rule-rising : Every (λ c. Is (isPartLine c)) ps → Rising (Before precedes) ps → Rising (Before precedes) (ruleLines P W m l ps)
       unfolding ruleLines
       rule-rising only-parts r =
           byte-more 0x22 0x23 (omega arith) (kind-rising user false) (kind-byte user false)
           (byte-more 0x23 0x24 (omega arith) (kind-rising user true) (kind-byte user true)
           (byte-more 0x24 0x25 (omega arith) (kind-rising resource false) (kind-byte resource false)
           (byte-more 0x25 0x26 (omega arith) (kind-rising resource true) (kind-byte resource true)
-          (byte-more 0x26 0x27 {s = operations (W .ops) ∷ []} (omega arith) (and-then (λ y k. absurd (List·Memᴰ·not-nil k)) none-left) (λ c k. one c (List·Memᴰ·cases-cons k))
+          (byte-more 0x26 0x27 {s = operations (W .ops) ∷ []} (omega arith) one-rises (λ c k. ap byteOf (only-out true k .1))
           (byte-more 0x27 0x28 (omega arith) (atoms-rising m) (λ c k. ap byteOf (atom-out m k .3))
-          (r, λ c k. let e = part-byte c (only-parts c k) in omega arith))))))
+          (byte-more 0x28 0x29 (omega arith) r (λ c k. part-byte c (only-parts c k))
+          (one-rises, λ c k. let e : byteOf c ≡ 0x29 = ap byteOf (only-out true k .1) in omega arith)))))))
           .0
         where
-          one : (c : RuleCommand) → (c ≡ operations (W .ops)) ⊎ (c isIn []) → byteOf c ≡ 0x26
-          one c (inl e) = ap byteOf e
-          one c (inr k) = absurd (List·Memᴰ·not-nil k)
+          one-rises : {c : RuleCommand} → Rising (Before precedes) (c ∷ [])
+          one-rises = and-then (λ y k. absurd (List·Memᴰ·not-nil k)) none-left
 
     -- ---- the conditions at the places
 
@@ -355,51 +364,63 @@ module _ (P : Setting) where
         subst (λ (i : ℕ). Is (bit m i) → (v : ℕ) → v isIn writtenValues P W i → value w (P .side w .isSet (placeAttribute i)) (placeAttribute i) v isIn kindLines P W m w (P .side w .isSet (placeAttribute i))) (sym e) (λ h v k. kind-in w j l h k)
 
     -- and the lines of conditions are lines of a kind or of atoms
-    cond-from : (ps : Lines) {c : RuleCommand} → c isIn each (condLines P) placeConds → LineFrom ps c
-    cond-from ps {c} k =
+    cond-from : (l : ℕ) (ps : Lines) {c : RuleCommand} → c isIn each (condLines P) placeConds → LineFrom l ps c
+    cond-from n ps {c} k =
         let t = cond-line-out k in
         test (ltb (t .0) 14) (λ p. conjunct-from (t .0) (ltb-true (t .0) 14 p) (t .2) (t .3)) (λ p. let l = t .1 in link-from (t .0) (ltb-false (t .0) 14 p) l (t .2) (t .3))
       where
-        conjunct-from : (i : ℕ) → i < 14 → Is (bit m i) → c isIn condLines P (trimCond P (condAt P W i)) → LineFrom ps c
+        conjunct-from : (i : ℕ) → i < 14 → Is (bit m i) → c isIn condLines P (trimCond P (condAt P W i)) → LineFrom n ps c
         conjunct-from i l h k =
             let set = P .side (placeSide i) .isSet (placeAttribute i) in
             let t = map-out (value (placeSide i) set (placeAttribute i)) (writtenValues P W i) (subst (λ (s : Lines). c isIn s) (conjunct-lines i l) k) in
             from-kind (placeSide i) set (subst (λ (d : RuleCommand). d isIn kindLines P W m (placeSide i) set) (sym (t .2)) (kind-at (placeSide i) (i % 7) (omega arith) i (place-own i l) h (t .0) (t .1)))
 
-        linked : (i : ℕ) → 14 ≤ i → i < 50 → Is (bit m i) → (c ≡ link ((i - 14) / 6) ((i - 14) % 6)) ⊎ (c isIn []) → LineFrom ps c
+        linked : (i : ℕ) → 14 ≤ i → i < 50 → Is (bit m i) → (c ≡ link ((i - 14) / 6) ((i - 14) % 6)) ⊎ (c isIn []) → LineFrom n ps c
         linked i l u h (inl q) =
             let e : i ≡ 14 + (i - 14) = omega arith in
             from-atoms (subst (λ (d : RuleCommand). d isIn atomLines m) (sym q) (atom-in m (i - 14) (omega arith) (sym (ap (bit m) e) ∙ h)))
         linked i l u h (inr k) = absurd (List·Memᴰ·not-nil k)
 
-        link-from : (i : ℕ) → 14 ≤ i → i < 50 → Is (bit m i) → c isIn condLines P (trimCond P (condAt P W i)) → LineFrom ps c
+        link-from : (i : ℕ) → 14 ≤ i → i < 50 → Is (bit m i) → c isIn condLines P (trimCond P (condAt P W i)) → LineFrom n ps c
         link-from i l u h k = linked i l u h (List·Memᴰ·cases-cons (subst (λ (s : Lines). c isIn s) (link-lines i l) k))
 
     -- the lines of the conditions at the places, sorted
-    pub places-sorted : (qs : Lines) → Every (λ c. Is (isPartLine c)) qs → sort precedes (each (condLines P) placeConds ++ (operations (W .ops) ∷ qs)) ≡ ruleLines P W m (sort precedes qs)
-    places-sorted qs only-parts =
-        sort-is precedes lines-strict (each (condLines P) placeConds ++ (operations (W .ops) ∷ qs))
-        (rule-rising (sort precedes qs) (λ c k. only-parts c (sort-out precedes qs k)) (sort-rising precedes (lines-strict .chain) qs))
-        (λ c k. rule-in (sort precedes qs) (there c (List·Memᴰ·append-cases (each (condLines P) placeConds) k)))
-        (λ c k. back c (rule-out (sort precedes qs) k))
+    pub places-sorted : (l : ℕ) (qs : Lines) → Every (λ c. Is (isPartLine c)) qs → sort precedes (each (condLines P) placeConds ++ (operations (W .ops) ∷ level l ∷ qs)) ≡ ruleLines P W m l (sort precedes qs)
+    places-sorted l qs only-parts =
+        sort-is precedes lines-strict (each (condLines P) placeConds ++ (operations (W .ops) ∷ level l ∷ qs))
+        (rule-rising l (sort precedes qs) (λ c k. only-parts c (sort-out precedes qs k)) (sort-rising precedes (lines-strict .chain) qs))
+        (λ c k. rule-in l (sort precedes qs) (there c (List·Memᴰ·append-cases (each (condLines P) placeConds) k)))
+        (λ c k. back c (rule-out l (sort precedes qs) k))
       where
-        behind : (c : RuleCommand) → (c ≡ operations (W .ops)) ⊎ (c isIn qs) → LineFrom (sort precedes qs) c
-        behind c (inl e) = from-operations e
-        behind c (inr k) = from-parts (sort-in precedes lines-strict k)
+        listed : (c : RuleCommand) → (c ≡ level l) ⊎ (c isIn qs) → LineFrom l (sort precedes qs) c
+        listed c (inl e) = from-level e
+        listed c (inr k) = from-parts (sort-in precedes lines-strict k)
 
-        there : (c : RuleCommand) → (c isIn each (condLines P) placeConds) ⊎ (c isIn (operations (W .ops) ∷ qs)) → LineFrom (sort precedes qs) c
-        there c (inl k) = cond-from (sort precedes qs) k
+        behind : (c : RuleCommand) → (c ≡ operations (W .ops)) ⊎ (c isIn (level l ∷ qs)) → LineFrom l (sort precedes qs) c
+        behind c (inl e) = from-operations e
+        behind c (inr k) = listed c (List·Memᴰ·cases-cons k)
+
+        there : (c : RuleCommand) → (c isIn each (condLines P) placeConds) ⊎ (c isIn (operations (W .ops) ∷ level l ∷ qs)) → LineFrom l (sort precedes qs) c
+        there c (inl k) = cond-from l (sort precedes qs) k
         there c (inr k) = behind c (List·Memᴰ·cases-cons k)
 
-        back : (c : RuleCommand) → LineFrom (sort precedes qs) c → c isIn (each (condLines P) placeConds ++ (operations (W .ops) ∷ qs))
-        back c (from-kind w set k) = Memᴰ·append-left (operations (W .ops) ∷ qs) (kind-cond w set k)
+        back : (c : RuleCommand) → LineFrom l (sort precedes qs) c → c isIn (each (condLines P) placeConds ++ (operations (W .ops) ∷ level l ∷ qs))
+        back c (from-kind w set k) = Memᴰ·append-left (operations (W .ops) ∷ level l ∷ qs) (kind-cond w set k)
         back c (from-operations e) = Memᴰ·append-right (each (condLines P) placeConds) (List·Memᴰ·head e)
-        back c (from-atoms k) = Memᴰ·append-left (operations (W .ops) ∷ qs) (atom-cond k)
-        back c (from-parts k) = Memᴰ·append-right (each (condLines P) placeConds) (List·Memᴰ·tail (sort-out precedes qs k))
+        back c (from-atoms k) = Memᴰ·append-left (operations (W .ops) ∷ level l ∷ qs) (atom-cond k)
+        back c (from-parts k) = Memᴰ·append-right (each (condLines P) placeConds) (List·Memᴰ·tail (List·Memᴰ·tail (sort-out precedes qs k)))
+        back c (from-level e) = Memᴰ·append-right (each (condLines P) placeConds) (List·Memᴰ·tail (List·Memᴰ·head e))
 
-  -- THE LAW: the lines of a written rule and of its parts, sorted, are those of its places one after the other
+  -- what fits level 3 fits its own
+  fits-own : (B : Block) → Is (fits P B 3) → Is (fits P B (levelOf P B))
+  unfolding levelOf
+  fits-own B fit = lowest-passes (fits P B) fit
+
+  -- THE LAW: the lines of a written rule, its level among them, and of its parts, sorted, are those of its places one after the other
   pub lines-sorted : Roomy P → Lawful P → (B : Block) → Is (fits P B 3) → (qs : Lines) → Every (λ c. Is (isPartLine c)) qs
-      → sort precedes (each (condLines P) (written P B .conds) ++ (operations (written P B .ops) ∷ qs)) ≡ ruleLines P (wordsOf P B) (keptPlaces P (wordsOf P B) (levelOf P B)) (sort precedes qs)
+      → sort precedes (each (condLines P) (written P B .conds) ++ (operations (written P B .ops) ∷ level (ruleLevel P (written P B)) ∷ qs))
+      ≡ ruleLines P (wordsOf P B) (keptPlaces P (wordsOf P B) (levelOf P B)) (levelOf P B) (sort precedes qs)
   lines-sorted Z L B fit qs only-parts =
-      ap₂ (λ (cs : List Cond) (o : ℕ). sort precedes (each (condLines P) cs ++ (operations o ∷ qs))) (written-places P Z L B fit) (written-ops-words P B)
-      ∙ places-sorted (wordsOf P B) (keptPlaces P (wordsOf P B) (levelOf P B)) qs only-parts
+      ap (λ (l : ℕ). sort precedes (each (condLines P) (written P B .conds) ++ (operations (written P B .ops) ∷ level l ∷ qs))) (written-level P L B (fits-own B fit))
+      ∙ ap₂ (λ (cs : List Cond) (o : ℕ). sort precedes (each (condLines P) cs ++ (operations o ∷ level (levelOf P B) ∷ qs))) (written-places P Z L B fit) (written-ops-words P B)
+      ∙ places-sorted (wordsOf P B) (keptPlaces P (wordsOf P B) (levelOf P B)) (levelOf P B) qs only-parts

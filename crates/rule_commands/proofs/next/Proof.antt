@@ -55,14 +55,18 @@ returns-7 c = c .six-bytes .ensures ∙ by-byte (c .before .before) (some (1 ∷
 
 returns-8 : tie.Need-returns-8
 unfolding rawBy
-returns-8 c =
+returns-8 c = c .one-byte .ensures ∙ by-byte (c .before .before) (some (1 ∷ [])) (ap (ruleWidths 2) (c .before .match .keys7))
+
+returns-9 : tie.Need-returns-9
+unfolding rawBy
+returns-9 c =
     let other = c .match .rest in
-    let bare = other .0 .0 .0 .0 .0 .1 in
-    let pairs = other .0 .0 .0 .0 .1 in
-    let words = other .0 .0 .0 .1 in
+    let bare = other .0 .0 .0 .0 .0 .0 .1 in
+    let pairs = other .0 .0 .0 .0 .0 .1 in
+    let words = other .0 .0 .0 .0 .1 in
     by-byte (c .before) none
     (simp
-    (ne-eqb _ _ (λ e. bare (inl e)), ne-eqb _ _ (λ e. bare (inr e)), ne-eqb _ _ (λ e. pairs (inl e)), ne-eqb _ _ (λ e. pairs (inr (inl e))), ne-eqb _ _ (λ e. pairs (inr (inr e))), ne-eqb _ _ (λ e. words (inl e)), ne-eqb _ _ (λ e. words (inr e)), ne-eqb _ _ (other .0 .0 .1), ne-eqb _ _ (other .0 .1), ne-eqb _ _ (other .1)))
+    (ne-eqb _ _ (λ e. bare (inl e)), ne-eqb _ _ (λ e. bare (inr e)), ne-eqb _ _ (λ e. pairs (inl e)), ne-eqb _ _ (λ e. pairs (inr (inl e))), ne-eqb _ _ (λ e. pairs (inr (inr e))), ne-eqb _ _ (λ e. words (inl e)), ne-eqb _ _ (λ e. words (inr e)), ne-eqb _ _ (other .0 .0 .0 .1), ne-eqb _ _ (other .0 .0 .1), ne-eqb _ _ (other .0 .1), ne-eqb _ _ (other .1)))
 
 pub next-spec : {M : Type 1} → statement M
 next-spec =
@@ -75,10 +79,12 @@ next-spec =
     (λ c κs. search needs)
     (λ c κs. search needs)
     (λ c κs. search needs)
+    (λ c κs. search needs)
     returns-2
     returns-3
     returns-4
     returns-5
     returns-6
     returns-7
-    returns-8)
+    returns-8
+    returns-9)

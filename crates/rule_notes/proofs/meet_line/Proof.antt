@@ -19,23 +19,27 @@ returns c =
 
 returns-2 : tie.Need-returns-2
 unfolding metAfter
-returns-2 c = search needs
+returns-2 c = let a = c .before .before .args in ap (metAfter (a .sizes .users) (a .sizes .resources) (a .sizes .roles) (a .known .now) (a .values .now) (a .holders .now) (a .met .now)) (sym (c .enum-told .given .1))
 
 returns-3 : tie.Need-returns-3
 unfolding metAfter
-returns-3 c = search needs
+returns-3 c = let a = c .before .before .args in ap (metAfter (a .sizes .users) (a .sizes .resources) (a .sizes .roles) (a .known .now) (a .values .now) (a .holders .now) (a .met .now)) (sym (c .enum-told2 .given .1))
 
 returns-4 : tie.Need-returns-4
 unfolding metAfter
-returns-4 c = search needs
+returns-4 c = let a = c .before .before .args in ap (metAfter (a .sizes .users) (a .sizes .resources) (a .sizes .roles) (a .known .now) (a .values .now) (a .holders .now) (a .met .now)) (sym (c .enum-told3 .given .1))
 
 returns-5 : tie.Need-returns-5
 unfolding metAfter
-returns-5 c = search needs
+returns-5 c = let a = c .before .before .args in ap (metAfter (a .sizes .users) (a .sizes .resources) (a .sizes .roles) (a .known .now) (a .values .now) (a .holders .now) (a .met .now)) (sym (c .enum-told4 .given .1))
 
 returns-6 : tie.Need-returns-6
 unfolding metAfter
-returns-6 c = search needs
+returns-6 c = let a = c .before .before .args in ap (metAfter (a .sizes .users) (a .sizes .resources) (a .sizes .roles) (a .known .now) (a .values .now) (a .holders .now) (a .met .now)) (sym (c .enum-told5 .given .1))
+
+returns-7 : tie.Need-returns-7
+unfolding metAfter
+returns-7 c = let a = c .before .before .args in ap (metAfter (a .sizes .users) (a .sizes .resources) (a .sizes .roles) (a .known .now) (a .values .now) (a .holders .now) (a .met .now)) (sym (c .enum-told6 .given .1))
 
 pub meet-line-spec : {M : Type 1} → statement M
 meet-line-spec =
@@ -48,9 +52,11 @@ meet-line-spec =
     (λ c. search needs)
     (λ c. search needs)
     (λ c. search needs)
+    (λ c. search needs)
     returns
     returns-2
     returns-3
     returns-4
     returns-5
-    returns-6)
+    returns-6
+    returns-7)

@@ -41,6 +41,10 @@ returns-6 : tie.Need-returns-6
 unfolding notedWith
 returns-6 c = let a = c .before .before .args in ap (λ t. notedWith (a .k) t (a .b) (a .x) (a .y)) (sym (c .enum-told3 .given .1))
 
+returns-7 : tie.Need-returns-7
+unfolding notedWith
+returns-7 c = let a = c .before .before .args in ap (λ t. notedWith (a .k) t (a .b) (a .x) (a .y)) (sym (c .enum-told4 .given .1))
+
 pub note-spec : {M : Type 1} → statement M
 note-spec =
     tie.close
@@ -55,9 +59,11 @@ note-spec =
     (λ c. search needs)
     (λ c. search needs)
     (λ c. search needs)
+    (λ c. search needs)
     returns
     returns-2
     returns-3
     returns-4
     returns-5
-    returns-6)
+    returns-6
+    returns-7)

@@ -1,6 +1,6 @@
 use borrow.Author.Needs.{needs}
 use mathlib.Core.Path.{_∙_}
-use Rattle.rule_operands.specs.CheckedLaws.{at-opens, at-user-single, at-user-set, at-resource-single, at-resource-set, at-operations, at-link, at-part, at-rest}
+use Rattle.rule_operands.specs.CheckedLaws.{at-opens, at-user-single, at-user-set, at-resource-single, at-resource-set, at-operations, at-link, at-part, at-level, at-rest}
 use Rattle.rule_operands.proofs.check.Statement.{statement}
 use Rattle.rule_operands.proofs.check.Tie as tie
 use Rattle.rule_operands.proofs.check.Reads as reads
@@ -35,9 +35,12 @@ returns-8 : tie.Need-returns-8
 returns-8 c = c .check-part .ensures ∙ at-part _ _ _ _ _ _ _ _ _ _ _ (c .before .match .keys8)
 
 returns-9 : tie.Need-returns-9
-returns-9 c =
+returns-9 c = at-level _ _ _ _ _ _ _ _ _ _ _ (c .match .keys9)
+
+returns-10 : tie.Need-returns-10
+returns-10 c =
     let n = c .match .rest in
-    at-rest _ _ _ _ _ _ _ _ _ _ _ (n .0 .0 .0 .0 .0 .0 .0 .1) (n .0 .0 .0 .0 .0 .0 .1) (n .0 .0 .0 .0 .0 .1) (n .0 .0 .0 .0 .1) (n .0 .0 .0 .1) (n .0 .0 .1) (n .0 .1) (n .1)
+    at-rest _ _ _ _ _ _ _ _ _ _ _ (n .0 .0 .0 .0 .0 .0 .0 .0 .1) (n .0 .0 .0 .0 .0 .0 .0 .1) (n .0 .0 .0 .0 .0 .0 .1) (n .0 .0 .0 .0 .0 .1) (n .0 .0 .0 .0 .1) (n .0 .0 .0 .1) (n .0 .0 .1) (n .0 .1) (n .1)
 
 pub check-spec : {M : Type 1} → statement M
 check-spec =
@@ -58,4 +61,5 @@ check-spec =
     returns-6
     returns-7
     returns-8
-    returns-9)
+    returns-9
+    returns-10)

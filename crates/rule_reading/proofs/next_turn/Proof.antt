@@ -2,7 +2,7 @@
 use borrow.Author.Needs.{needs}
 use borrow.Author.Tests.{not-true, not-false}
 use denote.Ref.{now}
-use mathlib.Core.Path.{_≡_, sym, ap, _∙_}
+use mathlib.Core.Path.{_≡_, sym, ap₂, _∙_}
 use Rattle.rule_commands.specs.Raw.{rawOf}
 use Rattle.rule_reading.specs.TurnLaws.{turn-strange, turn-cut, turn-closing, turn-misplaced, turn-line}
 use Rattle.rule_reading.specs.Turns.{lineTurn}
@@ -30,12 +30,13 @@ returns-4 c = turn-cut _ _ _ _ _ _ _ _ (sym (c .before .before .next .ensures) �
 
 returns-5 : tie.Need-returns-5
 returns-5 c =
-    let k = c .before in
+    let v = c .before in
+    let k = v .before in
     let f = k .before .before in
     let e = f .before in
     let d = e .before .before .before in
     c .line-turn .ensures
-    ∙ ap (λ t. lineTurn t (d .b .given .0 .0) (d .b .given .0 .1 .0) (d .b .given .0 .1 .1 .0) (d .b .given .0 .1 .1 .1 .0)) (k .check .ensures)
+    ∙ ap₂ (λ t l. lineTurn t l (d .b .given .0 .0) (d .b .given .0 .1 .0) (d .b .given .0 .1 .1 .0) (d .b .given .0 .1 .1 .1 .0)) (k .check .ensures) (v .levelled .ensures)
     ∙ turn-line _ _ _ _ _ _ _ _ _ _ _ _ (front d) (sym (e .before .closes .ensures) ∙ e .if1 .left) (sym (f .follows .ensures) ∙ not-false _ (k .before .if2 .left))
 
 pub next-turn-spec : {M : Type 1} → statement M
@@ -51,6 +52,7 @@ next-turn-spec =
     returns
     (λ c κs. search needs)
     returns-2
+    (λ c κs. search needs)
     (λ c κs. search needs)
     (λ c κs. search needs)
     returns-3

@@ -31,15 +31,18 @@ returns-6 : tie.Need-returns-6
 returns-6 c = (of 0x20 (c .match .keys6), omega arith)
 
 returns-7 : tie.Need-returns-7
-returns-7 c =
+returns-7 c = (of 0x29 (c .match .keys7), omega arith)
+
+returns-8 : tie.Need-returns-8
+returns-8 c =
     let other = c .match .rest in
-    let bare = other .0 .0 .0 .0 .0 .1 in
-    let pairs = other .0 .0 .0 .0 .1 in
-    let words = other .0 .0 .0 .1 in (
+    let bare = other .0 .0 .0 .0 .0 .0 .1 in
+    let pairs = other .0 .0 .0 .0 .0 .1 in
+    let words = other .0 .0 .0 .0 .1 in (
       simp
-          (ne-eqb _ _ (λ e. bare (inl e)), ne-eqb _ _ (λ e. bare (inr e)), ne-eqb _ _ (λ e. pairs (inl e)), ne-eqb _ _ (λ e. pairs (inr (inl e))), ne-eqb _ _ (λ e. pairs (inr (inr e))), ne-eqb _ _ (λ e. words (inl e)), ne-eqb _ _ (λ e. words (inr e)), ne-eqb _ _ (other .0 .0 .1), ne-eqb _ _ (other .0 .1), ne-eqb _ _ (other .1)),
+          (ne-eqb _ _ (λ e. bare (inl e)), ne-eqb _ _ (λ e. bare (inr e)), ne-eqb _ _ (λ e. pairs (inl e)), ne-eqb _ _ (λ e. pairs (inr (inl e))), ne-eqb _ _ (λ e. pairs (inr (inr e))), ne-eqb _ _ (λ e. words (inl e)), ne-eqb _ _ (λ e. words (inr e)), ne-eqb _ _ (other .0 .0 .0 .1), ne-eqb _ _ (other .0 .0 .1), ne-eqb _ _ (other .0 .1), ne-eqb _ _ (other .1)),
       omega arith,
     )
 
 pub size-of-spec : {M : Type 1} → statement M
-size-of-spec = tie.close (tie.spec returns returns-2 returns-3 returns-4 returns-5 returns-6 returns-7)
+size-of-spec = tie.close (tie.spec returns returns-2 returns-3 returns-4 returns-5 returns-6 returns-7 returns-8)

@@ -18,23 +18,27 @@ returns c =
 
 returns-2 : tie.Need-returns-2
 unfolding listedAfter
-returns-2 c = search needs
+returns-2 c = let a = c .before .before .args in ap (listedAfter (a .holders .now) (a .permissions .now) (a .listed .now)) (sym (c .enum-told .given .1))
 
 returns-3 : tie.Need-returns-3
 unfolding listedAfter
-returns-3 c = search needs
+returns-3 c = let a = c .before .before .args in ap (listedAfter (a .holders .now) (a .permissions .now) (a .listed .now)) (sym (c .enum-told2 .given .1))
 
 returns-4 : tie.Need-returns-4
 unfolding listedAfter
-returns-4 c = search needs
+returns-4 c = let a = c .before .before .args in ap (listedAfter (a .holders .now) (a .permissions .now) (a .listed .now)) (sym (c .enum-told3 .given .1))
 
 returns-5 : tie.Need-returns-5
 unfolding listedAfter
-returns-5 c = search needs
+returns-5 c = let a = c .before .before .args in ap (listedAfter (a .holders .now) (a .permissions .now) (a .listed .now)) (sym (c .enum-told4 .given .1))
 
 returns-6 : tie.Need-returns-6
 unfolding listedAfter
-returns-6 c = search needs
+returns-6 c = let a = c .before .before .args in ap (listedAfter (a .holders .now) (a .permissions .now) (a .listed .now)) (sym (c .enum-told5 .given .1))
+
+returns-7 : tie.Need-returns-7
+unfolding listedAfter
+returns-7 c = let a = c .before .before .args in ap (listedAfter (a .holders .now) (a .permissions .now) (a .listed .now)) (sym (c .enum-told6 .given .1))
 
 pub join-part-spec : {M : Type 1} → statement M
 join-part-spec =
@@ -47,9 +51,11 @@ join-part-spec =
     (λ c. search needs)
     (λ c. search needs)
     (λ c. search needs)
+    (λ c. search needs)
     returns
     returns-2
     returns-3
     returns-4
     returns-5
-    returns-6)
+    returns-6
+    returns-7)

@@ -19,23 +19,27 @@ returns c =
 
 returns-2 : tie.Need-returns-2
 unfolding seenBy againBy
-returns-2 c = search needs
+returns-2 c = let a = c .before .before .args in (ap (seenBy (a .seen .now)) (sym (c .enum-told .given .1)), ap (againBy (a .seen .now) (a .again .now)) (sym (c .enum-told .given .1)))
 
 returns-3 : tie.Need-returns-3
 unfolding seenBy againBy
-returns-3 c = search needs
+returns-3 c = let a = c .before .before .args in (ap (seenBy (a .seen .now)) (sym (c .enum-told2 .given .1)), ap (againBy (a .seen .now) (a .again .now)) (sym (c .enum-told2 .given .1)))
 
 returns-4 : tie.Need-returns-4
 unfolding seenBy againBy
-returns-4 c = search needs
+returns-4 c = let a = c .before .before .args in (ap (seenBy (a .seen .now)) (sym (c .enum-told3 .given .1)), ap (againBy (a .seen .now) (a .again .now)) (sym (c .enum-told3 .given .1)))
 
 returns-5 : tie.Need-returns-5
 unfolding seenBy againBy
-returns-5 c = search needs
+returns-5 c = let a = c .before .before .args in (ap (seenBy (a .seen .now)) (sym (c .enum-told4 .given .1)), ap (againBy (a .seen .now) (a .again .now)) (sym (c .enum-told4 .given .1)))
 
 returns-6 : tie.Need-returns-6
 unfolding seenBy againBy
-returns-6 c = search needs
+returns-6 c = let a = c .before .before .args in (ap (seenBy (a .seen .now)) (sym (c .enum-told5 .given .1)), ap (againBy (a .seen .now) (a .again .now)) (sym (c .enum-told5 .given .1)))
+
+returns-7 : tie.Need-returns-7
+unfolding seenBy againBy
+returns-7 c = let a = c .before .before .args in (ap (seenBy (a .seen .now)) (sym (c .enum-told6 .given .1)), ap (againBy (a .seen .now) (a .again .now)) (sym (c .enum-told6 .given .1)))
 
 pub list-part-spec : {M : Type 1} → statement M
 list-part-spec =
@@ -48,9 +52,11 @@ list-part-spec =
     (λ c. search needs)
     (λ c. search needs)
     (λ c. search needs)
+    (λ c. search needs)
     returns
     returns-2
     returns-3
     returns-4
     returns-5
-    returns-6)
+    returns-6
+    returns-7)

@@ -7,7 +7,7 @@ use mathlib.Core.List.{List, [], _∷_, _++_}
 use mathlib.Core.Path.{_≡_}
 use native.Mathlib.Omega.{arith}
 use Rattle.write_lines.specs.WritingLaws.{backIn, Writing, room-for, place-within, all-written}
-use Rattle.write_theory.specs.RuleTable.{conjunctBytesIn, operationBytesIn, atomBytesIn, partBytesIn, ruleBytesIn}
+use Rattle.write_theory.specs.RuleTable.{conjunctBytesIn, operationBytesIn, atomBytesIn, partBytesIn, levelBytesIn, ruleBytesIn}
 use Rattle.write_theory.specs.SectionLaws.{rule-sections, opening-room, opened, section-on, at-within}
 use Rattle.write_rule.proofs.write_rule.Statement.{statement}
 use Rattle.write_rule.proofs.write_rule.Tie as tie
@@ -29,8 +29,14 @@ atoms s = atomBytesIn (s .args .rule .kept)
 abbrev parts : tie.Start → List ℕ
 parts s = let a = s .args in partBytesIn (a .permissions .now) (a .operations) (a .scratch .now) (a .rule .head)
 
+abbrev levels : tie.Start → List ℕ
+levels s = let a = s .args in levelBytesIn (a .scratch .now) (a .rule .head)
+
+abbrev behind-parts : tie.Start → List ℕ
+behind-parts s = levels s ++ []
+
 abbrev behind-atoms : tie.Start → List ℕ
-behind-atoms s = parts s ++ []
+behind-atoms s = parts s ++ behind-parts s
 
 abbrev behind-operations : tie.Start → List ℕ
 behind-operations s = atoms s ++ behind-atoms s
@@ -58,6 +64,9 @@ start5 c = start4 (c .before .before .before .before)
 abbrev start6 : tie.After-slice-known6 → tie.Start
 start6 c = start5 (c .before .before .before .before)
 
+abbrev start7 : tie.After-slice-known7 → tie.Start
+start7 c = start6 (c .before .before .before .before)
+
 abbrev at3 : tie.After-slice-known3 → ℕ
 at3 c = 1 + c .before .before .put-conjuncts .result
 
@@ -69,6 +78,9 @@ at5 c = at4 (c .before .before .before .before) + c .before .before .put-atoms .
 
 abbrev at6 : tie.After-slice-known6 → ℕ
 at6 c = at5 (c .before .before .before .before) + c .before .before .put-parts .result
+
+abbrev at7 : tie.After-slice-known7 → ℕ
+at7 c = at6 (c .before .before .before .before) + c .before .before .put-level .result
 
 abbrev out2 : tie.After-slice-known2 → List ℕ
 out2 c = c .before .before .put-one .last .0
@@ -84,6 +96,9 @@ out5 c = let b = c .before .before .before .before in backIn (out4 b) (at4 b) (c
 
 abbrev out6 : tie.After-slice-known6 → List ℕ
 out6 c = let b = c .before .before .before .before in backIn (out5 b) (at5 b) (c .before .before .put-parts .last .1 .1 .1 .1 .0)
+
+abbrev out7 : tie.After-slice-known7 → List ℕ
+out7 c = let b = c .before .before .before .before in backIn (out6 b) (at6 b) (c .before .before .put-level .last .1 .1 .0)
 
 -- ---- what is written
 
@@ -108,11 +123,17 @@ written5 c =
     let s = start4 b in
     section-on (whole s) (now (s .args .out)) (out4 b) (behind-atoms s) (atoms s) (at4 b) _ _ (written4 b) (c .before .before .put-atoms .ensures)
 
-written6 : (c : tie.After-slice-known6) → Writing (whole (start6 c)) (now (start6 c .args .out)) (out6 c) (at6 c) []
+written6 : (c : tie.After-slice-known6) → Writing (whole (start6 c)) (now (start6 c .args .out)) (out6 c) (at6 c) (behind-parts (start6 c))
 written6 c =
     let b = c .before .before .before .before in
     let s = start5 b in
-    section-on (whole s) (now (s .args .out)) (out5 b) [] (parts s) (at5 b) _ _ (written5 b) (c .before .before .put-parts .ensures)
+    section-on (whole s) (now (s .args .out)) (out5 b) (behind-parts s) (parts s) (at5 b) _ _ (written5 b) (c .before .before .put-parts .ensures)
+
+written7 : (c : tie.After-slice-known7) → Writing (whole (start7 c)) (now (start7 c .args .out)) (out7 c) (at7 c) []
+written7 c =
+    let b = c .before .before .before .before in
+    let s = start6 b in
+    section-on (whole s) (now (s .args .out)) (out6 b) [] (levels s) (at6 b) _ _ (written6 b) (c .before .before .put-level .ensures)
 
 -- ---- what is asked
 
@@ -177,21 +198,38 @@ put-parts-requires : tie.Need-put-parts-requires
 put-parts-requires c κs =
     let b = c .before in
     let s = start5 b in
-    (s .pre .0, room-for _ _ (out5 b) [] (parts s) (at5 b) (written5 b))
+    (s .pre .0, room-for _ _ (out5 b) (behind-parts s) (parts s) (at5 b) (written5 b))
 
 add-at-4 : tie.Need-add-at-4
 add-at-4 c =
     let b = c .before .before .before .before in
     let s = start5 b in
-    let w = place-within _ _ (out5 b) [] (parts s) (at5 b) (written5 b) in
+    let w = place-within _ _ (out5 b) (behind-parts s) (parts s) (at5 b) (written5 b) in
     let e = c .before .before .put-parts .ensures .0 in
     omega (arith, w, e, s .good)
 
+sub-put-level : tie.Need-sub-put-level
+sub-put-level c = at-within _ _ _ _ _ (written6 c)
+
+put-level-requires : tie.Need-put-level-requires
+put-level-requires c κs =
+    let b = c .before in
+    let s = start6 b in
+    (s .pre .0 .1, s .pre .0 .2, room-for _ _ (out6 b) [] (levels s) (at6 b) (written6 b))
+
+add-at-5 : tie.Need-add-at-5
+add-at-5 c =
+    let b = c .before .before .before .before in
+    let s = start6 b in
+    let w = place-within _ _ (out6 b) [] (levels s) (at6 b) (written6 b) in
+    let e = c .before .before .put-level .ensures .0 in
+    omega (arith, w, e, s .good)
+
 same-length : tie.Need-same-length
-same-length c = written6 c .long
+same-length c = written7 c .long
 
 returns : tie.Need-returns
-returns c = let s = start6 c in all-written (whole s) (now (s .args .out)) (out6 c) (at6 c) (written6 c)
+returns c = let s = start7 c in all-written (whole s) (now (s .args .out)) (out7 c) (at7 c) (written7 c)
 
 pub write-rule-spec : {M : Type 1} → statement M
 write-rule-spec =
@@ -218,5 +256,10 @@ write-rule-spec =
     (λ c. search needs)
     put-parts-requires
     add-at-4
+    sub-put-level
+    sub-put-level
+    (λ c. search needs)
+    put-level-requires
+    add-at-5
     same-length
     returns)

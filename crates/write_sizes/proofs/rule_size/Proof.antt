@@ -43,7 +43,7 @@ cast-t21 c =
 
 -- the whole fits, and with it each part of it
 low : (parts : tie.After-count-parts)
-    → 4 + parts .before .before .before .before .before .before .side-size .result .bytes + parts .before .before .before .before .before .side-size2 .result .bytes + 3 * parts .before .count2 .result + 4 * parts .count-parts .result ≤ 12288
+    → 6 + parts .before .before .before .before .before .before .side-size .result .bytes + parts .before .before .before .before .before .side-size2 .result .bytes + 3 * parts .before .count2 .result + 4 * parts .count-parts .result ≤ 12288
 low parts =
     let atoms = parts .before in
     let resources = atoms .before .before .before .before in

@@ -1,9 +1,9 @@
 -- Four cases. Assumes nothing.
 use mathlib.Core.Path.{sym, ap₂}
 use Rattle.rule_levels.specs.Levels.{levelFor}
 use Rattle.sets.specs.Lowest.{lowest}
-use Rattle.rule_headings.proofs.level.Statement.{statement}
-use Rattle.rule_headings.proofs.level.Tie as tie
+use Rattle.rule_levels.proofs.level.Statement.{statement}
+use Rattle.rule_levels.proofs.level.Tie as tie
 
 returns : tie.Need-returns
 unfolding levelFor lowest
