@@ -1,7 +1,7 @@
 /*
  * Fichtengarn for C: reading role files, mining them into attribute rules, judging, asking and
- * showing rule files, making role files from a seed, and a standing summary of what the roles grant.
- * "01" below is the paper that settles what is right.
+ * showing rule files, counting denials in usage logs, making role files from a seed, and a standing
+ * summary of what the roles grant. "01" below is the paper that settles what is right.
  *
  *     rt staticlib fichtengarn          proves the library and writes target/staticlib/libfichtengarn.a
  *     cc -Iinclude program.c target/staticlib/libfichtengarn.a
@@ -18,7 +18,7 @@
  *   - A refusal gives only its number: after a refusal lent memory holds its former bytes, save the
  *     byte that carries the answer's number of the call that shows one rule. Scratch alone is free.
  *   - It writes to the memory that it is lent without 'const', as said at each call, and to its
- *     own stack. Files and rules are only read.
+ *     own stack. Files, rules and logs are only read.
  *   - It has no heap, no files and no state between calls: the same input has the same answer, and
  *     calls may run at the same time as long as they are lent different memory to write to.
  *
@@ -76,9 +76,9 @@ enum {
     FICHTENGARN_UNKNOWN_COMMAND = 3, /* a byte that is no command */
     FICHTENGARN_OUT_OF_PLACE = 4,    /* a command where it may not stand, or a byte after the end */
     FICHTENGARN_BEYOND = 5,          /* an operand beyond its limit or declared size, a seventh
-                                        attribute; a question's or an edit's number beyond the
-                                        sizes; or sizes of a record, or of a file to be made,
-                                        beyond the limits */
+                                        attribute; a number of a question, of an edit or of a
+                                        log's record beyond the sizes; or sizes of a record, or
+                                        of a file to be made, beyond the limits */
     FICHTENGARN_WRONG_KIND = 6,      /* a value of the wrong kind, or one given twice */
     FICHTENGARN_OWN_SENIOR = 7,      /* a role is its own senior */
 
@@ -108,8 +108,12 @@ enum {
     FICHTENGARN_WRONG_TABLE = 17, /* it has other than FICHTENGARN_TABLE_WORDS */
 
     /* of a rule */
-    FICHTENGARN_WRONG_LEVEL = 18 /* the operand of its 29 is not the lowest level that allows its
-                                    conjuncts */
+    FICHTENGARN_WRONG_LEVEL = 18, /* the operand of its 29 is not the lowest level that allows its
+                                     conjuncts */
+
+    /* of a usage log */
+    FICHTENGARN_WRONG_WINDOW = 19, /* a window of no records, or of more than FICHTENGARN_MOST_WINDOW */
+    FICHTENGARN_RAGGED_LOG = 20    /* its length is not divisible by three */
 };
 
 /* Sizes of lent memory, and limits of a role file. Output is as long as the caller likes. */
@@ -118,7 +122,8 @@ enum {
     FICHTENGARN_MOST_ROLES = 32,         /* of a role file, and so of a circle */
     FICHTENGARN_SCRATCH_WORDS = 4096,    /* of 64 bits: 32,768 bytes */
     FICHTENGARN_TABLE_WORDS = 1024,      /* of 64 bits, of the standing summary: 8,192 bytes */
-    FICHTENGARN_USER_WORDS = 16          /* of these, those of one user: one for each operation */
+    FICHTENGARN_USER_WORDS = 16,         /* of these, those of one user: one for each operation */
+    FICHTENGARN_MOST_WINDOW = 64         /* records of a usage log in a window */
 };
 
 /*
@@ -209,6 +214,29 @@ fichtengarn_part fichtengarn_show(const uint8_t *file, size_t file_length,
 size_t fichtengarn_circle(const uint8_t *file, size_t file_length,
                           uint8_t *roles, size_t roles_length,
                           size_t *count);
+
+/* The numbers that the count of denials stores. */
+enum {
+    FICHTENGARN_MOST = 0, /* the most records of a window that are denied */
+    FICHTENGARN_START = 1 /* the number, from 0, of the first record of the earliest such window */
+};
+
+/*
+ * Denials: how many records of a usage log do the rules deny, at most, in any so many neighbouring
+ * ones? A record has three bytes, user, resource and operation, and is denied if no rule grants it. A
+ * log may be of any length. One that is shorter than the window is one window; an empty one has 0
+ * denials from record 0 on.
+ *
+ * Returns 0 and both numbers; or 1 to 7; then 10 to 13, 16 or 18; then 19 if the window is not 1 to
+ * FICHTENGARN_MOST_WINDOW; then 20 if the log's length is not divisible by three; then 5 if a record,
+ * any, is beyond the sizes of the role file. Writes the two numbers and nothing else. Beside its own
+ * role file a mined rule file has the numbers that the roles have. Stack: 140 KB.
+ */
+size_t fichtengarn_denials(const uint8_t *file, size_t file_length,
+                           const uint8_t *rules, size_t rules_length,
+                           const uint8_t *log, size_t log_length,
+                           size_t window,
+                           size_t denials[2]);
 
 /*
  * The load: a role file made from a seed and four sizes, the same on every machine.

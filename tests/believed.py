@@ -32,6 +32,7 @@ CALLS = [
     ("load_file", "generate"),
     ("right_edits", "fill"),
     ("right_edits", "edit"),
+    ("log_denials", "denials"),
     ("mining", "mine"),
     ("mining", "rule_bytes"),
     ("fichtengarn", None),

@@ -5,8 +5,9 @@
 
 SECOND-MINER is the command of an independent implementation of the paper 01. Writes samples/NAME.rules for every
 samples/NAME.roles, and the copy beside a program of every sample that it is run on (crates/*/data); bench/judge/mined.xz, the
-mined rules of the judge's benchmark; and what its program is run on beside the proofs, example A to be judged a hundred times
-(crates/bench_judge/stdin).
+mined rules of the judge's benchmark; and what its program and that of denials are run on beside the proofs, example A to be
+judged, and the denials in a log of six records beside it to be counted, a hundred times (crates/bench_judge/stdin,
+crates/bench_denials/stdin).
 """
 import lzma
 import os
@@ -21,6 +22,10 @@ sys.path[1:1] = [SAMPLES, os.path.join(ROOT, "bench"), os.path.join(ROOT, "bench
 import make
 import pairs
 from secondminer import told
+
+
+# Records of a usage log beside example A, the first, third, fourth and last denied.
+SIX_RECORDS = bytes.fromhex("00 01 00 00 00 00 01 00 00 00 01 00 01 01 00 00 01 00")
 
 
 def read(path):
@@ -42,6 +47,15 @@ def mined(second_miner, role_file):
         return read(f"{name}.rules")
 
 
+def low_first(number):
+    """Two bytes."""
+    return number.to_bytes(2, "little")
+
+
+def given_to(program):
+    return os.path.join(ROOT, "crates", program, "stdin")
+
+
 def main():
     if len(sys.argv) != 2:
         sys.exit(__doc__)
@@ -54,8 +68,10 @@ def main():
         write(copy, read(sample))
     packed = lzma.compress(mined(second_miner, pairs.departments()), preset=9 | lzma.PRESET_EXTREME)
     write(os.path.join(ROOT, "bench", "judge", "mined.xz"), packed)
-    small = pairs.given(pairs.SMALL_ROLES, mined(second_miner, pairs.SMALL_ROLES))
-    write(os.path.join(ROOT, "crates", "bench_judge", "stdin"), (100).to_bytes(2, "little") + small)
+    rules = mined(second_miner, pairs.SMALL_ROLES)
+    write(given_to("bench_judge"), low_first(100) + pairs.given(pairs.SMALL_ROLES, rules))
+    lengths = low_first(len(pairs.SMALL_ROLES)) + low_first(len(rules))
+    write(given_to("bench_denials"), low_first(100) + lengths + bytes([2]) + pairs.SMALL_ROLES + rules + SIX_RECORDS)
 
 
 if __name__ == "__main__":

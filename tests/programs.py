@@ -1,5 +1,5 @@
 #!/usr/bin/env python3
-"""Use the programs mine, judge, ask, explain, show, circle, load and rights, rightly and wrongly, and compare all that they print and write.
+"""Use the programs mine, judge, ask, explain, show, circle, load, rights and denials, rightly and wrongly, and compare all that they print and write.
 
     tests/programs.py [FOLDER]      FOLDER has the programs; target/bin if left out
 
@@ -41,7 +41,7 @@ from rolefiles import (
 
 HERE = os.path.dirname(os.path.abspath(__file__))
 SAMPLES = os.path.join(os.path.dirname(HERE), "samples")
-PROGRAMS = ["mine", "judge", "ask", "explain", "show", "circle", "load", "rights"]
+PROGRAMS = ["mine", "judge", "ask", "explain", "show", "circle", "load", "rights", "denials"]
 
 # Where the tests run as root, who may write everything, the programs run as somebody who may not.
 NOBODY_ID = 65534
@@ -83,6 +83,8 @@ MEANING = {
     15: "the seed is 0",
     16: "the rule file was made for other sizes or numbers of attributes than the role file's",
     18: "a rule of the rule file tells another level than the lowest that allows its conjuncts",
+    19: "the window has no records or more than 64",
+    20: "the length of the log is not divisible by three",
 }
 
 # Role files that reading refuses, by the number.
@@ -106,9 +108,13 @@ REFUSED_RULES = {
     18: A_RULES.replace(bytes.fromhex("29 00"), bytes.fromhex("29 01")),
 }
 
-# The longest rule file that judge, ask, explain and show can hold, and one that is longer; both are refused by 12.
+# The longest rule file that the programs can hold, and one that is longer; both are refused by 12.
 HELD_RULES = opening(EXAMPLE_A) + b"\x2f" * (262143 - len(opening(EXAMPLE_A)))
 LONG_RULES = HELD_RULES + b"\x2f"
+
+# Two records of a usage log beside example A, and a log that denials cannot hold.
+GRANTED, DENIED = bytes([0, 0, 0]), bytes([0, 1, 0])
+LONG_LOG = GRANTED * 1048576
 
 
 def resources_of(part, parts, resources):
@@ -412,14 +418,15 @@ def mine_small():
     yield mine(longest_rules(), limits=limits, out="refused 9\n", err=lengthy("1766408 bytes"))
 
 
-# ---- what judge, ask, explain and show have in common
+# ---- what judge, ask, explain, show and denials have in common
 
 
-def file_refusals(program, *arguments):
-    """Refusals of both files, for a program that takes them and then these arguments."""
+def file_refusals(program, *arguments, beside=()):
+    """Refusals of both files, for a program that takes them and then these arguments, with these files beside them."""
 
     def use(roles, rules, **other):
-        return Use(program, "roles", "rules", *arguments, files={"roles": roles, "rules": rules}, **other)
+        files = {"roles": roles, "rules": rules, **dict(beside)}
+        return Use(program, "roles", "rules", *arguments, files=files, **other)
 
     for n, roles in REFUSED_ROLES.items():
         yield use(roles, A_RULES, out=refused(n))
@@ -441,7 +448,7 @@ def file_refusals(program, *arguments):
 
 def file_errors(program, *arguments, names=("roles", "rules")):
     """Files that cannot be read, each in the place of each of these."""
-    usual = {"roles": EXAMPLE_A, "rules": A_RULES}
+    usual = {"roles": EXAMPLE_A, "rules": A_RULES, "log": DENIED}
     files = {name: usual[name] for name in names}
     for place in range(len(names)):
 
@@ -459,10 +466,10 @@ def file_errors(program, *arguments, names=("roles", "rules")):
         yield use("n" * 5000, "n" * 40 + ": File name too long")
 
 
-def not_printed(program, *arguments):
+def not_printed(program, *arguments, beside=()):
     err = f"{program}: cannot print the answer: No space left on device\n"
     for file in [EXAMPLE_A, END]:
-        files = {"roles": file, "rules": A_RULES}
+        files = {"roles": file, "rules": A_RULES, **dict(beside)}
         yield Use(program, "roles", "rules", *arguments, files=files, output=os.open("/dev/full", os.O_WRONLY), err=err)
 
 
@@ -815,6 +822,73 @@ def rights_wrongly():
         yield keeping(roles, *edits, output=os.open("/dev/full", os.O_WRONLY), err=err)
 
 
+# ---- denials
+
+
+def denying(roles, rules, log, window, **other):
+    return Use("denials", "roles", "rules", "log", window, files={"roles": roles, "rules": rules, "log": log}, **other)
+
+
+def denied():
+    """The most denials in a window, and the lowest record from which so many are."""
+    log = DENIED + GRANTED + DENIED + DENIED + GRANTED + DENIED
+    for window, most, start in [(1, 1, 0), (2, 2, 2), (3, 2, 0), (4, 3, 0), (5, 3, 0), (6, 4, 0), (7, 4, 0), (64, 4, 0)]:
+        yield denying(EXAMPLE_A, A_RULES, log, str(window), out=f"most {most} start {start}\n")
+    yield denying(EXAMPLE_A, A_RULES, log, "0002", out="most 2 start 2\n")
+    yield denying(EXAMPLE_A, A_RULES, GRANTED * 3, "2", out="most 0 start 0\n")
+    yield denying(EXAMPLE_A, A_RULES, b"", "64", out="most 0 start 0\n")
+    # the last window, and one that holds the whole log
+    yield denying(EXAMPLE_A, A_RULES, GRANTED * 70 + DENIED * 64, "64", out="most 64 start 70\n")
+    yield denying(EXAMPLE_A, A_RULES, DENIED * 64, "64", out="most 64 start 0\n")
+    # a window that only the record behind it makes as bad as the first
+    yield denying(EXAMPLE_A, A_RULES, DENIED * 2 + GRANTED * 2 + DENIED * 2, "3", out="most 2 start 0\n")
+    # a million records, and as many as there is room for
+    yield denying(EXAMPLE_A, A_RULES, GRANTED * 999936 + DENIED * 64, "64", out="most 64 start 999936\n")
+    yield denying(EXAMPLE_A, A_RULES, GRANTED * 1048574 + DENIED, "1", out="most 1 start 1048574\n")
+    # by the rules, which need not be those of the roles
+    yield denying(EXAMPLE_A, rules_beside(EXAMPLE_A, NO_RULES), GRANTED * 3, "2", out="most 2 start 0\n")
+    # user, resource, operation: the last right of the provider, and what its rules let nobody else do
+    provider = sample("provider.roles"), sample("provider.rules")
+    yield denying(*provider, bytes([7, 5, 1]), "1", out="most 0 start 0\n")
+    yield denying(*provider, bytes([7, 5, 1, 6, 5, 1]), "1", out="most 1 start 1\n")
+
+
+def denial_refusals():
+    yield from file_refusals("denials", "log", "1", beside={"log": DENIED})
+    # a window comes behind the files' own refusals, the largest too, and before the log
+    for window in ["0", "65", "99", "1000000", "18446744073709551616", "9" * 4096]:
+        for log in [DENIED, b"", bytes(2), bytes([255, 255, 255]), LONG_LOG]:
+            yield denying(EXAMPLE_A, A_RULES, log, window, out=refused(19))
+        for n, roles in REFUSED_ROLES.items():
+            yield denying(roles, A_RULES, DENIED, window, out=refused(n))
+        for n, rules in REFUSED_RULES.items():
+            yield denying(EXAMPLE_A, rules, bytes(2), window, out=refused(n))
+    # the log's length comes before its records
+    for log in [bytes(1), bytes(2), bytes(4), bytes([255] * 5), LONG_LOG[:-1], LONG_LOG[:-2]]:
+        yield denying(EXAMPLE_A, A_RULES, log, "1", out=refused(20))
+    for record in [bytes([2, 0, 0]), bytes([0, 2, 0]), bytes([0, 0, 1]), bytes([255, 255, 255])]:
+        for log in [record, record + DENIED, DENIED + record, DENIED * 100 + record]:
+            yield denying(EXAMPLE_A, A_RULES, log, "2", out=refused(5))
+    yield denying(NOBODY, rules_beside(NOBODY, NO_RULES), DENIED, "1", out=refused(5))
+    # a log that cannot be held: refused as it would be before it is looked at, else there is no answer
+    too_long = "denials: log: the log is longer than this program can hold, 3,145,727 bytes\n"
+    for log in [LONG_LOG, LONG_LOG + bytes(1)]:
+        yield denying(EXAMPLE_A, A_RULES, log, "1", err=too_long)
+    for n, roles in REFUSED_ROLES.items():
+        yield denying(roles, A_RULES, LONG_LOG, "1", out=refused(n))
+    for n, rules in REFUSED_RULES.items():
+        yield denying(EXAMPLE_A, rules, LONG_LOG, "1", out=refused(n))
+
+
+def denials_wrongly():
+    usage = "usage: denials ROLES RULES LOG WINDOW, the last a number from 1 to 64\n"
+    files = {"roles": EXAMPLE_A, "rules": A_RULES, "log": DENIED}
+    for arguments in [[], ["--help"], ["roles"], ["roles", "rules"], ["roles", "rules", "log"], ["roles", "rules", "log", "1", "1"]]:
+        yield Use("denials", *arguments, files=files, err=usage)
+    for text in WRONG_NUMBERS:
+        yield denying(EXAMPLE_A, A_RULES, DENIED, text, err=no_number("denials", text, "WINDOW") + usage)
+
+
 def uses():
     yield from mined()
     yield from mine_refusals()
@@ -852,6 +926,11 @@ def uses():
     yield from file_errors("rights", names=("roles",))
     yield from file_errors("rights", "+0,0", names=("roles",))
     yield from rights_wrongly()
+    yield from denied()
+    yield from denial_refusals()
+    yield from file_errors("denials", "1", names=("roles", "rules", "log"))
+    yield from not_printed("denials", "log", "1", beside={"log": DENIED})
+    yield from denials_wrongly()
 
 
 # ---- running

@@ -134,12 +134,17 @@ def given(role_file, rule_file):
     return len(role_file).to_bytes(2, "little") + role_file + rule_file
 
 
+def mined_departments():
+    """The role file of departments, and what it is mined to."""
+    with lzma.open(os.path.join(HERE, "mined.xz")) as rules:
+        return departments(), rules.read()
+
+
 def files():
     """Each role file and the rule file beside it, with the pair's name."""
     made = load(WITH_RULES)
     yield f"load {WITH_RULES}, mined", made, mined(made)
-    with lzma.open(os.path.join(HERE, "mined.xz")) as rules:
-        yield "mined rules", departments(), rules.read()
+    yield "mined rules", *mined_departments()
     everybody = for_everybody()
     yield "many rules", everybody, many_rules()
     yield "many values", everybody, many_values()

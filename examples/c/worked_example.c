@@ -1,8 +1,8 @@
 /*
  * A worked example of include/fichtengarn.h: reads a role file, mines it, reads the rules back,
- * judges them, shows one, asks a question of both, reads the rules beside a file that they were not
- * made for, shows the circle of a file that has one, keeps a summary of rights through edits, makes a
- * role file from a seed and mines it, and prints the answers.
+ * judges them, shows one, asks a question of both, counts denials in a usage log, reads the rules
+ * beside a file that they were not made for, shows the circle of a file that has one, keeps a summary
+ * of rights through edits, makes a role file from a seed and mines it, and prints the answers.
  *
  *     worked_example FILE
  *
@@ -26,6 +26,9 @@ static const uint8_t nobody[] = {0x01, 0, 0, 0, 0, 0x0F};
 
 /* Four roles, 1 the junior of 3 and 3 of 1. */
 static const uint8_t circular[] = {0x01, 0, 0, 0, 4, 0x07, 1, 3, 0x07, 3, 1, 0x0F};
+
+/* Three records of a usage log: user, resource, operation. */
+static const uint8_t usage[] = {0, 0, 0, 0, 1, 0, 1, 0, 0};
 
 /* 01's weights; and an atom that costs as much as a hundred values, an operation as much as seven. */
 static const fichtengarn_weights ones = {1, 1, 1, 1};
@@ -129,6 +132,15 @@ static void keep(size_t file_length)
     print_rights(0, 0);
 }
 
+/* Counts the denials in a log, in windows of so many records. */
+static void denials(size_t file_length, size_t rules_length, const uint8_t *log, size_t log_length, size_t window)
+{
+    size_t denied[2];
+
+    if (told("denials", fichtengarn_denials(file, file_length, rules, rules_length, log, log_length, window, denied)))
+        printf("most %zu start %zu\n", denied[FICHTENGARN_MOST], denied[FICHTENGARN_START]);
+}
+
 /* Mines with the memory set aside for it. */
 static size_t mine(size_t file_length, fichtengarn_weights weights, uint64_t counts[5])
 {
@@ -174,6 +186,8 @@ static void work(size_t file_length)
     ask(file_length, rules_length, 0, 0, 0);
     ask(file_length, rules_length, 0, 1, 0);
     ask(file_length, rules_length, 0, 0, 1);
+    denials(file_length, rules_length, usage, sizeof usage, 2);
+    denials(file_length, rules_length, usage, sizeof usage - 1, 2);
     told("read rules elsewhere", fichtengarn_read_rules(nobody, sizeof nobody, rules, rules_length, &count));
     circle(circular, sizeof circular);
     keep(file_length);

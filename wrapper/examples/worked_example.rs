@@ -1,7 +1,8 @@
 //! A worked example of the wrapper, and the same as `examples/c/worked_example.c`: reads a role
-//! file, mines it, reads the rules back, judges them, shows one, asks a question of both, reads the
-//! rules beside a file that they were not made for, shows the circle of a file that has one, keeps a
-//! summary of rights through edits, makes a role file from a seed and mines it, and prints the answers.
+//! file, mines it, reads the rules back, judges them, shows one, asks a question of both, counts
+//! denials in a usage log, reads the rules beside a file that they were not made for, shows the circle
+//! of a file that has one, keeps a summary of rights through edits, makes a role file from a seed and
+//! mines it, and prints the answers.
 //!
 //!     cargo run --example worked_example FILE
 
@@ -15,6 +16,9 @@ const NOBODY: [u8; 6] = [0x01, 0, 0, 0, 0, 0x0F];
 
 /// Four roles, 1 the junior of 3 and 3 of 1.
 const CIRCULAR: [u8; 12] = [0x01, 0, 0, 0, 4, 0x07, 1, 3, 0x07, 3, 1, 0x0F];
+
+/// Three records of a usage log: user, resource, operation.
+const USAGE: [u8; 9] = [0, 0, 0, 0, 1, 0, 1, 0, 0];
 
 /// Prints what a call came to; passes on what it answered.
 fn told<T>(call: &str, answer: Result<T, Refusal>) -> Option<T> {
@@ -110,6 +114,13 @@ fn keep(file: &[u8]) -> Option<()> {
     Some(())
 }
 
+/// Counts the denials in a log, in windows of so many records.
+fn denials(file: &[u8], rules: &[u8], log: &[u8], window: usize) {
+    if let Some(denied) = told("denials", fichtengarn::denials(file, rules, log, window)) {
+        println!("most {} start {}", denied.most, denied.start);
+    }
+}
+
 /// Goes on with what each call answers; ends where one is refused.
 fn work(file: &[u8]) -> Option<()> {
     let mut scratch = [0; fichtengarn::SCRATCH_WORDS];
@@ -131,6 +142,8 @@ fn work(file: &[u8]) -> Option<()> {
     ask(file, rules, Triple { user: 0, resource: 0, operation: 0 });
     ask(file, rules, Triple { user: 0, resource: 1, operation: 0 });
     ask(file, rules, Triple { user: 0, resource: 0, operation: 1 });
+    denials(file, rules, &USAGE, 2);
+    denials(file, rules, &USAGE[..8], 2);
     told("read rules elsewhere", fichtengarn::read_rules(&NOBODY, rules));
     circle(&CIRCULAR);
     keep(file)?;

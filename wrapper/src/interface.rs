@@ -122,6 +122,17 @@ unsafe extern "C" {
         length: *mut [usize; 1],
     ) -> usize;
 
+    pub fn fichtengarn_denials(
+        file: *const u8,
+        file_length: usize,
+        rules: *const u8,
+        rules_length: usize,
+        log: *const u8,
+        log_length: usize,
+        window: usize,
+        denials: *mut [usize; 2],
+    ) -> usize;
+
     pub fn fichtengarn_mine(
         file: *const u8,
         file_length: usize,

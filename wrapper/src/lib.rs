@@ -30,6 +30,9 @@ pub const USER_WORDS: usize = 16;
 /// The most roles that a role file may have.
 pub const MOST_ROLES: usize = 32;
 
+/// The most records of a usage log that a window may have.
+pub const MOST_WINDOW: usize = 64;
+
 impl Weights {
     /// 01's weights: every value, element, operation and atom counts once.
     pub const ONES: Weights = Weights { users: 1, resources: 1, operations: 1, atoms: 1 };
@@ -46,8 +49,9 @@ pub enum Refusal {
     UnknownCommand = 3,
     /// A command where it may not stand, or a byte after the end.
     OutOfPlace = 4,
-    /// An operand beyond its limit or declared size, a seventh attribute, a question's or an edit's
-    /// number beyond the sizes, or sizes of a record, or of a role file to be made, beyond the limits.
+    /// An operand beyond its limit or declared size, a seventh attribute, a number of a question, of an
+    /// edit or of a log's record beyond the sizes, or sizes of a record, or of a role file to be made,
+    /// beyond the limits.
     Beyond = 5,
     /// A value of the wrong kind, or one given twice.
     WrongKind = 6,
@@ -77,10 +81,14 @@ pub enum Refusal {
     WrongTable = 17,
     /// A rule tells another level than the lowest that allows its conjuncts.
     WrongLevel = 18,
+    /// A window of no records, or of more than `MOST_WINDOW`.
+    WrongWindow = 19,
+    /// A usage log whose length is not divisible by three.
+    RaggedLog = 20,
 }
 
 impl Refusal {
-    const ALL: [Refusal; 18] = [
+    const ALL: [Refusal; 20] = [
         Refusal::TooLong,
         Refusal::CutOff,
         Refusal::UnknownCommand,
@@ -99,6 +107,8 @@ impl Refusal {
         Refusal::WrongShape,
         Refusal::WrongTable,
         Refusal::WrongLevel,
+        Refusal::WrongWindow,
+        Refusal::RaggedLog,
     ];
 
     /// 01's number.
@@ -136,6 +146,15 @@ pub enum Verdict {
     StrayRule(usize),
     /// 3: the first part that stands under no rule or several.
     StrayPart(usize),
+}
+
+/// What is denied in a usage log.
+#[derive(Clone, Copy, PartialEq, Eq, Debug)]
+pub struct Denials {
+    /// The most records of a window that are denied.
+    pub most: usize,
+    /// The number, from 0, of the first record of the earliest window that has so many.
+    pub start: usize,
 }
 
 /// What mining says of the rule file that it wrote.
@@ -290,6 +309,26 @@ pub fn load(seed: u32, sizes: Sizes, output: &mut [u8]) -> Result<usize, Refusal
         )
     })?;
     Ok(length[0])
+}
+
+/// How many records of a usage log the rules deny, at most, in any `window` neighbouring ones. A record
+/// has three bytes: user, resource and operation. A log shorter than the window is one window.
+pub fn denials(file: &[u8], rules: &[u8], log: &[u8], window: usize) -> Result<Denials, Refusal> {
+    let mut denials = [0; 2];
+    told(unsafe {
+        interface::fichtengarn_denials(
+            file.as_ptr(),
+            file.len(),
+            rules.as_ptr(),
+            rules.len(),
+            log.as_ptr(),
+            log.len(),
+            window,
+            &mut denials,
+        )
+    })?;
+    let [most, start] = denials;
+    Ok(Denials { most, start })
 }
 
 /// Writes the rules of a role file to the front of the output, and says what they cost by these

@@ -7,7 +7,7 @@ use lib.ListN.{length, getD, take}
 use mathlib.Core.Bool.{Bool, true, false}
 use mathlib.Core.List.{List, [], _∷_}
 use mathlib.Core.Path.{_≡_}
-use Rattle.files.specs.Answer.{Refusal, tooLong, cutOff, unknownCommand, outOfPlace, beyond, wrongKind, ownSenior, smallScratch, shortOutput, rulesCutOff, rulesUnknown, rulesOrder, rulesOperand, noSuchRule, zeroSeed, wrongShape, wrongTable, wrongLevel}
+use Rattle.files.specs.Answer.{Refusal, tooLong, cutOff, unknownCommand, outOfPlace, beyond, wrongKind, ownSenior, smallScratch, shortOutput, rulesCutOff, rulesUnknown, rulesOrder, rulesOperand, noSuchRule, zeroSeed, wrongShape, wrongTable, wrongLevel, wrongWindow, raggedLog}
 use Rattle.files.specs.Calls.{Verdict, differ, strayRule, strayPart, sound}
 
 -- a text as bytes
@@ -42,11 +42,14 @@ causeWords zeroSeed = "the seed is 0"
 causeWords wrongShape = "the rule file was made for other sizes or numbers of attributes than the role file's"
 causeWords wrongTable = "the table has other than 1,024 words"
 causeWords wrongLevel = "a rule of the rule file tells another level than the lowest that allows its conjuncts"
+causeWords wrongWindow = "the window has no records or more than 64"
+causeWords raggedLog = "the length of the log is not divisible by three"
 
 unfoldable pub refusalTable : List String
 refusalTable =
     "no refusal has this number" ∷ causeWords tooLong ∷ causeWords cutOff ∷ causeWords unknownCommand ∷ causeWords outOfPlace ∷ causeWords beyond ∷ causeWords wrongKind ∷ causeWords ownSenior
-    ∷ causeWords smallScratch ∷ causeWords shortOutput ∷ causeWords rulesCutOff ∷ causeWords rulesUnknown ∷ causeWords rulesOrder ∷ causeWords rulesOperand ∷ causeWords noSuchRule ∷ causeWords zeroSeed ∷ causeWords wrongShape ∷ causeWords wrongTable ∷ causeWords wrongLevel ∷ []
+    ∷ causeWords smallScratch ∷ causeWords shortOutput ∷ causeWords rulesCutOff ∷ causeWords rulesUnknown ∷ causeWords rulesOrder ∷ causeWords rulesOperand ∷ causeWords noSuchRule
+    ∷ causeWords zeroSeed ∷ causeWords wrongShape ∷ causeWords wrongTable ∷ causeWords wrongLevel ∷ causeWords wrongWindow ∷ causeWords raggedLog ∷ []
 
 -- the words of a refusal by its number
 unfoldable pub refusalWords : ℕ → List ℕ

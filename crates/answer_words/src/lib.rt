@@ -63,6 +63,8 @@ pub fn refusal_words(n: usize, out: &mut [u8]) -> usize
             b"a rule of the rule file tells another level than the lowest that allows its conjuncts",
             out,
         ),
+        refusal::WRONG_WINDOW => put(b"the window has no records or more than 64", out),
+        refusal::RAGGED_LOG => put(b"the length of the log is not divisible by three", out),
         _ => put(b"no refusal has this number", out),
     }
 }

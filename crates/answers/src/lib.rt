@@ -6,9 +6,11 @@ ghost use Rattle.answers.specs.Numbers.{returned, stored, readNumbers};
 ghost use Rattle.write_answer.specs.MinedNumbers.{minedNumbers};
 ghost use Rattle.load_file.specs.GeneratedNumbers.{generatedNumbers};
 ghost use Rattle.role_circle.specs.CircledNumbers.{circledNumbers};
+ghost use Rattle.log_windows.specs.Counting.{denialNumbers};
 ghost use Rattle.role_question.specs.Reply.{replyNumbers};
 ghost use Rattle.rule_judge.specs.Judgement.{judgementNumbers};
 use load_file::Generated;
+use log_windows::Denials;
 use role_circle::Circled;
 use role_question::Reply;
 use rule_judge::Judgement;
@@ -73,6 +75,23 @@ pub fn store_generated(generated: Generated, count: &mut [usize]) -> usize
         Generated::Refused(n) => n,
         Generated::Written(bytes) => {
             count[0] = bytes;
+            0
+        }
+    }
+}
+
+// The most denials in a window, and where it starts.
+pub fn store_denials(denials: Denials, counts: &mut [usize]) -> usize
+    requires { ⌜ length (now counts) ≡ 2 ⌝ }
+    ensures { λ r. ⌜
+        (r ≡ returned (denialNumbers denials))
+        × (now (counts .exit) ≡ stored (denialNumbers denials) (now (counts .entry))) ⌝ }
+{
+    match denials {
+        Denials::Refused(n) => n,
+        Denials::Counted { most, start } => {
+            counts[0] = most;
+            counts[1] = start;
             0
         }
     }

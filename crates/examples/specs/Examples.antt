@@ -10,10 +10,12 @@ use mathlib.Core.List.{List, [], _∷_, _++_, map}
 use Rattle.examples.specs.Hex.{noByte, spelt, hex}
 use Rattle.files.specs.Answer.{andThen, told, accepted}
 use Rattle.files.specs.Calls.{Verdict, countValues, yesNo, verdictNumber, verdictValues, mineAnswer, mineOutput, roleQuestion, readBoth, ruleQuestion, judge, shownPlace, shownPart, shownByte, circleAnswer, circleOutput}
+use Rattle.files.specs.Denials.{denialAnswer, roleDenials}
 use Rattle.files.specs.Edits.{Edit, mayFill, editAnswer, summaryWord, summaryAnswer, editedBy}
 use Rattle.files.specs.Load.{xorshift, loadAnswer, loadOutput}
 use Rattle.files.specs.RoleFile.{readRoles}
 use Rattle.files.specs.RuleFile.{Lines, valuesIn, ruleIn}
+use Rattle.files.specs.Windows.{worstValues}
 use Rattle.policy.specs.Cost.{fourOnes}
 use Rattle.policy.specs.Policy.{Policy, settingOf}
 use Rattle.policy.specs.Rules.{Which, Rule, atom, conjunct, ofSection, ruleLevel, user, resource}
@@ -127,6 +129,13 @@ halves F w e x = yesNo (satisfiesSingles F w e x) ++ yesNo (satisfiesSets F w e 
 
 abbrev pub satisfying : List ℕ → List ℕ → Which → ℕ → List ℕ
 satisfying file rules w x = told (λ (p : Policy × List Lines). each (λ ls. halves (p .0) w (valuesIn (settingOf (p .0)) ls w) x) (p .1)) (readBoth 2 file rules)
+
+-- denials in a log, in windows of w records: how many at most, and from which record on; by the rules, and by the roles
+abbrev pub denying : List ℕ → List ℕ → List ℕ → ℕ → List ℕ
+denying file rules log w = told worstValues (denialAnswer 2 file rules log w)
+
+abbrev pub rolesDenying : List ℕ → List ℕ → ℕ → List ℕ
+rolesDenying file log w = told worstValues (roleDenials 2 file log w)
 
 -- the levels of the rules of a rule file
 abbrev pub levels : List ℕ → List ℕ → List ℕ
@@ -597,6 +606,24 @@ asksOneOfTwo = hex "21 22 00 05 00 22 00 07 00 23 01 02 00 00 00 00 00 00 00 23 
 -- a user conjunct {{0}} and a resource conjunct {0}, both of 255
 abbrev pub asks255 : List ℕ
 asks255 = hex "21 23 FF 01 00 00 00 00 00 00 00 24 FF 00 00 26 01 00 28 00 01 00 29 03 2F"
+
+-- ---- usage logs
+
+-- beside A: denied, granted, denied, denied, granted, denied
+abbrev pub sixRecords : List ℕ
+sixRecords = hex "00 01 00 00 00 00 01 00 00 00 01 00 01 01 00 00 01 00"
+
+-- one record of A is granted by the roles, and by its rules
+abbrev pub grantedRecord : List ℕ
+grantedRecord = hex "00 00 00"
+
+-- 2 users, 3 resources, 4 operations: role 0 has user 1, and resource 2 with operation 3
+abbrev pub threeSizes : List ℕ
+threeSizes = hex "01 02 03 04 01 05 00 01 06 00 02 03 0F"
+
+-- its one rule: resource 2 with operation 3, for users who hold role 0
+abbrev pub oneTriple : List ℕ
+oneTriple = hex "20 02 03 04 01 00 00 21 23 FF 01 00 00 00 00 00 00 00 24 FF 02 00 26 08 00 28 00 08 00 29 03 2F"
 
 -- ---- the table
 
@@ -1099,6 +1126,42 @@ table =
     -- mined rules tell their levels
     ∷ row "29 mined: level 3" (output oneOfTwo 32) (forOneOfTwo ++ hex "21 23 FF 01 00 00 00 00 00 00 00 24 FF 00 00 26 01 00 28 00 01 00 29 03 2F")
     ∷ row "29 mined: level 2" (output (hex "01 02 02 01 01 05 00 00 05 00 01 06 00 00 00 0F") 22) (forOneOfTwo ++ hex "21 24 FF 00 00 26 01 00 28 00 01 00 29 02 2F")
+    -- ---- request 10: "the most records that the rules deny in any w neighbouring ones, and the lowest start that has so many"
+    ∷ row "log: windows of 1" (denying fileA (forA ++ rulesA) sixRecords 1) (0 ∷ 1 ∷ 0 ∷ [])
+    ∷ row "log: windows of 2" (denying fileA (forA ++ rulesA) sixRecords 2) (0 ∷ 2 ∷ 2 ∷ [])
+    ∷ row "log: windows of 3" (denying fileA (forA ++ rulesA) sixRecords 3) (0 ∷ 2 ∷ 0 ∷ [])
+    ∷ row "log: windows of 4" (denying fileA (forA ++ rulesA) sixRecords 4) (0 ∷ 3 ∷ 0 ∷ [])
+    ∷ row "log: a window of all six" (denying fileA (forA ++ rulesA) sixRecords 6) (0 ∷ 4 ∷ 0 ∷ [])
+    ∷ row "log: the last window" (denying fileA (forA ++ rulesA) (hex "00 00 00 00 01 00 01 00 00") 2) (0 ∷ 2 ∷ 1 ∷ [])
+    ∷ row "log: nothing denied" (denying fileA (forA ++ rulesA) (grantedRecord ++ grantedRecord) 1) (0 ∷ 0 ∷ 0 ∷ [])
+    -- "records of three bytes: user, resource, operation"
+    ∷ row "log: user, resource, operation" (denying threeSizes oneTriple (hex "01 02 03") 1) (0 ∷ 0 ∷ 0 ∷ [])
+    ∷ row "log: another user" (denying threeSizes oneTriple (hex "00 02 03") 1) (0 ∷ 1 ∷ 0 ∷ [])
+    ∷ row "log: another operation" (denying threeSizes oneTriple (hex "01 02 02") 1) (0 ∷ 1 ∷ 0 ∷ [])
+    -- "A log shorter than w is one window; an empty log reports 0 at 0."
+    ∷ row "log: shorter than the window" (denying fileA (forA ++ noRules) (grantedRecord ++ grantedRecord) 3) (0 ∷ 2 ∷ 0 ∷ [])
+    ∷ row "log: six records in a window of 64" (denying fileA (forA ++ rulesA) sixRecords 64) (0 ∷ 4 ∷ 0 ∷ [])
+    ∷ row "log: empty" (denying fileA (forA ++ noRules) [] 1) (0 ∷ 0 ∷ 0 ∷ [])
+    -- "that the rules deny": here other than the roles; and "the count by the roles"
+    ∷ row "log: rules that grant nothing" (denying fileA (forA ++ noRules) grantedRecord 1) (0 ∷ 1 ∷ 0 ∷ [])
+    ∷ row "log: by the roles" (rolesDenying fileA sixRecords 2) (0 ∷ 2 ∷ 2 ∷ [])
+    ∷ row "log: by the roles, nothing denied" (rolesDenying fileA grantedRecord 1) (0 ∷ 0 ∷ 0 ∷ [])
+    -- "19 for w outside 1 to 64, then 20 for a length not divisible by three, then 5 for a record, all after the files' refusals"
+    ∷ row "log: a window of 0" (denying fileA (forA ++ rulesA) sixRecords 0) (19 ∷ [])
+    ∷ row "log: a window of 65" (denying fileA (forA ++ rulesA) sixRecords 65) (19 ∷ [])
+    ∷ row "log: a window far beyond" (denying fileA (forA ++ rulesA) sixRecords 18446744073709551615) (19 ∷ [])
+    ∷ row "log: two bytes" (denying fileA (forA ++ rulesA) (hex "00 00") 1) (20 ∷ [])
+    ∷ row "log: four bytes" (denying fileA (forA ++ rulesA) (hex "00 00 00 00") 1) (20 ∷ [])
+    ∷ row "log: user 2 of 2" (denying fileA (forA ++ rulesA) (hex "02 00 00") 1) (5 ∷ [])
+    ∷ row "log: resource 3 of 3" (denying threeSizes oneTriple (hex "00 03 00") 1) (5 ∷ [])
+    ∷ row "log: operation 4 of 4" (denying threeSizes oneTriple (hex "00 00 04") 1) (5 ∷ [])
+    ∷ row "log: the last record beyond the sizes" (denying fileA (forA ++ rulesA) (sixRecords ++ hex "00 00 01") 2) (5 ∷ [])
+    ∷ row "log: 19 before 20" (denying fileA (forA ++ rulesA) (hex "00") 0) (19 ∷ [])
+    ∷ row "log: 20 before 5" (denying fileA (forA ++ rulesA) (hex "02 00 00 00") 1) (20 ∷ [])
+    ∷ row "log: 10 before 19" (denying fileA [] (hex "00") 0) (10 ∷ [])
+    ∷ row "log: 16 before 19" (denying fileA (forNobody ++ noRules) (hex "00") 0) (16 ∷ [])
+    ∷ row "log: 18 before 19" (denying fileA (forA ++ hex "21 26 01 00 28 00 01 00 29 01 2F") (hex "00") 0) (18 ∷ [])
+    ∷ row "log: 7 before 10" (denying roleTwice [] (hex "00") 0) (7 ∷ [])
     -- ---- the bytes of these rows: what is no digit, half a byte, and two bytes without a blank are no bytes
     ∷ row "hex: digits" (hex "00 09 0A 0F 10 F0 FF") (0 ∷ 9 ∷ 10 ∷ 15 ∷ 16 ∷ 240 ∷ 255 ∷ [])
     ∷ row "hex: no digit" (spelt "0G 0a") (noByte ∷ noByte ∷ [])

@@ -13,8 +13,10 @@ ghost use Rattle.files.specs.Edits.{Edit};
 ghost use Rattle.files.specs.Calls.{Counts, countValues, yesNo, roleQuestion, readBoth, ruleQuestion, judge, mineAnswer, mineOutput, verdictTold, shownPlace, shownByte, circleAnswer, circleOutput};
 ghost use Rattle.files.specs.Beside.{besideOf};
 ghost use Rattle.files.specs.Demand3.{Demand3};
+ghost use Rattle.files.specs.Denials.{denialAnswer};
 ghost use Rattle.files.specs.Load.{loadAnswer, loadOutput, Readable};
 ghost use Rattle.files.specs.RoleFile.{readRoles, readCommands};
+ghost use Rattle.files.specs.Windows.{worstValues};
 ghost use Rattle.policy.specs.Circles.{closes, Circle};
 ghost use Rattle.policy.specs.Policy.{Policy};
 ghost use Rattle.load_file.specs.GeneratedNumbers.{bytesWritten};
@@ -179,6 +181,29 @@ pub extern "C" fn fichtengarn_load(
         roles,
     };
     answers::store_generated(load_file::generate(seed, sizes, out), count)
+}
+
+// Denials in a usage log, in windows of so many records: the most that the rules deny in one, and the lowest record from which so many are.
+#[no_mangle]
+pub extern "C" fn fichtengarn_denials(
+    file: &[u8],
+    rules: &[u8],
+    log: &[u8],
+    window: usize,
+    denials: &mut [usize; 2],
+) -> usize
+    ensures { λ r. ⌜
+        (r
+        ≡ returned
+        (told worstValues
+        (denialAnswer 2 (now (file .entry)) (now (rules .entry)) (now (log .entry)) window)))
+        × (now (denials .exit)
+        ≡ stored
+        (told worstValues
+        (denialAnswer 2 (now (file .entry)) (now (rules .entry)) (now (log .entry)) window))
+        (now (denials .entry))) ⌝ }
+{
+    answers::store_denials(log_denials::denials(file, rules, log, window), denials)
 }
 
 // Mining: the rule file in the memory for output, and length, parts, rules, merges and the cost by these weights.

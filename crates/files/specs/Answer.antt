@@ -42,6 +42,10 @@ pub data Refusal : Type 0 where
   wrongTable : Refusal
   -- request 9: "18 for a wrong level, where 13 would be tested for that command"
   wrongLevel : Refusal
+  -- request 10: "19 for w outside 1 to 64"
+  wrongWindow : Refusal
+  -- request 10: "then 20 for a length not divisible by three"
+  raggedLog : Refusal
 
 -- 01's number of each
 abbrev pub numberOf : Refusal → ℕ
@@ -63,6 +67,8 @@ numberOf zeroSeed = 15
 numberOf wrongShape = 16
 numberOf wrongTable = 17
 numberOf wrongLevel = 18
+numberOf wrongWindow = 19
+numberOf raggedLog = 20
 
 -- "Every refusal here and below returns only its number."
 pub data Answer (A : Type 0) : Type 0 where

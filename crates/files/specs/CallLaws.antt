@@ -204,6 +204,17 @@ triple-in P u r o t =
     each-in (λ u. each (λ r. map (λ o. (u, r, o)) (upTo (P .slots))) (upTo (P .side resource .count))) (upTo-in (t .user))
     (each-in (λ r. map (λ o. (u, r, o)) (upTo (P .slots))) (upTo-in (t .resource)) (map-in (λ o. (u, r, o)) (upTo-in (t .op))))
 
+-- numbers within the sizes are those of a triple
+pub triple-of : (P : Setting) (u r o : ℕ) → Is (isTriple P u r o) → Triple P u r o
+unfolding isTriple
+triple-of P u r o k =
+    let d = and-r (ltb u (P .side user .count)) _ k in
+    record {
+      user = ltb-true u (P .side user .count) (and-l (ltb u (P .side user .count)) _ k);
+      resource = ltb-true r (P .side resource .count) (and-l (ltb r (P .side resource .count)) _ d);
+      op = ltb-true o (P .slots) (and-r (ltb r (P .side resource .count)) _ d);
+    }
+
 -- what the judge's 0 says
 pub record Judged (P : Setting) (R : Roles) (rules : List Lines) : Type 0 where
   pub same : (u r o : ℕ) → Triple P u r o → rolesGrant P R u r o ≡ rulesGrant P rules u r o
@@ -269,21 +280,12 @@ module _ (W : ℕ) (file : List ℕ) (b : Bytes file) (F : Policy) (h : readRole
 
   -- and the rules answer every question as the roles do
   pub mined-questions : (u r o : ℕ) → ruleQuestion W file (minedBytes W F) u r o ≡ roleQuestion W file u r o
-  unfolding ruleQuestion roleQuestion isTriple
+  unfolding ruleQuestion roleQuestion
   mined-questions u r o =
       rw (both-read, h)
       (test (isTriple (settingOf F) u r o)
-      (λ k. rw (k, demanded .same u r o (inside k)) refl)
+      (λ k. rw (k, demanded .same u r o (triple-of (settingOf F) u r o k)) refl)
       (λ k. rw k refl))
-    where
-      inside : Is (isTriple (settingOf F) u r o) → Triple (settingOf F) u r o
-      inside k =
-          let d = and-r (ltb u (settingOf F .side user .count)) _ k in
-          record {
-            user = ltb-true u (settingOf F .side user .count) (and-l (ltb u (settingOf F .side user .count)) _ k);
-            resource = ltb-true r (settingOf F .side resource .count) (and-l (ltb r (settingOf F .side resource .count)) _ d);
-            op = ltb-true o (settingOf F .slots) (and-r (ltb r (settingOf F .side resource .count)) _ d);
-          }
 
   -- seniors are the roles reached by one or more lines 07
   pub seniors-reached : (k s : ℕ) → Senior (F .line) k s → Is (senior F k s)

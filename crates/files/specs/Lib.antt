@@ -5,6 +5,8 @@ pub mod Beside
 pub mod RuleFile
 pub mod RulePart
 pub mod Calls
+pub mod Windows
+pub mod Denials
 pub mod Load
 pub mod BytesLaws
 pub mod AnswerLaws
@@ -21,3 +23,5 @@ pub mod RulePartLaws
 pub mod LoadLaws
 pub mod Edits
 pub mod LevelReadLaws
+pub mod WindowLaws
+pub mod DenialLaws

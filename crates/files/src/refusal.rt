@@ -34,3 +34,7 @@ pub const WRONG_SHAPE: usize = 16;
 pub const WRONG_TABLE: usize = 17;
 
 pub const WRONG_LEVEL: usize = 18;
+
+pub const WRONG_WINDOW: usize = 19;
+
+pub const RAGGED_LOG: usize = 20;

@@ -3,9 +3,9 @@ ghost use lib.ListN.{length};
 ghost use mathlib.Core.Bool.{false};
 ghost use mathlib.Core.Path.{_≡_};
 ghost use Prim.Native.Nat.{_≤_, _<_};
-ghost use Rattle.grant_grids.specs.Grid.{gridOf, grantedBy};
+ghost use Rattle.grant_grids.specs.Grid.{gridOf, inGrid, grantedBy};
 ghost use Rattle.grant_grids.specs.Updates.{joinedRow, joinedRole};
-ghost use Rattle.role_record.specs.Cells.{userCells};
+ghost use Rattle.role_record.specs.Cells.{rowCells, userCells};
 use role_record::ByRole;
 use role_record::ByRoleOperation;
 use role_record::Grid;
@@ -15,6 +15,14 @@ pub enum Difference {
     Same,
     // The user, the resource and the operation.
     At(usize, usize, usize),
+}
+
+// Whether a grid has a triple.
+pub fn has(grid: &Grid, user: usize, resource: usize, operation: usize) -> bool
+    requires { ⌜ (user < 64) × (operation < rowCells) ⌝ }
+    ensures { λ r. ⌜ r ≡ inGrid (now (grid .entry)) user resource operation ⌝ }
+{
+    sets::has(grid[RoleFile::OPERATIONS * user + operation], resource)
 }
 
 // The grid of no triples, whatever the slice held.

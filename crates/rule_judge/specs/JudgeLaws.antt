@@ -1,31 +1,29 @@
 -- What was read of both files decides the verdict.
 -- Assumes nothing.
 use Prim.Native.Nat.{ℕ}
-use borrow.Author.Tests.{eq-eqb, ne-eqb, lt-ltb}
+use borrow.Author.Tests.{eq-eqb, ne-eqb}
 use lib.Dec.{eqb}
-use mathlib.Core.Bool.{Bool, true, false, cond, _&&_}
+use mathlib.Core.Bool.{Bool, true, false, cond}
 use mathlib.Core.List.{List, [], _∷_}
 use mathlib.Core.Option.{Option, none, some}
 use mathlib.Core.Path.{_≡_, refl, sym, ap, ap₂, _∙_}
-use native.Mathlib.Omega.{arith}
 use Rattle.role_record.specs.Record.{Sized, numberOr, recordWith, recordOf}
 use Rattle.files.specs.Beside.{besideOf}
 use Rattle.files.specs.Answer.{Refusal, numberOf, Answer, told, andThen, refused, accepted}
 use Rattle.files.specs.BytesLaws.{Carries, number-positive}
-use Rattle.files.specs.Calls.{decided, isTriple, rulesGrant, firstDifference, firstStrayRule, firstStrayPart, verdict, readBoth, judge, verdictTold}
+use Rattle.files.specs.Calls.{decided, firstDifference, firstStrayRule, firstStrayPart, verdict, readBoth, judge, verdictTold}
 use Rattle.files.specs.RuleFile.{Lines}
-use Rattle.grant_grids.specs.Grid.{gridOf, inGrid, grantedBy, gridDifference, differenceOf}
-use Rattle.grant_grids.specs.GridLaws.{in-grid, roles-grid-means, judged-means}
+use Rattle.grant_grids.specs.Grid.{gridOf, grantedBy, gridDifference, differenceOf}
+use Rattle.grant_grids.specs.GridLaws.{roles-grid-means, judged-means}
 use Rattle.rule_judge.specs.Judgement.{judgementNumbers}
 use Rattle.rule_listings.specs.Listed.{strayOf, strayPartOf}
 use Rattle.rule_listings.specs.ListedLaws.{stray-means}
 use Rattle.policy.specs.Policy.{Policy, sideOf, settingOf, rolesIn}
-use Rattle.policy.specs.Rules.{Triple, user, resource}
 use Rattle.rule_reading.specs.BothFiles.{nothingRead, bothOf}
 use Rattle.rule_file.specs.LegalLaws.{AllLegal, Sound as SoundFiles, both-sound}
+use Rattle.rule_steps.specs.GrantedLaws.{in-rules}
 use Rattle.rule_steps.specs.Shows.{grantedWithin}
 use Rattle.sets.specs.Tests.{isSome}
-use Rattle.sets.specs.TestLaws.{and-in}
 use Rattle.grant_grids.specs.declared.Difference.{Difference}
 use Rattle.grant_grids.specs.declared.Difference.the-variants.{Same, At}
 use Rattle.rule_judge.specs.declared.Judgement.{Judgement}
@@ -64,21 +62,9 @@ decided-so none none (some p) = refl
 decided-so none none none = refl
 
 module _ (F : Policy) (rules : List Lines) (Z : Sized F) (L : AllLegal (besideOf F) rules) where
-  in-rules : (u r o : ℕ) → Triple (settingOf F) u r o → inGrid (gridOf (grantedWithin F rules)) u r o ≡ rulesGrant (settingOf F) rules u r o
-  unfolding grantedWithin isTriple settingOf sideOf
-  in-rules u r o t =
-      let a = t .user in
-      let b = t .resource in
-      let c = t .op in
-      let d = Z .many user in
-      let e = Z .many resource in
-      let f = Z .operable in
-      in-grid (grantedWithin F rules) u r o (omega arith) (omega arith) (omega arith)
-      ∙ ap (λ (x : Bool). x && rulesGrant (settingOf F) rules u r o) (and-in (lt-ltb u (F .table user .count) a) (and-in (lt-ltb r (F .table resource .count) b) (lt-ltb o (F .operations) c)))
-
   differs : differenceIn (bothOf (accepted (F, rules))) ≡ differenceOf (firstDifference (settingOf F) (rolesIn F) rules)
   unfolding differenceIn bothOf recordOf recordWith settingOf sideOf
-  differs = ap differenceOf (judged-means (settingOf F) (rolesIn F) rules (gridOf (grantedBy (recordOf F .holders) (recordOf F .permissions) (F .roles))) (gridOf (grantedWithin F rules)) (roles-grid-means F Z) in-rules)
+  differs = ap differenceOf (judged-means (settingOf F) (rolesIn F) rules (gridOf (grantedBy (recordOf F .holders) (recordOf F .permissions) (F .roles))) (gridOf (grantedWithin F rules)) (roles-grid-means F Z) (in-rules F Z rules))
 
   strays-so : strayIn (bothOf (accepted (F, rules))) ≡ strayPartOf (firstStrayPart (settingOf F) (rolesIn F) rules)
   unfolding strayIn bothOf recordOf recordWith

@@ -5,21 +5,20 @@ use borrow.Author.Tests.{eq-eqb, ne-eqb, ltb-true}
 use lib.Dec.{eqb, ltb}
 use mathlib.Core.Bool.{Bool, true, false, cond, _&&_}
 use mathlib.Core.List.{List, _∷_}
-use mathlib.Core.Path.{_≡_, refl, ap, ap₂, _∙_}
-use native.Mathlib.Omega.{arith}
+use mathlib.Core.Path.{_≡_, refl, ap, _∙_}
 use Rattle.role_record.specs.Record.{Sized, recordWith, recordOf}
 use Rattle.files.specs.Answer.{numberOf, Answer, told, unless, andThen, beyond, refused, accepted}
 use Rattle.files.specs.BytesLaws.{Carries, number-positive}
 use Rattle.files.specs.Calls.{yesNo, isTriple, rulesGrant, readBoth, ruleQuestion}
 use Rattle.files.specs.RuleFile.{Lines}
 use Rattle.grant_grids.specs.Grid.{gridOf, inGrid}
-use Rattle.grant_grids.specs.GridLaws.{in-grid}
 use Rattle.policy.specs.Policy.{Policy, sideOf, settingOf}
 use Rattle.policy.specs.Rules.{user, resource}
 use Rattle.role_question.specs.RoleQuestionLaws.{yes-no}
 use Rattle.role_question.specs.Reply.{replyNumbers}
 use Rattle.rule_reading.specs.BothFiles.{nothingRead, bothOf}
 use Rattle.rule_file.specs.LegalLaws.{Sound, both-sound}
+use Rattle.rule_steps.specs.GrantedLaws.{in-rules}
 use Rattle.rule_steps.specs.Shows.{grantedWithin}
 use Rattle.role_question.specs.declared.Reply.{Reply}
 use Rattle.role_question.specs.declared.Reply.the-variants.{Yes, No, Refused}
@@ -34,18 +33,9 @@ answeredBy b u r o =
     (cond (ltb o (b .file .operations)) (cond (inGrid (b .grid) u r o) Yes No) (Refused 5)) (Refused 5)) (Refused 5)) (Refused (b .code))
 
 module _ (F : Policy) (rules : List Lines) (Z : Sized F) (u r o : ℕ) where
-  -- a triple within the sizes
   granted : ltb u (F .table user .count) ≡ true → ltb r (F .table resource .count) ≡ true → ltb o (F .operations) ≡ true → inGrid (gridOf (grantedWithin F rules)) u r o ≡ rulesGrant (settingOf F) rules u r o
-  unfolding grantedWithin isTriple settingOf sideOf
-  granted p q s =
-      let a = ltb-true u (F .table user .count) p in
-      let b = ltb-true r (F .table resource .count) q in
-      let c = ltb-true o (F .operations) s in
-      let d = Z .many user in
-      let e = Z .many resource in
-      let f = Z .operable in
-      in-grid (grantedWithin F rules) u r o (omega arith) (omega arith) (omega arith)
-      ∙ ap (λ (t : Bool). t && rulesGrant (settingOf F) rules u r o) (ap₂ (λ (x y : Bool). x && y) p (ap₂ (λ (x y : Bool). x && y) q s))
+  unfolding settingOf sideOf
+  granted p q s = in-rules F Z rules u r o (record { user = ltb-true u (F .table user .count) p; resource = ltb-true r (F .table resource .count) q; op = ltb-true o (F .operations) s })
 
   answered : replyNumbers (answeredBy (bothOf (accepted (F, rules))) u r o) ≡ told yesNo (unless (isTriple (settingOf F) u r o) beyond (accepted (rulesGrant (settingOf F) rules u r o)))
   unfolding answeredBy bothOf isTriple recordOf recordWith settingOf sideOf

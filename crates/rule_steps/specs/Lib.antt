@@ -1,3 +1,4 @@
 pub mod Shows
 pub mod ShowsLaws
 pub mod StrayLaws
+pub mod GrantedLaws

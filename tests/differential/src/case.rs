@@ -39,7 +39,7 @@ fn beside(
         return rules::refused_beside(file, tally).map(|()| None).map_err(in_file);
     };
     for rules in rule_files(&world, &mined, random).into_iter().chain(others) {
-        rules::compare(file, &world, &rules, random, tally)
+        rules::compare(file, &world, &rules, rules == mined, random, tally)
             .map_err(|what| in_file(format!("rule file {}\n{what}", hex(&rules))))?;
     }
     Ok(Some(mined))

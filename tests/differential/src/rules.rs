@@ -1,7 +1,7 @@
 //! The calls that take a rule file beside a role file: reading it, the rule question, the judge, and,
-//! in `parts`, the one that shows a rule.
+//! in `parts`, the one that shows a rule, in `denials`, the one that counts denials in a log.
 
-use crate::{parts, questions, same, tally::Tally, REV};
+use crate::{denials, parts, questions, same, tally::Tally, REV};
 use fichtengarn::{Triple, Verdict};
 use second_miner::questions::{ask_rules, judge, verdict};
 use second_miner::rule::rule_grants;
@@ -13,6 +13,7 @@ pub fn compare(
     file: &[u8],
     world: &World,
     rules: &[u8],
+    mined: bool,
     random: &mut Random,
     tally: &mut Tally,
 ) -> Result<(), String> {
@@ -37,6 +38,7 @@ pub fn compare(
             rule_question(file, rules, questions::FIRST, tally)?;
         }
     }
+    denials::compare(file, world, rules, mined, random, tally)?;
     questions::beyond(&world.policy)
         .into_iter()
         .try_for_each(|triple| rule_question(file, rules, triple, tally))
@@ -49,6 +51,7 @@ pub fn refused_beside(file: &[u8], tally: &mut Tally) -> Result<(), String> {
         judged(file, rules, judge(file, rules, REV).map_err(usize::from), tally)?;
         rule_question(file, rules, questions::FIRST, tally)?;
         parts::asked(file, rules, 0, tally)?;
+        denials::asked(file, rules, &[0], 0, tally)?;
     }
     Ok(())
 }

@@ -12,8 +12,9 @@ pub struct Tally {
     pub circles: usize,
     pub loads: usize,
     pub edits: usize,
-    /// By number: how often the library accepted (0) or refused (1 to 18).
-    answers: [usize; 19],
+    pub denials: usize,
+    /// By number: how often the library accepted (0) or refused (1 to 20).
+    answers: [usize; 21],
     verdicts: [usize; 4],
 }
 
@@ -39,6 +40,7 @@ impl Tally {
         self.circles += other.circles;
         self.loads += other.loads;
         self.edits += other.edits;
+        self.denials += other.denials;
         self.answers.iter_mut().zip(other.answers).for_each(|(sum, often)| *sum += often);
         self.verdicts.iter_mut().zip(other.verdicts).for_each(|(sum, often)| *sum += often);
     }
@@ -54,8 +56,16 @@ impl fmt::Display for Tally {
     fn fmt(&self, f: &mut fmt::Formatter) -> fmt::Result {
         writeln!(
             f,
-            "no disagreement on {} role files, {} rule files, {} minings, {} questions, {} rules shown, {} circles, {} loads, {} edits",
-            self.role_files, self.rule_files, self.minings, self.questions, self.shown, self.circles, self.loads, self.edits
+            "no disagreement on {} role files, {} rule files, {} minings, {} questions, {} rules shown, {} circles, {} loads, {} edits, {} logs",
+            self.role_files,
+            self.rule_files,
+            self.minings,
+            self.questions,
+            self.shown,
+            self.circles,
+            self.loads,
+            self.edits,
+            self.denials
         )?;
         writeln!(f, "answers by number {}", met(&self.answers))?;
         write!(f, "verdicts by number {}", met(&self.verdicts))

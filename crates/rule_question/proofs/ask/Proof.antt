@@ -36,8 +36,8 @@ returns-4 : tie.Need-returns-4
 returns-4 c =
     means (c .before .before .before .before) (Refused 5) (sym (answered-by _ _ _ _ true true false _ (c .before .before .before .if1 .left) (lt-ltb _ _ (c .before .before .if2 .left)) (lt-ltb _ _ (c .before .if3 .left)) (le-ltb _ _ (c .if4 .taken)) refl))
 
-in-grid-requires : tie.Need-in-grid-requires
-in-grid-requires c κs =
+has-requires : tie.Need-has-requires
+has-requires c κs =
     let e = c .before .before in
     let r = e .before .before .before .before in
     let z = both-sizes (now (r .before .before .before .args .file)) (now (r .before .before .before .args .rules)) (r .read .result) (r .read .ensures) (e .before .before .before .if1 .left) in
@@ -48,12 +48,12 @@ in-grid-requires c κs =
 returns-5 : tie.Need-returns-5
 returns-5 c =
     let e = c .before .before .before .before in
-    means (e .before .before .before .before) Yes (sym (answered-by _ _ _ _ true true true true (e .before .before .before .if1 .left) (lt-ltb _ _ (e .before .before .if2 .left)) (lt-ltb _ _ (e .before .if3 .left)) (lt-ltb _ _ (e .if4 .left)) (sym (c .before .in-grid .ensures) ∙ c .if5 .taken)))
+    means (e .before .before .before .before) Yes (sym (answered-by _ _ _ _ true true true true (e .before .before .before .if1 .left) (lt-ltb _ _ (e .before .before .if2 .left)) (lt-ltb _ _ (e .before .if3 .left)) (lt-ltb _ _ (e .if4 .left)) (sym (c .before .has .ensures) ∙ c .if5 .taken)))
 
 returns-6 : tie.Need-returns-6
 returns-6 c =
     let e = c .before .before .before .before in
-    means (e .before .before .before .before) No (sym (answered-by _ _ _ _ true true true false (e .before .before .before .if1 .left) (lt-ltb _ _ (e .before .before .if2 .left)) (lt-ltb _ _ (e .before .if3 .left)) (lt-ltb _ _ (e .if4 .left)) (sym (c .before .in-grid .ensures) ∙ c .if5 .left)))
+    means (e .before .before .before .before) No (sym (answered-by _ _ _ _ true true true false (e .before .before .before .if1 .left) (lt-ltb _ _ (e .before .before .if2 .left)) (lt-ltb _ _ (e .before .if3 .left)) (lt-ltb _ _ (e .if4 .left)) (sym (c .before .has .ensures) ∙ c .if5 .left)))
 
 pub ask-spec : {M : Type 1} → statement M
-ask-spec = tie.close (tie.spec (λ c κs. search needs) returns returns-2 returns-3 returns-4 in-grid-requires returns-5 returns-6)
+ask-spec = tie.close (tie.spec (λ c κs. search needs) returns returns-2 returns-3 returns-4 has-requires returns-5 returns-6)
