@@ -9,7 +9,7 @@ use std::io::Read;
 /// Fills the table once.
 fn filled(file: &RoleFile) -> [u64; WORDS] {
     let mut table = [0; WORDS];
-    fill(file, &mut table).expect("a file that was read is within the limits");
+    fill(*file, &mut table).expect("a file that was read is within the limits");
     table
 }
 
@@ -17,7 +17,7 @@ fn fill_often(file: &RoleFile, turns: usize) -> u64 {
     let mut table = [0; WORDS];
     let mut sum = 0u64;
     for turn in 0..turns {
-        fill(black_box(file), &mut table).expect("a file that was read is within the limits");
+        fill(black_box(*file), &mut table).expect("a file that was read is within the limits");
         sum = sum.wrapping_add(table[turn % WORDS]);
     }
     sum
@@ -31,7 +31,7 @@ fn edit_often(mut file: RoleFile, changing: bool, turns: usize) -> u64 {
         let (role, user) = (turn % 32, turn % 64);
         let there = file.assigned[role] >> user & 1 == 1;
         // numbers beyond the sizes are refused
-        let _ = edit(black_box(&mut file), &mut table, there != changing, role, user);
+        file = edit(black_box(file), &mut table, there != changing, role, user).1;
         sum = sum.wrapping_add(table[16 * user + turn % 16]);
     }
     sum

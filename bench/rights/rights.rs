@@ -58,32 +58,28 @@ fn refused(file: &RoleFile, table: &[u64]) -> Result<(), u8> {
     Ok(())
 }
 
-pub fn fill(file: &RoleFile, table: &mut [u64]) -> Result<(), u8> {
-    refused(file, table)?;
-    let holders = holders(file);
+/// The record goes by value, as in the proved call.
+pub fn fill(file: RoleFile, table: &mut [u64]) -> Result<(), u8> {
+    refused(&file, table)?;
+    let holders = holders(&file);
     for (user, words) in table.chunks_exact_mut(16).enumerate() {
-        refresh(file, &holders, user, words);
+        refresh(&file, &holders, user, words);
     }
     Ok(())
 }
 
-pub fn edit(
-    file: &mut RoleFile,
-    table: &mut [u64],
-    gives: bool,
-    role: usize,
-    user: usize,
-) -> Result<(), u8> {
-    refused(file, table)?;
+/// The record goes and comes by value, as in the proved call; with the number of the refusal, or 0.
+pub fn edit(mut file: RoleFile, table: &mut [u64], gives: bool, role: usize, user: usize) -> (u8, RoleFile) {
+    if let Err(number) = refused(&file, table) {
+        return (number, file);
+    }
     if role >= file.roles as usize || user >= file.users as usize {
-        return Err(5);
+        return (5, file);
     }
-    if (file.assigned[role] >> user & 1 == 1) == gives {
-        return Ok(());
+    if (file.assigned[role] >> user & 1 == 1) != gives {
+        file.assigned[role] ^= 1 << user;
+        file.holders = holders(&file);
+        refresh(&file, &file.holders, user, &mut table[16 * user..16 * user + 16]);
     }
-    file.assigned[role] ^= 1 << user;
-    file.holders = holders(file);
-    let holders = file.holders;
-    refresh(file, &holders, user, &mut table[16 * user..16 * user + 16]);
-    Ok(())
+    (0, file)
 }
