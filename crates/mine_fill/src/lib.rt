@@ -1,14 +1,15 @@
-// Fills scratch memory with the parts of a policy, each in its seat.
+// Fills scratch memory with the parts of a policy, by their numbers.
 ghost use lib.ListN.{length, getD};
+ghost use mathlib.Core.List.{List};
 ghost use mathlib.Core.Path.{_≡_};
-ghost use Prim.Native.Nat.{_≤_, _<_};
-ghost use Rattle.mine_fill.specs.Fill.{seatIn, seatWords, FilledWith, FilledTo};
+ghost use Prim.Native.Nat.{ℕ, _+_, _≤_, _<_};
+ghost use Rattle.mine_fill.specs.Fill.{partsBefore, partWords, FilledWith, FilledBy, RoleTo, StartsTo};
 ghost use Rattle.mine_corners.specs.Pairing.{wordsIn};
-ghost use Rattle.mine_seats.specs.Seats.{scratchWords};
-ghost use Rattle.role_record.specs.Cells.{roleCells};
+ghost use Rattle.mine_parts.specs.Layout.{mostParts, roomIn};
+ghost use Rattle.role_record.specs.Cells.{rowCells};
 ghost use Rattle.role_record.specs.Record.{WithinLimits};
 use mine_corners::Group;
-use mine_seats::Seat;
+use mine_parts::PartWords;
 use role_record::ByPlace;
 use role_record::ByPlaceMember;
 use role_record::ByRole;
@@ -18,56 +19,25 @@ use role_record::Links;
 use role_record::RoleFile;
 use role_record::Sizes;
 
-// Whether a part stands in the seat: the part of the role and the lowest operation of that cell.
-fn is_seat<'a>(
-    holders: &'a ByRole,
-    permissions: &'a ByRoleOperation,
-    operations: usize,
-    roles: usize,
-    k: usize,
-) -> bool
-    requires { ⌜ (operations ≤ 16) × (roles ≤ 32) ⌝ }
-    ensures { λ b. ⌜ b ≡ seatIn (now (holders .entry)) (now (permissions .entry)) operations roles k ⌝ }
-{
-    if roles <= k / RoleFile::OPERATIONS {
-        return false;
-    }
-    if operations <= k % RoleFile::OPERATIONS {
-        return false;
-    }
-    grant_parts::is_part(
-        holders,
-        permissions,
-        operations,
-        k / RoleFile::OPERATIONS,
-        k % RoleFile::OPERATIONS,
-    )
-}
-
-// The words of the part in a seat.
+// The words of the part of a role and its lowest operation.
 fn group_of<'a>(
     links: &'a Links,
     attributes: &'a CountBySide,
     holders: &'a ByRole,
     permissions: &'a ByRoleOperation,
     operations: usize,
-    k: usize,
+    role: usize,
+    lead: usize,
 ) -> Group
-    requires { ⌜ (operations ≤ 16) × (k < roleCells) ⌝ }
+    requires { ⌜ (operations ≤ 16) × (role < 32) × (lead < rowCells) ⌝ }
     ensures { λ g. ⌜
         wordsIn g
-        ≡ seatWords (now (links .entry)) (now (attributes .entry)) (now (holders .entry)) (now (permissions .entry))
-        operations k ⌝ }
+        ≡ partWords (now (links .entry)) (now (attributes .entry)) (now (holders .entry)) (now (permissions .entry))
+        operations (record { role = role; lead = lead }) ⌝ }
 {
-    let users = holders[k / RoleFile::OPERATIONS];
-    let resources = permissions[RoleFile::OPERATIONS * (k / RoleFile::OPERATIONS)
-        + k % RoleFile::OPERATIONS];
-    let class = grant_parts::class_of(
-        permissions,
-        k / RoleFile::OPERATIONS,
-        operations,
-        k % RoleFile::OPERATIONS,
-    );
+    let users = holders[role];
+    let resources = permissions[RoleFile::OPERATIONS * role + lead];
+    let class = grant_parts::class_of(permissions, role, operations, lead);
     let atoms = mine_words::atoms_of(links, attributes, users, resources);
     Group {
         users: users,
@@ -77,8 +47,8 @@ fn group_of<'a>(
     }
 }
 
-// What a seat is filled with: its part's words with their level, and itself as head; nothing if it has no part.
-fn seat_of<'a>(
+// What a part is stored with: its words with their level, its name, and itself as head.
+fn words_of<'a>(
     links: &'a Links,
     matches: &'a ByPlaceMember,
     knowing: &'a ByPlace,
@@ -86,41 +56,46 @@ fn seat_of<'a>(
     holders: &'a ByRole,
     permissions: &'a ByRoleOperation,
     sizes: Sizes,
-    k: usize,
-) -> Seat
+    role: usize,
+    lead: usize,
+    i: usize,
+) -> PartWords
     requires { ⌜
         WithinLimits sizes
         × (getD (now attributes) 0 0 ≤ 6)
         × (getD (now attributes) 1 0 ≤ 6)
-        × (k < roleCells) ⌝ }
+        × (role < 32)
+        × (lead < rowCells)
+        × (i < mostParts) ⌝ }
     ensures { λ s. ⌜
         FilledWith (now (links .entry)) (now (matches .entry)) (now (knowing .entry)) (now (attributes .entry))
         (now (holders .entry)) (now (permissions .entry)) (sizes .users) (sizes .resources) (sizes .operations)
-        (sizes .roles) k (s .users) (s .resources) (s .operations) (s .rest) ⌝ }
+        (record { role = role; lead = lead }) i (s .users) (s .resources) (s .operations) (s .rest) ⌝ }
 {
-    if is_seat(holders, permissions, sizes.operations, sizes.roles, k) {
-        let g = group_of(links, attributes, holders, permissions, sizes.operations, k);
-        let mut met = [0u64; RoleFile::SIDES * RoleFile::ATTRIBUTES];
-        mine_widen::widen(matches, g.users, g.resources, &mut met);
-        let level = mine_pairs::level_of_group(links, matches, &met, knowing, attributes, sizes, g);
-        let rest = mine_seats::pack(g.atoms, level, k);
-        return Seat {
-            users: g.users,
-            resources: g.resources,
-            operations: g.operations,
-            rest: rest,
-        };
-    }
-    Seat {
-        users: 0,
-        resources: 0,
-        operations: 0,
-        rest: 0,
+    let g = group_of(
+        links,
+        attributes,
+        holders,
+        permissions,
+        sizes.operations,
+        role,
+        lead,
+    );
+    let mut met = [0u64; RoleFile::SIDES * RoleFile::ATTRIBUTES];
+    mine_widen::widen(matches, g.users, g.resources, &mut met);
+    let level = mine_pairs::level_of_group(links, matches, &met, knowing, attributes, sizes, g);
+    let name = mine_parts::name_of(role, lead);
+    let rest = mine_parts::pack(g.atoms, level, name, i);
+    PartWords {
+        users: g.users,
+        resources: g.resources,
+        operations: g.operations,
+        rest: rest,
     }
 }
 
-// Every seat's own words, whatever scratch held.
-pub fn fill<'a>(
+// Stores the part of a role and an operation under a number, if the operation leads one: the number behind it.
+fn fill_part<'a>(
     scratch: &mut [u64],
     links: &'a Links,
     matches: &'a ByPlaceMember,
@@ -129,20 +104,29 @@ pub fn fill<'a>(
     holders: &'a ByRole,
     permissions: &'a ByRoleOperation,
     sizes: Sizes,
-)
+    role: usize,
+    lead: usize,
+    i: usize,
+) -> usize
     requires { ⌜
         WithinLimits sizes
         × (getD (now attributes) 0 0 ≤ 6)
         × (getD (now attributes) 1 0 ≤ 6)
-        × (length (now scratch) ≡ scratchWords) ⌝ }
-    ensures { λ _. ⌜
-        (length (now (scratch .exit)) ≡ scratchWords)
-        × FilledTo (now (links .entry)) (now (matches .entry)) (now (knowing .entry)) (now (attributes .entry))
-        (now (holders .entry)) (now (permissions .entry)) (sizes .users) (sizes .resources) (sizes .operations)
-        (sizes .roles) (now (scratch .exit)) roleCells ⌝ }
+        × (role < 32)
+        × (lead < rowCells)
+        × (i < roomIn (now scratch)) ⌝ }
+    ensures { λ n. ⌜
+        (length (now (scratch .exit)) ≡ length (now (scratch .entry)))
+        × ((t : List ℕ) (first : ℕ)
+        → RoleTo (now (links .entry)) (now (matches .entry)) (now (knowing .entry)) (now (attributes .entry))
+        (now (holders .entry)) (now (permissions .entry)) (sizes .users) (sizes .resources) (sizes .operations) t
+        (now (scratch .entry)) role first i lead
+        → RoleTo (now (links .entry)) (now (matches .entry)) (now (knowing .entry)) (now (attributes .entry))
+        (now (holders .entry)) (now (permissions .entry)) (sizes .users) (sizes .resources) (sizes .operations) t
+        (now (scratch .exit)) role first n (lead + 1)) ⌝ }
 {
-    for k in 0..RoleFile::PARTS {
-        let s = seat_of(
+    if grant_parts::is_part(holders, permissions, sizes.operations, role, lead) {
+        let s = words_of(
             links,
             matches,
             knowing,
@@ -150,8 +134,105 @@ pub fn fill<'a>(
             holders,
             permissions,
             sizes,
-            k,
+            role,
+            lead,
+            i,
         );
-        mine_seats::store(scratch, k, s);
+        mine_parts::store(scratch, i, s);
+        return i + 1;
     }
+    i
+}
+
+// Stores the parts of a role from a number on: the number behind the last of them.
+fn fill_role<'a>(
+    scratch: &mut [u64],
+    links: &'a Links,
+    matches: &'a ByPlaceMember,
+    knowing: &'a ByPlace,
+    attributes: &'a CountBySide,
+    holders: &'a ByRole,
+    permissions: &'a ByRoleOperation,
+    sizes: Sizes,
+    role: usize,
+    first: usize,
+) -> usize
+    requires { ⌜
+        WithinLimits sizes
+        × (getD (now attributes) 0 0 ≤ 6)
+        × (getD (now attributes) 1 0 ≤ 6)
+        × (role < 32)
+        × (first + rowCells ≤ roomIn (now scratch)) ⌝ }
+    ensures { λ n. ⌜
+        RoleTo (now (links .entry)) (now (matches .entry)) (now (knowing .entry)) (now (attributes .entry))
+        (now (holders .entry)) (now (permissions .entry)) (sizes .users) (sizes .resources) (sizes .operations)
+        (now (scratch .entry)) (now (scratch .exit)) role first n (sizes .operations) ⌝ }
+{
+    let operations = sizes.operations;
+    let mut n = first;
+    for lead in 0..operations {
+        n = fill_part(
+            scratch,
+            links,
+            matches,
+            knowing,
+            attributes,
+            holders,
+            permissions,
+            sizes,
+            role,
+            lead,
+            n,
+        );
+    }
+    n
+}
+
+// Every part's words, whatever scratch held, and how many parts stand before each role: how many there are. A role that is not there has
+// no holder, and so no part.
+pub fn fill<'a>(
+    scratch: &mut [u64],
+    starts: &mut [usize],
+    links: &'a Links,
+    matches: &'a ByPlaceMember,
+    knowing: &'a ByPlace,
+    attributes: &'a CountBySide,
+    holders: &'a ByRole,
+    permissions: &'a ByRoleOperation,
+    sizes: Sizes,
+) -> usize
+    requires { ⌜
+        WithinLimits sizes
+        × (getD (now attributes) 0 0 ≤ 6)
+        × (getD (now attributes) 1 0 ≤ 6)
+        × (mostParts ≤ roomIn (now scratch))
+        × (length (now starts) ≡ 33) ⌝ }
+    ensures { λ n. ⌜
+        (n ≤ mostParts)
+        × (length (now (scratch .exit)) ≡ length (now (scratch .entry)))
+        × (n ≡ length (partsBefore (now (holders .entry)) (now (permissions .entry)) (sizes .operations) 32))
+        × FilledBy (now (links .entry)) (now (matches .entry)) (now (knowing .entry)) (now (attributes .entry))
+        (now (holders .entry)) (now (permissions .entry)) (sizes .users) (sizes .resources) (sizes .operations)
+        (now (scratch .exit))
+        (partsBefore (now (holders .entry)) (now (permissions .entry)) (sizes .operations) 32)
+        × StartsTo (now (holders .entry)) (now (permissions .entry)) (sizes .operations) (now (starts .exit)) 33 ⌝ }
+{
+    let mut n: usize = 0;
+    for role in 0..RoleFile::ROLES {
+        starts[role] = n;
+        n = fill_role(
+            scratch,
+            links,
+            matches,
+            knowing,
+            attributes,
+            holders,
+            permissions,
+            sizes,
+            role,
+            n,
+        );
+    }
+    starts[RoleFile::ROLES] = n;
+    n
 }

@@ -1,4 +1,3 @@
-pub mod SeatGroups
-pub mod SeatGroupLaws
 pub mod Scratch
+pub mod PartBlockLaws
 pub mod MergedLaws

@@ -1,37 +1,37 @@
 -- The laws of the marks of heads, and which heads are open: those that could be joined with a group.
 -- Assumes nothing.
-use Prim.Native.Nat.{ℕ, _+_, _*_, _/_, _%_, _<_}
-use borrow.Author.Tests.{eqb-true, eqb-false, eq-eqb, ne-eqb}
-use lib.Dec.{eqb}
-use lib.ListN.{length, getD}
+use Prim.Native.Nat.{ℕ, _+_, _*_, _/_, _%_, _-_, _≤_, _<_, min}
+use borrow.Author.Tests.{eqb-true, eqb-false, eq-eqb, ne-eqb, ltb-true, ltb-false, lt-ltb, le-ltb}
+use lib.Dec.{eqb, ltb}
+use lib.ListN.{length, getD, List·getD-eq-default}
 use lib.Seq.{getD-set-same, getD-set-other}
-use mathlib.Core.Bool.{Bool, _&&_, not, _||_, and-true}
+use mathlib.Core.Bool.{Bool, false, _&&_, not, _||_, and-true}
 use mathlib.Core.List.{List}
 use mathlib.Core.Path.{_≡_, sym, ap, _∙_, ap₂}
 use native.Mathlib.Omega.{arith}
 use Rattle.mine_words.specs.AtomLaws.{keeping}
-use Rattle.mine_heads.specs.Heads.{isMarked, unmarked, Marked, Open}
+use Rattle.mine_heads.specs.Heads.{markWords, isHeadOf, isMarked, unmarked, Marked, MarkedBelow, Open}
 use Rattle.mine_corners.specs.Pairing.{reaches}
-use Rattle.mine_seats.specs.Seats.{wordsAt, isHeadAt}
-use Rattle.role_record.specs.Cells.{roleCells}
-use Rattle.sets.specs.MaskLaws.{mask-same}
+use Rattle.mine_parts.specs.Layout.{mostParts, wordsAt, isHeadAt}
+use Rattle.sets.specs.MaskLaws.{mask-same, mask-wide}
 use Rattle.sets.specs.SetLaws.{bit-none, bit-mask}
 use Rattle.sets.specs.Sets.{bit, maskOf}
+use Rattle.sets.specs.Tests.{Is}
 use Rattle.sets.specs.TestLaws.{test, and-l}
 
 -- a set without one member, as the code works it out
 pub mark-out : {w m : ℕ} (old y : ℕ) → w ≡ maskOf 64 (λ k. bit 0 k || eqb k y) → m ≡ maskOf 64 (λ k. bit old k && not (bit w k)) → m ≡ maskOf 64 (λ k. bit old k && not (eqb k y))
 mark-out {w} old y e f = f ∙ mask-same 64 (λ k. bit old k && not (bit w k)) (λ k. bit old k && not (eqb k y)) (λ k l. ap (λ (b : Bool). bit old k && not b) (ap (λ (x : ℕ). bit x k) e ∙ bit-mask 64 (λ k. bit 0 k || eqb k y) k l ∙ ap (λ (b : Bool). b || eqb k y) (bit-none k)))
 
--- seat j is marked no more, and all others are what they were
-pub unmarked-at : (marks : List ℕ) (j k : ℕ) → length marks ≡ 8 → j < roleCells → isMarked (unmarked marks j) k ≡ (isMarked marks k && not (eqb k j))
+-- part j is marked no more, and all others are what they were
+pub unmarked-at : (marks : List ℕ) (j k : ℕ) → length marks ≡ markWords → j < mostParts → isMarked (unmarked marks j) k ≡ (isMarked marks k && not (eqb k j))
 unmarked-at marks j k long l = test (eqb (k / 64) (j / 64)) (λ e. here (eqb-true (k / 64) (j / 64) e)) (λ e. there (eqb-false (k / 64) (j / 64) e))
   where
     word : ℕ
     word = maskOf 64 (λ x. bit (getD marks (j / 64) 0) x && not (eqb x (j % 64)))
 
-    same-seat : k / 64 ≡ j / 64 → eqb (k % 64) (j % 64) ≡ eqb k j
-    same-seat q = test (eqb k j)
+    same-mark : k / 64 ≡ j / 64 → eqb (k % 64) (j % 64) ≡ eqb k j
+    same-mark q = test (eqb k j)
         (λ e. let d = eqb-true k j e in eq-eqb (k % 64) (j % 64) (ap (λ (x : ℕ). x % 64) d) ∙ sym e)
         (λ e. let d = eqb-false k j e in ne-eqb (k % 64) (j % 64) (λ z. omega arith) ∙ sym e)
 
@@ -40,38 +40,81 @@ unmarked-at marks j k long l = test (eqb (k / 64) (j / 64)) (λ e. here (eqb-tru
         ap (λ (x : ℕ). bit (getD (unmarked marks j) x 0) (k % 64)) q
         ∙ ap (λ (x : ℕ). bit x (k % 64)) (getD-set-same marks (j / 64) (maskOf 64 (λ x. bit (getD marks (j / 64) 0) x && not (eqb x (j % 64)))) 0 (omega arith))
         ∙ bit-mask 64 (λ x. bit (getD marks (j / 64) 0) x && not (eqb x (j % 64))) (k % 64) (omega arith)
-        ∙ ap₂ (λ (x : ℕ) (b : Bool). bit (getD marks x 0) (k % 64) && not b) (sym q) (same-seat q)
+        ∙ ap₂ (λ (x : ℕ) (b : Bool). bit (getD marks x 0) (k % 64) && not b) (sym q) (same-mark q)
 
     there : (k / 64 ≡ j / 64 → ⊥) → isMarked (unmarked marks j) k ≡ (isMarked marks k && not (eqb k j))
     there d =
         ap (λ (x : ℕ). bit x (k % 64)) (getD-set-other marks (j / 64) (k / 64) (maskOf 64 (λ x. bit (getD marks (j / 64) 0) x && not (eqb x (j % 64)))) 0 d)
         ∙ sym (ap (λ (b : Bool). isMarked marks k && not b) (ne-eqb k j (λ e. d (ap (λ (x : ℕ). x / 64) e))) ∙ and-true (isMarked marks k))
 
--- the words of all marks
-pub marks-made : (marks t : List ℕ) → length marks ≡ 8 → ((w : ℕ) → w < 8 → getD marks w 0 ≡ maskOf 64 (λ k. isHeadAt t (64 * w + k))) → Marked marks t
-marks-made marks t long words = record {
-  long = long;
-  right = λ k h.
-      let z : 64 * (k / 64) + k % 64 ≡ k = omega arith in
-      ap (λ (x : ℕ). bit x (k % 64)) (words (k / 64) (omega arith)) ∙ bit-mask 64 (λ x. isHeadAt t (64 * (k / 64) + x)) (k % 64) (omega arith) ∙ ap (isHeadAt t) z;
-}
+-- ---- the marks of so many parts
+
+module _ (parts : ℕ) (few : parts ≤ mostParts) (t : List ℕ) where
+  -- what is past the words of marks is not marked, and no part
+  past-marks : (marks : List ℕ) (k : ℕ) → length marks ≡ markWords → mostParts ≤ k → isMarked marks k ≡ isHeadOf parts t k
+  past-marks marks k long h =
+      ap (λ (x : ℕ). bit x (k % 64)) (List·getD-eq-default marks 0 (omega arith)) ∙ bit-none (k % 64)
+      ∙ sym (ap (λ (b : Bool). b && isHeadAt t k) (le-ltb k parts (omega arith)))
+
+  -- the words of all marks
+  pub marks-made : (marks : List ℕ) → length marks ≡ markWords → ((w : ℕ) → w < markWords → getD marks w 0 ≡ maskOf 64 (λ k. isHeadOf parts t (64 * w + k))) → Marked parts marks t
+  marks-made marks long words = record { long = long; right = λ k. test (ltb k mostParts) (λ e. there k (ltb-true k mostParts e)) (λ e. past-marks marks k long (ltb-false k mostParts e)) }
+    where
+      there : (k : ℕ) → k < mostParts → isMarked marks k ≡ isHeadOf parts t k
+      there k h =
+          let z : 64 * (k / 64) + k % 64 ≡ k = omega arith in
+          ap (λ (x : ℕ). bit x (k % 64)) (words (k / 64) (omega arith)) ∙ bit-mask 64 (λ x. isHeadOf parts t (64 * (k / 64) + x)) (k % 64) (omega arith) ∙ ap (isHeadOf parts t) z
+
+  -- the heads of a word
+  pub word-made : {m c : ℕ} (word : ℕ) → c ≡ min 64 (parts - 64 * word) → m ≡ maskOf c (λ k. isHeadAt t (64 * word + k)) → m ≡ maskOf 64 (λ k. isHeadOf parts t (64 * word + k))
+  word-made {m} {c} word e f =
+      f ∙ mask-wide c 64 (λ k. isHeadAt t (64 * word + k)) (omega arith)
+      ∙ mask-same 64 (λ k. ltb k c && isHeadAt t (64 * word + k)) (λ k. isHeadOf parts t (64 * word + k)) (λ k l. ap (λ (b : Bool). b && isHeadAt t (64 * word + k)) (below k l))
+    where
+      below : (k : ℕ) → k < 64 → ltb k c ≡ ltb (64 * word + k) parts
+      below k l = test (ltb k c)
+          (λ q. let h = ltb-true k c q in q ∙ sym (lt-ltb (64 * word + k) parts (omega arith)))
+          (λ q. let h = ltb-false k c q in q ∙ sym (le-ltb (64 * word + k) parts (omega arith)))
 
 -- ---- which heads are open
 
--- before the first turn all seats are left
-pub reaching-begin : (f : ℕ → Bool) (seats : ℕ) → maskOf 64 (keeping f 0 seats) ≡ maskOf 64 (λ k. bit seats k && f k)
-reaching-begin f seats = mask-same 64 (keeping f 0 seats) (λ k. bit seats k && f k) (λ k _. ap (λ (b : Bool). b || (bit seats k && f k)) (bit-none k))
+-- before the first turn all are left
+pub reaching-begin : (f : ℕ → Bool) (marked : ℕ) → maskOf 64 (keeping f 0 marked) ≡ maskOf 64 (λ k. bit marked k && f k)
+reaching-begin f marked = mask-same 64 (keeping f 0 marked) (λ k. bit marked k && f k) (λ k _. ap (λ (b : Bool). b || (bit marked k && f k)) (bit-none k))
+
+-- a word of marks has the parts of its own
+pub word-below : {parts : ℕ} (marks : List ℕ) → MarkedBelow parts marks → (word k room : ℕ) → parts ≤ room → k < 64 → Is (bit (getD marks word 0) k) → 64 * word + k < room
+word-below {parts} marks low word k room r l b =
+    let p : (64 * word + k) / 64 ≡ word = omega arith in
+    let q : (64 * word + k) % 64 ≡ k = omega arith in
+    let h = low (64 * word + k) (ap₂ (λ (x y : ℕ). bit (getD marks x 0) y) p q ∙ b) in
+    omega arith
+
+pub marked-below : {parts : ℕ} {marks t : List ℕ} → Marked parts marks t → MarkedBelow parts marks
+marked-below {parts} {marks} {t} M k m = ltb-true k parts (and-l (ltb k parts) (isHeadAt t k) (sym (M .right k) ∙ m))
+
+pub open-below : {parts : ℕ} {marks t : List ℕ} {c : ℕ} → Open parts marks t c → MarkedBelow parts marks
+open-below {parts} {marks} {t} O k m = ltb-true k parts (and-l (ltb k parts) (isHeadAt t k) (O .heads k m))
 
 -- the words of all marks of heads that reach a group
-pub open-made : (marks new t : List ℕ) (c : ℕ) → Marked marks t → length new ≡ 8 → ((w : ℕ) → w < 8 → getD new w 0 ≡ maskOf 64 (λ k. bit (getD marks w 0) k && reaches (wordsAt t (64 * w + k)) (wordsAt t c))) → Open new t c
-open-made marks new t c M long words = record {
+pub open-made : {parts : ℕ} (marks new t : List ℕ) (c : ℕ) → parts ≤ mostParts → Marked parts marks t → length new ≡ markWords → ((w : ℕ) → w < markWords → getD new w 0 ≡ maskOf 64 (λ k. bit (getD marks w 0) k && reaches (wordsAt t (64 * w + k)) (wordsAt t c))) → Open parts new t c
+open-made {parts} marks new t c few M long words = record {
   long = long;
-  heads = λ k h m. and-l (isHeadAt t k) (reaches (wordsAt t k) (wordsAt t c)) (sym (at k h) ∙ m);
-  far = λ k h d a m. sym (ap (λ (b : Bool). b && reaches (wordsAt t k) (wordsAt t c)) a) ∙ sym (at k h) ∙ m;
+  heads = λ k m. and-l (isHeadOf parts t k) (reaches (wordsAt t k) (wordsAt t c)) (sym (at k) ∙ m);
+  far = λ k d a m. sym (ap (λ (b : Bool). b && reaches (wordsAt t k) (wordsAt t c)) a) ∙ sym (at k) ∙ m;
 }
   where
-    at : (k : ℕ) → k < roleCells → isMarked new k ≡ (isHeadAt t k && reaches (wordsAt t k) (wordsAt t c))
-    at k h =
+    there : (k : ℕ) → k < mostParts → isMarked new k ≡ (isHeadOf parts t k && reaches (wordsAt t k) (wordsAt t c))
+    there k h =
         let z : 64 * (k / 64) + k % 64 ≡ k = omega arith in
         ap (λ (x : ℕ). bit x (k % 64)) (words (k / 64) (omega arith)) ∙ bit-mask 64 (λ x. bit (getD marks (k / 64) 0) x && reaches (wordsAt t (64 * (k / 64) + x)) (wordsAt t c)) (k % 64) (omega arith)
-        ∙ ap₂ (λ (b : Bool) (x : ℕ). b && reaches (wordsAt t x) (wordsAt t c)) (M .right k h) z
+        ∙ ap₂ (λ (b : Bool) (x : ℕ). b && reaches (wordsAt t x) (wordsAt t c)) (M .right k) z
+
+    past : (k : ℕ) → mostParts ≤ k → isMarked new k ≡ (isHeadOf parts t k && reaches (wordsAt t k) (wordsAt t c))
+    past k h = past-marks parts few t new k long h ∙ sym (ap (λ (b : Bool). b && reaches (wordsAt t k) (wordsAt t c)) (none k h) ∙ sym (none k h))
+      where
+        none : (k : ℕ) → mostParts ≤ k → isHeadOf parts t k ≡ false
+        none k h = ap (λ (b : Bool). b && isHeadAt t k) (le-ltb k parts (omega arith))
+
+    at : (k : ℕ) → isMarked new k ≡ (isHeadOf parts t k && reaches (wordsAt t k) (wordsAt t c))
+    at k = test (ltb k mostParts) (λ e. there k (ltb-true k mostParts e)) (λ e. past k (ltb-false k mostParts e))

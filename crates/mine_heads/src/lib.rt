@@ -1,30 +1,44 @@
-// The marks of the heads in scratch memory, and which heads are open: those that could be joined with a group. A bit for each seat, bit
+// The marks of the heads in scratch memory, and which heads are open: those that could be joined with a group. A bit for each part, bit
 // k % 64 of word k / 64.
 ghost use lib.ListN.{length};
 ghost use mathlib.Core.Bool.{_&&_};
 ghost use mathlib.Core.Path.{_≡_};
-ghost use Prim.Native.Nat.{_+_, _*_, _<_};
-ghost use Rattle.mine_heads.specs.Heads.{isMarked, Marked, Open, unmarked};
+ghost use Prim.Native.Nat.{ℕ, _+_, _*_, _-_, _≤_, _<_, min};
+ghost use Rattle.mine_heads.specs.Heads.{markWords, isHeadOf, isMarked, Marked, Open, unmarked};
 ghost use Rattle.mine_corners.specs.Pairing.{wordsIn, reaches};
-ghost use Rattle.mine_seats.specs.Seats.{wordsAt, isHeadAt, scratchWords};
-ghost use Rattle.role_record.specs.Cells.{roleCells};
+ghost use Rattle.mine_parts.specs.Layout.{mostParts, roomIn, wordsAt};
 ghost use Rattle.sets.specs.Sets.{bit, maskOf};
+ghost use Rattle.sets.specs.Tests.{Is};
 use mine_corners::Group;
-use role_record::RoleFile;
 
-// A mark for each seat: 64 in a word.
+// A mark for each part: 64 in a word.
 pub type Marks = [u64; WORDS];
 
-pub const WORDS: usize = RoleFile::PARTS / 64;
+pub const WORDS: usize = mine_parts::MOST / 64;
 
-// The heads among the 64 seats of a word of marks.
-fn heads_in(scratch: &[u64], word: usize) -> u64
-    requires { ⌜ (word < 8) × (length (now scratch) ≡ scratchWords) ⌝ }
-    ensures { λ m. ⌜ m ≡ maskOf 64 (λ k. isHeadAt (now (scratch .entry)) (64 * word + k)) ⌝ }
+// How many of so many parts have their mark in a word.
+fn marks_in(parts: usize, word: usize) -> usize
+    requires { ⌜ word < markWords ⌝ }
+    ensures { λ n. ⌜ n ≡ min 64 (parts - 64 * word) ⌝ }
 {
+    if parts <= 64 * word {
+        return 0;
+    }
+    if 64 <= parts - 64 * word {
+        return 64;
+    }
+    parts - 64 * word
+}
+
+// The heads among the parts of a word of marks.
+fn heads_in(scratch: &[u64], parts: usize, word: usize) -> u64
+    requires { ⌜ (word < markWords) × (parts ≤ roomIn (now scratch)) ⌝ }
+    ensures { λ m. ⌜ m ≡ maskOf 64 (λ k. isHeadOf parts (now (scratch .entry)) (64 * word + k)) ⌝ }
+{
+    let end = marks_in(parts, word);
     let mut m: u64 = 0;
-    for k in 0..64 {
-        if mine_seats::is_head(scratch, 64 * word + k) {
+    for k in 0..end {
+        if mine_parts::is_head(scratch, 64 * word + k) {
             m = sets::with(m, k);
         }
     }
@@ -32,42 +46,43 @@ fn heads_in(scratch: &[u64], word: usize) -> u64
 }
 
 // Marks every head, whatever the table held: bit k % 64 of word k / 64. A slice, since only a slice tells its length to a proof.
-pub fn mark(scratch: &[u64], heads: &mut [u64])
-    requires { ⌜ (length (now heads) ≡ 8) × (length (now scratch) ≡ scratchWords) ⌝ }
-    ensures { λ _. ⌜ Marked (now (heads .exit)) (now (scratch .entry)) ⌝ }
+pub fn mark(scratch: &[u64], parts: usize, heads: &mut [u64])
+    requires { ⌜ (length (now heads) ≡ markWords) × (parts ≤ roomIn (now scratch)) ⌝ }
+    ensures { λ _. ⌜ Marked parts (now (heads .exit)) (now (scratch .entry)) ⌝ }
 {
     for word in 0..WORDS {
-        heads[word] = heads_in(scratch, word);
+        heads[word] = heads_in(scratch, parts, word);
     }
 }
 
-// Whether seat k is marked.
+// Whether part k is marked.
 pub fn is_marked(heads: &Marks, k: usize) -> bool
-    requires { ⌜ k < roleCells ⌝ }
+    requires { ⌜ k < mostParts ⌝ }
     ensures { λ b. ⌜ b ≡ isMarked (now (heads .entry)) k ⌝ }
 {
     sets::has(heads[k / 64], k % 64)
 }
 
-// Slot j is no head any more.
+// Part j is no head any more.
 pub fn unmark(heads: &mut Marks, j: usize)
-    requires { ⌜ j < roleCells ⌝ }
+    requires { ⌜ j < mostParts ⌝ }
     ensures { λ _. ⌜ now (heads .exit) ≡ unmarked (now (heads .entry)) j ⌝ }
 {
     heads[j / 64] = sets::without(heads[j / 64], sets::with(0, j % 64));
 }
 
-// Of these seats of a word of marks those whose group reaches a group.
-fn reaching(scratch: &[u64], seats: u64, word: usize, g: Group) -> u64
-    requires { ⌜ (word < 8) × (length (now scratch) ≡ scratchWords) ⌝ }
+// Of these parts of a word of marks those whose group reaches a group.
+fn reaching(scratch: &[u64], marked: u64, word: usize, g: Group) -> u64
+    requires { ⌜
+        (word < markWords) × ((k : ℕ) → k < 64 → Is (bit marked k) → 64 * word + k < roomIn (now scratch)) ⌝ }
     ensures { λ m. ⌜
-        m ≡ maskOf 64 (λ k. bit seats k && reaches (wordsAt (now (scratch .entry)) (64 * word + k)) (wordsIn g)) ⌝ }
+        m ≡ maskOf 64 (λ k. bit marked k && reaches (wordsAt (now (scratch .entry)) (64 * word + k)) (wordsIn g)) ⌝ }
 {
     let mut m: u64 = 0;
-    let mut rest = seats;
+    let mut rest = marked;
     while 0 < rest {
         let k = sets::least(rest);
-        if mine_corners::reaches(mine_seats::group_at(scratch, 64 * word + k), g) {
+        if mine_corners::reaches(mine_parts::group_at(scratch, 64 * word + k), g) {
             m = sets::with(m, k);
         }
         rest = sets::without_least(rest);
@@ -76,22 +91,22 @@ fn reaching(scratch: &[u64], seats: u64, word: usize, g: Group) -> u64
 }
 
 // Into a slice, since only a slice tells its length to a proof.
-fn fill_open(scratch: &[u64], heads: &Marks, c: usize, ready: &mut [u64])
+fn fill_open(scratch: &[u64], parts: usize, heads: &Marks, c: usize, ready: &mut [u64])
     requires { ⌜
-        (c < roleCells) × (length (now scratch) ≡ scratchWords) × (length (now ready) ≡ 8)
-        × Marked (now heads) (now scratch) ⌝ }
-    ensures { λ _. ⌜ Open (now (ready .exit)) (now (scratch .entry)) c ⌝ }
+        (c < parts) × (parts ≤ roomIn (now scratch)) × (length (now ready) ≡ markWords)
+        × Marked parts (now heads) (now scratch) ⌝ }
+    ensures { λ _. ⌜ Open parts (now (ready .exit)) (now (scratch .entry)) c ⌝ }
 {
-    let g = mine_seats::group_at(scratch, c);
+    let g = mine_parts::group_at(scratch, c);
     for word in 0..WORDS {
         ready[word] = reaching(scratch, heads[word], word, g);
     }
 }
 
-// Marks the heads that reach seat c's group, whatever the table held: no other can be joined with it.
-pub fn mark_open(scratch: &[u64], heads: &Marks, c: usize, ready: &mut Marks)
-    requires { ⌜ (c < roleCells) × (length (now scratch) ≡ scratchWords) × Marked (now heads) (now scratch) ⌝ }
-    ensures { λ _. ⌜ Open (now (ready .exit)) (now (scratch .entry)) c ⌝ }
+// Marks the heads that reach part c's group, whatever the table held: no other can be joined with it.
+pub fn mark_open(scratch: &[u64], parts: usize, heads: &Marks, c: usize, ready: &mut Marks)
+    requires { ⌜ (c < parts) × (parts ≤ roomIn (now scratch)) × Marked parts (now heads) (now scratch) ⌝ }
+    ensures { λ _. ⌜ Open parts (now (ready .exit)) (now (scratch .entry)) c ⌝ }
 {
-    fill_open(scratch, heads, c, ready);
+    fill_open(scratch, parts, heads, c, ready);
 }

@@ -1,92 +1,92 @@
 -- After the filling every part stands alone in scratch memory.
 -- Assumes nothing.
-use Prim.Native.Nat.{ℕ, _^_, _≤_, _<_}
-use borrow.Author.Tests.{eqb-true, eq-eqb, ne-eqb, ltb-true}
-use lib.Dec.{eqb, ltb}
+use Prim.Native.Nat.{ℕ, _^_, _<_}
+use borrow.Author.Tests.{eqb-true, eq-eqb}
+use lib.Dec.{eqb}
 use lib.ListN.{length}
-use mathlib.Core.Bool.{Bool, true, false, cond, _&&_, _||_, not, or-false}
+use mathlib.Core.Bool.{Bool, true, cond, or-false}
 use mathlib.Core.List.{List, [], _∷_}
-use mathlib.Core.Path.{_≡_, refl, sym, ap, ap₂, _∙_}
+use mathlib.Core.Path.{_≡_, sym, ap, ap₂, _∙_, subst}
 use native.Mathlib.Omega.{arith}
-use Rattle.mine_theory.specs.Search.Frontier.{Seats}
 use Rattle.grant_grids.specs.Links.{linksOf}
-use Rattle.mine_words.specs.PartWordLaws.{table-words}
-use Rattle.grant_parts.specs.PartTableLaws.{part-shown}
-use Rattle.grant_parts.specs.Parts.{isPartIn}
-use Rattle.role_record.specs.Cells.{cellRow, cellOperation, roleCells}
-use Rattle.role_record.specs.Record.{Sized, recordWith, recordOf}
-use Rattle.mine_merge.specs.PairLaws.{users-some, level-most}
+use Rattle.grant_parts.specs.PartTableLaws.{part-role, part-lead}
+use Rattle.mine_fill.specs.Fill.{partsBefore, partWords, levelFor, FilledWith, FilledBy}
+use Rattle.mine_groups.specs.PartBlockLaws.{block-fits, block-some, one-block}
+use Rattle.mine_groups.specs.Scratch.{blocksOf}
+use Rattle.mine_merge.specs.FilledLaws.{count-tabled, part-tabled}
+use Rattle.mine_merge.specs.PairLaws.{level-most}
 use Rattle.mine_merge.specs.Steps.{Tables}
-use Rattle.mine_merge.specs.Traced.{tracedTo, Traced}
-use Rattle.mine_fill.specs.Fill.{seatIn, seatWords, partLevel, FilledTo}
+use Rattle.mine_merge.specs.Traced.{Traced}
 use Rattle.mine_pairs.specs.PairLevelLaws.{group-means}
 use Rattle.mine_pairs.specs.PairLevels.{groupLevel}
-use Rattle.policy.specs.Covering.{fits, levelOf}
-use Rattle.policy.specs.Merging.{union}
-use Rattle.policy.specs.Policy.{Policy, settingOf}
-use Rattle.policy.specs.Rules.{Block, Some}
-use Rattle.mine_seats.specs.SeatLaws.{atoms-packed, level-packed, head-packed}
-use Rattle.mine_seats.specs.Seats.{usersAt, restAt, atomsIn, levelIn, headIn, restOf, wordsAt, isPartAt, scratchWords}
-use Rattle.sets.specs.MaskLaws.{mask-lt}
-use Rattle.sets.specs.TestLaws.{never, test, and-third}
-use Rattle.sets.specs.Tests.{Is, elem}
-use Rattle.mine_groups.specs.SeatGroupLaws.{seat-part, block-fits, block-some, one-block}
-use Rattle.mine_groups.specs.SeatGroups.{seatPart, isSeat, seatBlock}
+use Rattle.mine_parts.specs.Layout.{usersAt, resourcesAt, operationsAt, restAt, atomsIn, levelIn, nameIn, headIn, restOf, nameOf, wordsAt}
+use Rattle.mine_parts.specs.LayoutLaws.{atoms-packed, level-packed, name-packed, head-packed, name-low, named-so}
+use Rattle.mine_theory.specs.Search.Frontier.{Groups}
 use Rattle.mine_theory.specs.Words.WordLaws.{words-same}
 use Rattle.mine_theory.specs.Words.Words.{Words, wordsOf}
+use Rattle.mine_words.specs.PartWordLaws.{table-words}
+use Rattle.policy.specs.ClassLaws.{part-in}
+use Rattle.policy.specs.Covering.{fits, levelOf}
+use Rattle.policy.specs.Merging.{union}
+use Rattle.policy.specs.Mined.{partCount, partAt, partBlock}
+use Rattle.policy.specs.Policy.{Policy, settingOf, rolesIn}
+use Rattle.policy.specs.Roles.{Part, parts}
+use Rattle.policy.specs.Rules.{Block, Some}
+use Rattle.role_record.specs.Record.{Sized, recordOf}
+use Rattle.sets.specs.MaskLaws.{mask-lt}
+use Rattle.sets.specs.Tests.{Is, _isIn_, elem}
 
 -- every part alone
-unfoldable pub alone : Policy → Seats (List ℕ)
-alone F = record { alive = isSeat F; group = λ i. i ∷ [] }
+unfoldable pub alone : Groups (List ℕ)
+alone = record { alive = λ i. true; group = λ i. i ∷ [] }
 
-module _ (F : Policy) (Z : Sized F) where
-  -- the record has these numbers
-  roles-same : recordOf F .roles ≡ F .roles
-  unfolding recordOf recordWith
-  roles-same = refl
+-- the words of a part
+part-words : (F : Policy) → Sized F → (k : ℕ) → k < partCount (settingOf F) (rolesIn F)
+    → partWords (linksOf F) (recordOf F .attributes) (recordOf F .holders) (recordOf F .permissions) (recordOf F .operations) (partAt (settingOf F) (rolesIn F) k) ≡ wordsOf (settingOf F) (union (settingOf F) (blocksOf F) (k ∷ []))
+unfolding partWords partBlock
+part-words F Z k h = table-words F Z (partAt (settingOf F) (rolesIn F) k) (part-in (settingOf F) (rolesIn F) k h) ∙ sym (ap (wordsOf (settingOf F)) (one-block F k))
 
-  operations-same : recordOf F .operations ≡ F .operations
-  unfolding recordOf recordWith
-  operations-same = refl
-
-  -- the tables say which seats have parts
-  seat-means : (k : ℕ) → k < roleCells → seatIn (recordOf F .holders) (recordOf F .permissions) (recordOf F .operations) (recordOf F .roles) k ≡ isSeat F k
-  unfolding seatIn isSeat
-  seat-means k h =
-      ap₂ (λ (a b : ℕ). ltb (cellRow k) a && (ltb (cellOperation k) b && isPartIn (recordOf F .holders) (recordOf F .permissions) (recordOf F .operations) (cellRow k) (cellOperation k))) roles-same operations-same
-      ∙ and-third (ltb (cellRow k) (F .roles)) (ltb (cellOperation k) (F .operations)) _ _ (λ a b. part-shown F Z (cellRow k) (cellOperation k) (omega arith) (ltb-true (cellOperation k) (F .operations) b))
-
-  -- the words of a part
-  part-words : (k : ℕ) → Is (isSeat F k) → seatWords (linksOf F) (recordOf F .attributes) (recordOf F .holders) (recordOf F .permissions) (recordOf F .operations) k ≡ wordsOf (settingOf F) (union (settingOf F) (seatBlock F) (k ∷ []))
-  unfolding seatWords seatBlock
-  part-words k p = table-words F Z (seatPart k) (seat-part F k p) ∙ sym (ap (wordsOf (settingOf F)) (one-block F k))
-
-module _ (F : Policy) (Z : Sized F) {links matches known attributes holders permissions : List ℕ} {users resources operations roles : ℕ} (T : Tables F links matches known attributes holders permissions users resources operations roles) (t : List ℕ) (long : length t ≡ scratchWords) (f : FilledTo links matches known attributes holders permissions users resources operations roles t roleCells) where
+module _ (F : Policy) (Z : Sized F) {links matches known attributes holders permissions : List ℕ} {users resources operations roles : ℕ} (T : Tables F links matches known attributes holders permissions users resources operations roles) (n : ℕ) (t : List ℕ) (e : n ≡ length (partsBefore holders permissions operations 32)) (f : FilledBy links matches known attributes holders permissions users resources operations t (partsBefore holders permissions operations 32)) where
   abbrev block : ℕ → Block
-  block k = union (settingOf F) (seatBlock F) (k ∷ [])
+  block k = union (settingOf F) (blocksOf F) (k ∷ [])
 
-  here-seat : (k : ℕ) → k < roleCells → seatIn holders permissions operations roles k ≡ isSeat F k
-  here-seat k h = rw (T .of-holders, T .of-permissions, T .of-operations, T .of-roles) (seat-means F Z k h)
+  abbrev part : ℕ → Part
+  part = partAt (settingOf F) (rolesIn F)
 
-  here-words : (k : ℕ) → Is (isSeat F k) → seatWords links attributes holders permissions operations k ≡ wordsOf (settingOf F) (block k)
-  here-words k p = rw (T .of-links, T .of-attributes, T .of-holders, T .of-permissions, T .of-operations) (part-words F Z k p)
+  counted : n ≡ partCount (settingOf F) (rolesIn F)
+  counted = e ∙ rw (T .of-holders, T .of-permissions, T .of-operations) (count-tabled F Z)
 
-  here-fits : (k : ℕ) → Is (isSeat F k) → Is (fits (settingOf F) (block k) 3)
-  here-fits k p = rw (one-block F k) (block-fits F k p)
+  below : (k : ℕ) → k < n → k < partCount (settingOf F) (rolesIn F)
+  below k h = let c = counted in omega arith
 
-  here-some : (k : ℕ) → Is (isSeat F k) → Some (settingOf F) (block k)
-  here-some k p = rw (one-block F k) (block-some F k p)
+  listed : (k : ℕ) → k < n → part k isIn parts (settingOf F) (rolesIn F)
+  listed k h = part-in (settingOf F) (rolesIn F) k (below k h)
 
-  here-level : (k : ℕ) → Is (isSeat F k) → partLevel links matches known attributes holders permissions users resources operations roles k ≡ levelOf (settingOf F) (block k)
-  here-level k p =
-      ap (groupLevel links matches known attributes users resources operations) (here-words k p)
-      ∙ rw (T .of-links, T .of-matches, T .of-known, T .of-attributes, T .of-users, T .of-resources, T .of-operations) (group-means F Z (block k) (here-fits k p))
+  filled : (k : ℕ) → k < n → FilledWith links matches known attributes holders permissions users resources operations (part k) k (usersAt t k) (resourcesAt t k) (operationsAt t k) (restAt t k)
+  filled k h =
+      subst (λ (p : Part). FilledWith links matches known attributes holders permissions users resources operations p k (usersAt t k) (resourcesAt t k) (operationsAt t k) (restAt t k))
+      (rw (T .of-holders, T .of-permissions, T .of-operations) (part-tabled F Z k)) (f k (omega arith))
 
-  -- the last word of a seat with a part
-  here-rest : (k : ℕ) → k < roleCells → Is (isSeat F k) → restAt t k ≡ restOf (wordsOf (settingOf F) (block k) .atoms) (levelOf (settingOf F) (block k)) k
-  here-rest k h p =
-      f k h .rest-in ∙ ap (λ (b : Bool). cond b (restOf (seatWords links attributes holders permissions operations k .atoms) (partLevel links matches known attributes holders permissions users resources operations roles k) k) 0) (here-seat k h ∙ p)
-      ∙ ap₂ (λ (a l : ℕ). restOf a l k) (ap (λ (W : Words). W .atoms) (here-words k p)) (here-level k p)
+  here-words : (k : ℕ) → k < n → partWords links attributes holders permissions operations (part k) ≡ wordsOf (settingOf F) (block k)
+  here-words k h = rw (T .of-links, T .of-attributes, T .of-holders, T .of-permissions, T .of-operations) (part-words F Z k (below k h))
+
+  here-fits : (k : ℕ) → k < n → Is (fits (settingOf F) (block k) 3)
+  here-fits k h = rw (one-block F k) (block-fits F k (below k h))
+
+  here-some : (k : ℕ) → k < n → Some (settingOf F) (block k)
+  here-some k h = rw (one-block F k) (block-some F k (below k h))
+
+  here-level : (k : ℕ) → k < n → levelFor links matches known attributes holders permissions users resources operations (part k) ≡ levelOf (settingOf F) (block k)
+  here-level k h =
+      ap (groupLevel links matches known attributes users resources operations) (here-words k h)
+      ∙ rw (T .of-links, T .of-matches, T .of-known, T .of-attributes, T .of-users, T .of-resources, T .of-operations) (group-means F Z (block k) (here-fits k h))
+
+  abbrev name : ℕ → ℕ
+  name k = nameOf (part k .role) (part k .lead)
+
+  -- the last word of a part
+  here-rest : (k : ℕ) → k < n → restAt t k ≡ restOf (wordsOf (settingOf F) (block k) .atoms) (levelOf (settingOf F) (block k)) (name k) k
+  here-rest k h = filled k h .rest-in ∙ ap₂ (λ (a l : ℕ). restOf a l (name k) k) (ap (λ (W : Words). W .atoms) (here-words k h)) (here-level k h)
 
   few : (k : ℕ) → wordsOf (settingOf F) (block k) .atoms < 2 ^ 36
   unfolding wordsOf
@@ -95,49 +95,30 @@ module _ (F : Policy) (Z : Sized F) {links matches known attributes holders perm
   low : (k : ℕ) → levelOf (settingOf F) (block k) < 4
   low k = let m = level-most (settingOf F) (block k) in omega arith
 
-  shown-words : (k : ℕ) → k < roleCells → Is (isSeat F k) → wordsAt t k ≡ wordsOf (settingOf F) (block k)
-  shown-words k h p =
-      words-same (f k h .users-in ∙ ap (λ (b : Bool). cond b (seatWords links attributes holders permissions operations k .users) 0) (here-seat k h ∙ p))
-      (f k h .resources-in ∙ ap (λ (b : Bool). cond b (seatWords links attributes holders permissions operations k .resources) 0) (here-seat k h ∙ p))
-      (f k h .operations-in ∙ ap (λ (b : Bool). cond b (seatWords links attributes holders permissions operations k .ops) 0) (here-seat k h ∙ p))
-      (ap atomsIn (here-rest k h p) ∙ atoms-packed (wordsOf (settingOf F) (block k) .atoms) (levelOf (settingOf F) (block k)) k (few k) (low k) ∙ sym (ap (λ (W : Words). W .atoms) (here-words k p)))
-      ∙ here-words k p
+  short : (k : ℕ) → k < n → name k < 2 ^ 11
+  short k h = name-low (part k .role) (part k .lead) (part-role F Z (listed k h)) (part-lead F Z (listed k h))
 
-  shown-head : (k : ℕ) → k < roleCells → Is (isSeat F k) → headIn (restAt t k) ≡ k
-  shown-head k h p = ap headIn (here-rest k h p) ∙ head-packed (wordsOf (settingOf F) (block k) .atoms) (levelOf (settingOf F) (block k)) k (few k) (low k)
+  shown-words : (k : ℕ) → k < n → wordsAt t k ≡ wordsOf (settingOf F) (block k)
+  shown-words k h =
+      words-same (filled k h .users-in) (filled k h .resources-in) (filled k h .operations-in)
+      (ap atomsIn (here-rest k h) ∙ atoms-packed (wordsOf (settingOf F) (block k) .atoms) (levelOf (settingOf F) (block k)) (name k) k (few k) (low k) (short k h) ∙ sym (ap (λ (W : Words). W .atoms) (here-words k h)))
+      ∙ here-words k h
 
-  -- a seat has users where it has a part
-  shown-seats : (k : ℕ) → k < roleCells → isPartAt t k ≡ isSeat F k
-  shown-seats k h = test (isSeat F k)
-      (λ p. ap not (ne-eqb (usersAt t k) 0 (λ e. users-some (settingOf F) (block k) (here-some k p) (sym (ap (λ (W : Words). W .users) (shown-words k h p)) ∙ e))) ∙ sym p)
-      (λ p. ap not (eq-eqb (usersAt t k) 0 (f k h .users-in ∙ ap (λ (b : Bool). cond b (seatWords links attributes holders permissions operations k .users) 0) (here-seat k h ∙ p))) ∙ sym p)
-
-  own : (k : ℕ) → k < roleCells → (b : Bool) → isSeat F k ≡ b → (b && eqb (headIn (restAt t k)) k) ≡ b
-  own k h true q = eq-eqb (headIn (restAt t k)) k (shown-head k h q)
-  own k h false q = refl
-
-  shown-members : (i k : ℕ) → k < roleCells → Is (isSeat F i) → (eqb k i || false) ≡ tracedTo t (i ∷ []) i k
-  shown-members i k h p = or-false (eqb k i) ∙ sym (ap (λ (b : Bool). b && cond (eqb (headIn (restAt t k)) k) (eqb k i) (elem (headIn (restAt t k)) (i ∷ []))) (shown-seats k h) ∙ by-part (isSeat F k) refl)
-    where
-      by-part : (b : Bool) → isSeat F k ≡ b → (b && cond (eqb (headIn (restAt t k)) k) (eqb k i) (elem (headIn (restAt t k)) (i ∷ []))) ≡ eqb k i
-      by-part true q = rw (eq-eqb (headIn (restAt t k)) k (shown-head k h q)) refl
-      by-part false q = sym (ne-eqb k i (λ e. never p (ap (isSeat F) (sym e) ∙ q)))
-
-  shown-earlier : (k : ℕ) → k < roleCells → Is (isPartAt t k) → (headIn (restAt t k) ≤ k) × Is (isPartAt t (headIn (restAt t k)))
-  shown-earlier k h p = let e = shown-head k h (sym (shown-seats k h) ∙ p) in (omega arith, ap (isPartAt t) e ∙ p)
+  shown-head : (k : ℕ) → k < n → headIn (restAt t k) ≡ k
+  shown-head k h = ap headIn (here-rest k h) ∙ head-packed (wordsOf (settingOf F) (block k) .atoms) (levelOf (settingOf F) (block k)) (name k) k (few k) (low k) (short k h)
 
   -- THE LAW of the filling
-  pub alone-traced : Traced F t (alone F)
+  pub alone-traced : Traced F n t alone
   unfolding alone
   alone-traced = record {
-    long = long;
-    seats = shown-seats;
-    heads = λ k h. ap (λ (b : Bool). b && eqb (headIn (restAt t k)) k) (shown-seats k h) ∙ own k h (isSeat F k) refl;
-    words = shown-words;
-    level = λ k h p. ap levelIn (here-rest k h p) ∙ level-packed (wordsOf (settingOf F) (block k) .atoms) (levelOf (settingOf F) (block k)) k (few k) (low k);
-    fitting = λ k h p. here-fits k p;
-    filled = λ k h p. here-some k p;
-    earlier = shown-earlier;
-    members = λ i k _ h p. shown-members i k h p;
-    low = λ i k h p q. let e = eqb-true k i (sym (or-false (eqb k i)) ∙ q) in omega arith;
+    all = counted;
+    named = λ k h. named-so (part k .role) (part k .lead) (part-role F Z (listed k h)) (part-lead F Z (listed k h)) t k (ap nameIn (here-rest k h) ∙ name-packed (wordsOf (settingOf F) (block k) .atoms) (levelOf (settingOf F) (block k)) (name k) k (few k) (low k) (short k h));
+    heads = λ k h. eq-eqb (headIn (restAt t k)) k (shown-head k h);
+    words = λ k h p. shown-words k h;
+    level = λ k h p. ap levelIn (here-rest k h) ∙ level-packed (wordsOf (settingOf F) (block k) .atoms) (levelOf (settingOf F) (block k)) (name k) k (few k) (low k) (short k h);
+    fitting = λ k h p. here-fits k h;
+    filled = λ k h p. here-some k h;
+    earlier = λ k h. let s = shown-head k h in omega arith;
+    members = λ i k _ h p. or-false (eqb k i) ∙ sym (ap (λ (b : Bool). cond b (eqb k i) (elem (headIn (restAt t k)) (i ∷ []))) (eq-eqb (headIn (restAt t k)) k (shown-head k h)));
+    low = λ i k h p q. let s = eqb-true k i (sym (or-false (eqb k i)) ∙ q) in omega arith;
   }

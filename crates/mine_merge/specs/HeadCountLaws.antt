@@ -12,9 +12,8 @@ use native.Mathlib.Omega.{arith}
 use Rattle.mine_merge.specs.Steps.{headCount}
 use Rattle.mine_join.specs.JoinedLaws.{joined-head}
 use Rattle.mine_join.specs.Joins.{Joined}
-use Rattle.mine_seats.specs.Seats.{isHeadAt}
-use Rattle.role_record.specs.Cells.{roleCells}
-use Rattle.sets.specs.ListLaws.{keep-most}
+use Rattle.mine_parts.specs.Layout.{isHeadAt}
+use Rattle.sets.specs.ListLaws.{keep-most, from-length}
 use Rattle.sets.specs.TestLaws.{never, and-l, upTo-in}
 use Rattle.sets.specs.Tests.{Is, keep, upTo, _isIn_}
 
@@ -43,19 +42,19 @@ keep-fewer f g (x ∷ xs) j m h p q = here (List·Memᴰ·cases-cons m) (λ k. k
     here (inl e) r = let most = keep-within f g xs (λ k m. h k (List·Memᴰ·tail m)) in rw (← e, p, q) (omega arith)
     here (inr k) r = go (f x) (g x) (h x (List·Memᴰ·head refl)) (r k)
 
--- at most as many as there are seats
-pub heads-most : (t : List ℕ) → headCount t ≤ roleCells
+-- at most as many as there are parts
+pub heads-most : (parts : ℕ) (t : List ℕ) → headCount parts t ≤ parts
 unfolding headCount
-heads-most t = keep-most (isHeadAt t) (upTo roleCells)
+heads-most parts t = let m = keep-most (isHeadAt t) (upTo parts) in let n = from-length 0 parts in omega (arith, m, n)
 
 -- with none merged yet
-pub heads-first : (t : List ℕ) → 0 + headCount t ≤ roleCells
-heads-first t = let m = heads-most t in omega arith
+pub heads-first : (parts : ℕ) (t : List ℕ) → 0 + headCount parts t ≤ parts
+heads-first parts t = let m = heads-most parts t in omega arith
 
 -- a join leaves fewer heads
-pub heads-fewer : {t u : List ℕ} {i j level : ℕ} → i < j → Joined t u i j level → Is (isHeadAt t i) → j < roleCells → Is (isHeadAt t j) → suc (headCount u) ≤ headCount t
+pub heads-fewer : {t u : List ℕ} {parts i j level : ℕ} → i < j → Joined t u i j level → Is (isHeadAt t i) → j < parts → Is (isHeadAt t j) → suc (headCount parts u) ≤ headCount parts t
 unfolding headCount
-heads-fewer {t} {u} {i} {j} order J a l b =
-    keep-fewer (isHeadAt t) (isHeadAt u) (upTo roleCells) j (upTo-in l)
+heads-fewer {t} {u} {parts} {i} {j} order J a l b =
+    keep-fewer (isHeadAt t) (isHeadAt u) (upTo parts) j (upTo-in l)
     (λ k m p. and-l (isHeadAt t k) (not (eqb k j)) (sym (joined-head order J a k) ∙ p)) b
     (joined-head order J a j ∙ ap (λ (b : Bool). isHeadAt t j && not b) (eq-eqb j j refl) ∙ and-false (isHeadAt t j))

@@ -4,6 +4,7 @@ pub mod Progress
 pub mod HeadCountLaws
 pub mod PairLaws
 pub mod JoinLaws
+pub mod FilledLaws
 pub mod AloneLaws
 pub mod ResolveLaws
 pub mod ProgressLaws

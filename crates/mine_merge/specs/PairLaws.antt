@@ -7,34 +7,23 @@ use mathlib.Core.Bool.{Bool, true, false, cond, _&&_}
 use mathlib.Core.List.{List, _++_}
 use mathlib.Core.Path.{_≡_, refl, ap, ap₂, _∙_}
 use native.Mathlib.Omega.{arith}
-use Rattle.mine_theory.specs.Search.Frontier.{Seats, okAt}
-use Rattle.role_record.specs.Cells.{roleCells}
+use Rattle.mine_theory.specs.Search.Frontier.{Groups, okAt}
 use Rattle.role_record.specs.Record.{Sized}
 use Rattle.mine_merge.specs.Steps.{Paired}
 use Rattle.mine_merge.specs.Traced.{Traced}
 use Rattle.mine_search.specs.PartnerSearch.{joinedLevel, pairAt}
 use Rattle.mine_pairs.specs.PairLevelLaws.{pairLevelIn, groups-mean}
 use Rattle.mine_pairs.specs.PairLevels.{pairLevel}
-use Rattle.policy.specs.Covering.{standsIn, levelOf}
-use Rattle.policy.specs.CoverLaws.{pair-in, stands-in}
+use Rattle.policy.specs.Covering.{levelOf}
 use Rattle.policy.specs.Merging.{union, mergeable}
 use Rattle.policy.specs.Policy.{Policy, settingOf}
-use Rattle.policy.specs.Rules.{Setting, Block, Some, user}
-use Rattle.mine_seats.specs.Seats.{restAt, levelIn, wordsAt}
+use Rattle.policy.specs.Rules.{Setting, Block}
+use Rattle.mine_parts.specs.Layout.{restAt, levelIn, wordsAt}
 use Rattle.sets.specs.LowestLaws.{lowest-most}
-use Rattle.sets.specs.SetLaws.{bit-none, bit-mask}
-use Rattle.sets.specs.Sets.{bit}
-use Rattle.sets.specs.TestLaws.{never, and-third}
+use Rattle.sets.specs.TestLaws.{and-third}
 use Rattle.sets.specs.Tests.{Is}
-use Rattle.mine_groups.specs.SeatGroups.{seatBlock}
-use Rattle.mine_theory.specs.Words.Words.{Words, wordsOf}
-
--- a set of triples that is not empty has users
-pub users-some : (P : Setting) (B : Block) → Some P B → wordsOf P B .users ≡ 0 → ⊥
-unfolding wordsOf
-users-some P B s e =
-    never (bit-mask (P .side user .count) (standsIn P B user) (s .u) (s .triple .user) ∙ stands-in P B user (s .triple .user) (s .triple .resource) (pair-in P B (s .triple .op) (s .inside)))
-    (ap (λ (m : ℕ). bit m (s .u)) e ∙ bit-none (s .u))
+use Rattle.mine_groups.specs.Scratch.{blocksOf}
+use Rattle.mine_theory.specs.Words.Words.{Words}
 
 -- a level is no higher than 3
 pub level-most : (P : Setting) (B : Block) → levelOf P B ≤ 3
@@ -51,23 +40,23 @@ same-level : (links matches known attributes : List ℕ) (users resources operat
     → pairLevel links matches known attributes users resources operations U X k ≡ pairLevel links matches known attributes users resources operations W Y l
 same-level links matches known attributes users resources operations p q r = rw (p, q, r) refl
 
-module _ (F : Policy) (Z : Sized F) (links matches known attributes : List ℕ) (users resources operations : ℕ) (T : Paired F links matches known attributes users resources operations) (t : List ℕ) (s : Seats (List ℕ)) (S : Traced F t s) where
+module _ (F : Policy) (Z : Sized F) (links matches known attributes : List ℕ) (users resources operations : ℕ) (T : Paired F links matches known attributes users resources operations) (parts : ℕ) (t : List ℕ) (s : Groups (List ℕ)) (S : Traced F parts t s) where
   policy-tables : (i j : ℕ) → joinedLevel links matches known attributes users resources operations t i j ≡ pairLevelIn F (wordsAt t i) (wordsAt t j) (max (levelIn (restAt t i)) (levelIn (restAt t j)))
   unfolding joinedLevel
   policy-tables i j = rw (T .of-links, T .of-matches, T .of-known, T .of-attributes, T .of-users, T .of-resources, T .of-operations) refl
 
   -- the level of two groups together, where they may be joined
-  pub level-means : (i j : ℕ) → i < roleCells → j < roleCells → Is (s .alive i) → Is (s .alive j)
-      → joinedLevel links matches known attributes users resources operations t i j ≡ cond (mergeable (settingOf F) (seatBlock F) (s .group i) (s .group j)) (levelOf (settingOf F) (union (settingOf F) (seatBlock F) (s .group i ++ s .group j))) 4
+  pub level-means : (i j : ℕ) → i < parts → j < parts → Is (s .alive i) → Is (s .alive j)
+      → joinedLevel links matches known attributes users resources operations t i j ≡ cond (mergeable (settingOf F) (blocksOf F) (s .group i) (s .group j)) (levelOf (settingOf F) (union (settingOf F) (blocksOf F) (s .group i ++ s .group j))) 4
   level-means i j hi hj ai aj =
       policy-tables i j
       ∙ same-level _ _ _ _ _ _ _ (S .words i hi ai) (S .words j hj aj) (ap₂ max (S .level i hi ai) (S .level j hj aj))
-      ∙ groups-mean F Z (seatBlock F) (s .group i) (s .group j) (S .filled i hi ai) (S .filled j hj aj) (S .fitting i hi ai) (S .fitting j hj aj)
+      ∙ groups-mean F Z (blocksOf F) (s .group i) (s .group j) (S .filled i hi ai) (S .filled j hj aj) (S .fitting i hi ai) (S .fitting j hj aj)
 
   -- THE LAW of pairs
-  pub pair-means : (i j : ℕ) → i < roleCells → j < roleCells → pairAt links matches known attributes users resources operations t i j ≡ okAt (mergeable (settingOf F) (seatBlock F)) s i j
+  pub pair-means : (i j : ℕ) → i < parts → j < parts → pairAt links matches known attributes users resources operations t i j ≡ okAt (mergeable (settingOf F) (blocksOf F)) s i j
   unfolding pairAt okAt
   pair-means i j hi hj =
       ap₂ (λ (a b : Bool). a && (b && ltb (joinedLevel links matches known attributes users resources operations t i j) 4)) (S .heads i hi) (S .heads j hj)
       ∙ and-third (s .alive i) (s .alive j) _ _ (λ ai aj. ap (λ (l : ℕ). ltb l 4) (level-means i j hi hj ai aj)
-      ∙ low-level (mergeable (settingOf F) (seatBlock F) (s .group i) (s .group j)) (levelOf (settingOf F) (union (settingOf F) (seatBlock F) (s .group i ++ s .group j))) (level-most (settingOf F) (union (settingOf F) (seatBlock F) (s .group i ++ s .group j))))
+      ∙ low-level (mergeable (settingOf F) (blocksOf F) (s .group i) (s .group j)) (levelOf (settingOf F) (union (settingOf F) (blocksOf F) (s .group i ++ s .group j))) (level-most (settingOf F) (union (settingOf F) (blocksOf F) (s .group i ++ s .group j))))

@@ -5,11 +5,10 @@ use lib.ListN.{length}
 use mathlib.Core.List.{List}
 use mathlib.Core.Path.{_≡_}
 use Rattle.grant_grids.specs.Links.{linksOf}
-use Rattle.role_record.specs.Cells.{roleCells}
 use Rattle.role_record.specs.Record.{recordOf}
 use Rattle.mine_matches.specs.Matches.{knownIn, matchesIn}
 use Rattle.policy.specs.Policy.{Policy}
-use Rattle.mine_seats.specs.Seats.{isHeadAt}
+use Rattle.mine_parts.specs.Layout.{isHeadAt}
 use Rattle.sets.specs.Tests.{keep, upTo}
 
 -- the tables by which pairs are tested are those of the policy
@@ -35,6 +34,6 @@ pub record Tables (F : Policy) (links matches known attributes holders permissio
   pub of-operations : operations ≡ recordOf F .operations
   pub of-roles : roles ≡ recordOf F .roles
 
--- how many groups there are
-unfoldable pub headCount : List ℕ → ℕ
-headCount t = length (keep (isHeadAt t) (upTo roleCells))
+-- how many groups of so many parts there are
+unfoldable pub headCount : ℕ → List ℕ → ℕ
+headCount parts t = length (keep (isHeadAt t) (upTo parts))

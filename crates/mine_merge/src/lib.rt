@@ -2,16 +2,16 @@
 ghost use lib.ListN.{length, getD};
 ghost use mathlib.Core.Path.{_≡_};
 ghost use Prim.Native.Nat.{ℕ, _+_, _≤_, _<_};
-ghost use Rattle.mine_seats.specs.Seats.{scratchWords};
-ghost use Rattle.role_record.specs.Cells.{roleCells};
+ghost use Rattle.mine_parts.specs.Layout.{mostParts, roomIn, restAt, nameIn};
 ghost use Rattle.role_record.specs.Record.{Sized, WithinLimits};
 ghost use Rattle.mine_merge.specs.Progress.{Settled};
 ghost use Rattle.mine_merge.specs.Steps.{Paired, Tables, headCount};
 ghost use Rattle.mine_heads.specs.Heads.{Marked};
-ghost use Rattle.policy.specs.Policy.{Policy};
-ghost use Rattle.mine_groups.specs.Scratch.{Merged};
-ghost use Rattle.mine_groups.specs.SeatGroups.{seatMerges};
+ghost use Rattle.policy.specs.Mined.{mergeCount};
+ghost use Rattle.policy.specs.Policy.{Policy, settingOf, rolesIn};
+ghost use Rattle.mine_groups.specs.Scratch.{Merged, allParts, Stands};
 use mine_heads::Marks;
+use mine_parts::Starts;
 use mine_search::Seeking;
 use role_record::ByPlace;
 use role_record::ByPlaceMember;
@@ -22,10 +22,11 @@ use role_record::Links;
 use role_record::RoleFile;
 use role_record::Sizes;
 
-// Joins the group of seat `start` with the first seat that it may be joined with, and what comes of it likewise, until there is none: how
-// many joins were made. No pair of earlier seats is left before, so that at first only the seats behind `start` are tried.
+// Joins the group of head `start` with the first head that it may be joined with, and what comes of it likewise, until there is none: how
+// many joins were made. No pair of earlier heads is left before, so that at first only the heads behind `start` are tried.
 fn settle_head<'a>(
     scratch: &mut [u64],
+    parts: usize,
     heads: &mut Marks,
     links: &'a Links,
     matches: &'a ByPlaceMember,
@@ -38,32 +39,35 @@ fn settle_head<'a>(
         WithinLimits sizes
         × (getD (now attributes) 0 0 ≤ 6)
         × (getD (now attributes) 1 0 ≤ 6)
-        × (start < roleCells)
-        × (length (now scratch) ≡ scratchWords)
-        × Marked (now heads) (now scratch) ⌝ }
+        × (start < parts)
+        × (parts ≤ roomIn (now scratch))
+        × Marked parts (now heads) (now scratch) ⌝ }
     ensures { λ n. ⌜
-        (length (now (scratch .exit)) ≡ scratchWords)
-        × (n + headCount (now (scratch .exit)) ≤ headCount (now (scratch .entry)))
-        × Marked (now (heads .exit)) (now (scratch .exit))
+        (length (now (scratch .exit)) ≡ length (now (scratch .entry)))
+        × (n + headCount parts (now (scratch .exit)) ≤ headCount parts (now (scratch .entry)))
+        × Marked parts (now (heads .exit)) (now (scratch .exit))
         × ((F : Policy)
         → Sized F
         → Paired F (now (links .entry)) (now (matches .entry)) (now (knowing .entry)) (now (attributes .entry))
         (sizes .users) (sizes .resources) (sizes .operations)
         → (made : ℕ)
-        → Settled F (now (scratch .entry)) made start
-        → Settled F (now (scratch .exit)) (made + n) (start + 1)) ⌝ }
+        → Settled F parts (now (scratch .entry)) made start
+        → Settled F parts (now (scratch .exit)) (made + n) (start + 1))
+        × ((i : ℕ)
+        → nameIn (restAt (now (scratch .exit)) i) ≡ nameIn (restAt (now (scratch .entry)) i)) ⌝ }
 {
     let mut met = [0u64; RoleFile::SIDES * RoleFile::ATTRIBUTES];
     let mut ready = [0u64; mine_heads::WORDS];
-    mine_join::prepare(scratch, heads, &mut ready, &mut met, matches, start);
+    mine_join::prepare(scratch, parts, heads, &mut ready, &mut met, matches, start);
     let mut merges: usize = 0;
     let mut seeking = Seeking {
-        seat: start,
+        head: start,
         from: start + 1,
     };
     loop {
         let other = mine_search::first_partner(
             scratch,
+            parts,
             &ready,
             links,
             matches,
@@ -73,27 +77,29 @@ fn settle_head<'a>(
             sizes,
             seeking,
         );
-        if RoleFile::PARTS <= other.seat {
+        if parts <= other.head {
             return merges;
         }
         let c = mine_join::join_found(
             scratch,
+            parts,
             heads,
             &mut ready,
             &mut met,
             matches,
-            seeking.seat,
+            seeking.head,
             other,
         );
         merges += 1;
-        // What comes of a join is a new group, for which the seats on both sides are tried.
-        seeking = Seeking { seat: c, from: 0 };
+        // What comes of a join is a new group, for which the heads on both sides are tried.
+        seeking = Seeking { head: c, from: 0 };
     }
 }
 
-// The same, where most seats are no heads any more.
+// The same, where most parts are no heads any more.
 fn settle<'a>(
     scratch: &mut [u64],
+    parts: usize,
     heads: &mut Marks,
     links: &'a Links,
     matches: &'a ByPlaceMember,
@@ -106,24 +112,27 @@ fn settle<'a>(
         WithinLimits sizes
         × (getD (now attributes) 0 0 ≤ 6)
         × (getD (now attributes) 1 0 ≤ 6)
-        × (start < roleCells)
-        × (length (now scratch) ≡ scratchWords)
-        × Marked (now heads) (now scratch) ⌝ }
+        × (start < parts)
+        × (parts ≤ roomIn (now scratch))
+        × Marked parts (now heads) (now scratch) ⌝ }
     ensures { λ n. ⌜
-        (length (now (scratch .exit)) ≡ scratchWords)
-        × (n + headCount (now (scratch .exit)) ≤ headCount (now (scratch .entry)))
-        × Marked (now (heads .exit)) (now (scratch .exit))
+        (length (now (scratch .exit)) ≡ length (now (scratch .entry)))
+        × (n + headCount parts (now (scratch .exit)) ≤ headCount parts (now (scratch .entry)))
+        × Marked parts (now (heads .exit)) (now (scratch .exit))
         × ((F : Policy)
         → Sized F
         → Paired F (now (links .entry)) (now (matches .entry)) (now (knowing .entry)) (now (attributes .entry))
         (sizes .users) (sizes .resources) (sizes .operations)
         → (made : ℕ)
-        → Settled F (now (scratch .entry)) made start
-        → Settled F (now (scratch .exit)) (made + n) (start + 1)) ⌝ }
+        → Settled F parts (now (scratch .entry)) made start
+        → Settled F parts (now (scratch .exit)) (made + n) (start + 1))
+        × ((i : ℕ)
+        → nameIn (restAt (now (scratch .exit)) i) ≡ nameIn (restAt (now (scratch .entry)) i)) ⌝ }
 {
     if mine_heads::is_marked(heads, start) {
         return settle_head(
             scratch,
+            parts,
             heads,
             links,
             matches,
@@ -136,9 +145,11 @@ fn settle<'a>(
     0
 }
 
-// Merges the parts of a policy, by the tables of its record, until no pair is left: how many merges were made.
+// Merges the parts of a policy, by the tables of its record, until no pair is left: how many merges were made. The table of starts tells
+// where the parts of each role stand.
 pub fn merge<'a>(
     scratch: &mut [u64],
+    starts: &mut Starts,
     links: &'a Links,
     matches: &'a ByPlaceMember,
     knowing: &'a ByPlace,
@@ -151,18 +162,21 @@ pub fn merge<'a>(
         WithinLimits sizes
         × (getD (now attributes) 0 0 ≤ 6)
         × (getD (now attributes) 1 0 ≤ 6)
-        × (length (now scratch) ≡ scratchWords) ⌝ }
+        × (mostParts ≤ roomIn (now scratch)) ⌝ }
     ensures { λ n. ⌜
-        (length (now (scratch .exit)) ≡ scratchWords)
+        (length (now (scratch .exit)) ≡ length (now (scratch .entry)))
+        × Stands (now (scratch .exit)) (now (starts .exit))
         × ((F : Policy)
         → Sized F
         → Tables F (now (links .entry)) (now (matches .entry)) (now (knowing .entry)) (now (attributes .entry))
         (now (holders .entry)) (now (permissions .entry)) (sizes .users) (sizes .resources) (sizes .operations)
         (sizes .roles)
-        → (n ≡ seatMerges F) × Merged F (now (scratch .exit))) ⌝ }
+        → (n ≡ mergeCount (settingOf F) (rolesIn F))
+        × Merged F (allParts (now (starts .exit))) (now (scratch .exit))) ⌝ }
 {
-    mine_fill::fill(
+    let parts = mine_fill::fill(
         scratch,
+        starts,
         links,
         matches,
         knowing,
@@ -172,11 +186,12 @@ pub fn merge<'a>(
         sizes,
     );
     let mut heads = [0u64; mine_heads::WORDS];
-    mine_heads::mark(scratch, &mut heads);
-    let mut merges: usize = 0;
-    for front in 0..RoleFile::PARTS {
-        merges += settle(
+    mine_heads::mark(scratch, parts, &mut heads);
+    let mut made: usize = 0;
+    for front in 0..parts {
+        made += settle(
             scratch,
+            parts,
             &mut heads,
             links,
             matches,
@@ -186,6 +201,6 @@ pub fn merge<'a>(
             front,
         );
     }
-    mine_join::resolve(scratch);
-    merges
+    mine_join::resolve(scratch, parts);
+    made
 }

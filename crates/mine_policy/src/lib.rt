@@ -2,13 +2,13 @@
 ghost use Prim.Native.Nat.{_≤_};
 ghost use lib.ListN.{length, getD};
 ghost use mathlib.Core.Path.{_≡_};
-ghost use Rattle.mine_seats.specs.Seats.{scratchWords};
+ghost use Rattle.mine_parts.specs.Layout.{mostParts, roomIn};
 ghost use Rattle.role_record.specs.Record.{Sized, WithinLimits};
 ghost use Rattle.files.specs.Calls.{minedBytes};
-ghost use Rattle.policy.specs.Policy.{Policy};
-ghost use Rattle.write_answer.specs.Stages.{OfRecord, Result, keptFor, MergedBy};
-ghost use Rattle.mine_groups.specs.Scratch.{Merged};
-ghost use Rattle.mine_groups.specs.SeatGroups.{seatMerges};
+ghost use Rattle.policy.specs.Mined.{mergeCount};
+ghost use Rattle.policy.specs.Policy.{Policy, settingOf, rolesIn};
+ghost use Rattle.write_answer.specs.Stages.{OfRecord, Result, KeptFor, MergedBy};
+ghost use Rattle.mine_groups.specs.Scratch.{Merged, allParts, Stands};
 use role_record::ByAttribute;
 use role_record::ByPlaceMember;
 use role_record::ByRole;
@@ -38,15 +38,18 @@ fn merge_parts<'a>(
         WithinLimits sizes
         × (getD (now attributes) 0 0 ≤ 6)
         × (getD (now attributes) 1 0 ≤ 6)
-        × (length (now scratch) ≡ scratchWords) ⌝ }
+        × (mostParts ≤ roomIn (now scratch)) ⌝ }
     ensures { λ r. ⌜
-        (length (now (scratch .exit)) ≡ scratchWords)
+        (length (now (scratch .exit)) ≡ length (now (scratch .entry)))
+        × Stands (now (scratch .exit)) (r .starts)
         × ((F : Policy)
         → Sized F
         → MergedBy F (now (known .entry)) (now (kinds .entry)) (now (domains .entry)) (now (attributes .entry))
         (now (holders .entry)) (now (permissions .entry)) (now (distinct .entry)) (now (having .entry))
         (sizes .users) (sizes .resources) (sizes .operations) (sizes .roles)
-        → (r .made ≡ seatMerges F) × Merged F (now (scratch .exit)) × (r .kept ≡ keptFor F (now (scratch .exit)))) ⌝ }
+        → (r .made ≡ mergeCount (settingOf F) (rolesIn F))
+        × Merged F (allParts (r .starts)) (now (scratch .exit))
+        × KeptFor F (r .starts) (now (scratch .exit)) (r .kept)) ⌝ }
 {
     let mut places = [0u64; RoleFile::PLACES];
     mine_matches::known_places(sizes.users, sizes.resources, known, &mut places);
@@ -61,8 +64,10 @@ fn merge_parts<'a>(
     );
     let mut matches = [0u64; RoleFile::PLACES * RoleFile::MEMBERS];
     mine_tables::matches(&places, kinds, distinct, having, &mut matches);
+    let mut starts = [0usize; RoleFile::ROLES + 1];
     let merges = mine_merge::merge(
         scratch,
+        &mut starts,
         &links,
         &matches,
         &places,
@@ -71,7 +76,7 @@ fn merge_parts<'a>(
         permissions,
         sizes,
     );
-    let mut kept = [0u64; RoleFile::PARTS];
+    let mut kept = [0u64; mine_parts::MOST];
     write_kept::kept_places(
         &links,
         &matches,
@@ -79,11 +84,13 @@ fn merge_parts<'a>(
         attributes,
         sizes,
         scratch,
+        starts[RoleFile::ROLES],
         &mut kept,
     );
     Merging {
         made: merges,
         kept: kept,
+        starts: starts,
     }
 }
 
@@ -104,7 +111,7 @@ pub fn mine_record<'a>(
         WithinLimits sizes
         × (getD (now attributes) 0 0 ≤ 6)
         × (getD (now attributes) 1 0 ≤ 6)
-        × (length (now scratch) ≡ scratchWords) ⌝ }
+        × (mostParts ≤ roomIn (now scratch)) ⌝ }
     ensures { λ r. ⌜
         ((F : Policy)
         → Sized F

@@ -10,14 +10,14 @@ use mathlib.Core.Logic.{_⊎_, inl, inr}
 use mathlib.Core.Option.{some}
 use mathlib.Core.Path.{_≡_, refl, sym, ap, ap₂, _∙_}
 use native.Mathlib.Omega.{arith}
-use Rattle.role_record.specs.Cells.{roleCells}
 use Rattle.sets.specs.Sets.{lessOne, bit, maskOf}
 use Rattle.sets.specs.MemberLaws.{least-in, bit-less}
-use Rattle.mine_heads.specs.Heads.{isMarked, Open}
+use Rattle.mine_heads.specs.HeadLaws.{word-below}
+use Rattle.mine_heads.specs.Heads.{isMarked, MarkedBelow, Open}
 use Rattle.mine_search.specs.PartnerSearch.{joinedLevel, pairAt, partnerLevel, partnerAt, NoneIn, FirstIn, Partner, Finds, nearAt, nearHead}
 use Rattle.mine_pairs.specs.PairLevels.{pairLevel}
 use Rattle.mine_corners.specs.Pairing.{reaches, mayJoin}
-use Rattle.mine_seats.specs.Seats.{restAt, levelIn, wordsAt, isHeadAt}
+use Rattle.mine_parts.specs.Layout.{restAt, levelIn, wordsAt, isHeadAt}
 use Rattle.sets.specs.Lowest.{lowestFrom}
 use Rattle.sets.specs.LowestLaws.{lowestFrom-misses}
 use Rattle.sets.specs.SetLaws.{bit-none, bit-mask}
@@ -90,12 +90,12 @@ module _ (links matches known attributes : List ℕ) (users resources operations
       let q : max c k ≡ k = omega arith in
       rw (ne-eqb k c (λ z. omega arith), p, q) refl
 
-  -- a seat is no partner of itself
+  -- a head is no partner of itself
   partner-self : partnerAt links matches known attributes users resources operations t c c ≡ false
   unfolding partnerAt partnerLevel
   partner-self = rw (eq-eqb c c refl) (ap (λ (b : Bool). isHeadAt t c && b) (and-false (isHeadAt t c)) ∙ and-false (isHeadAt t c))
 
-  -- a seat that is no head has no partner
+  -- a part that is no head has no partner
   pub no-partner : {p : Bool} → p ≡ isHeadAt t c → p ≡ false → (k : ℕ) → partnerAt links matches known attributes users resources operations t c k ≡ false
   unfolding partnerAt
   no-partner e f k = ap (λ (b : Bool). b && (isHeadAt t k && ltb (partnerLevel links matches known attributes users resources operations t c k) 4)) (sym e ∙ f)
@@ -122,10 +122,10 @@ module _ (links matches known attributes : List ℕ) (users resources operations
           let q : max c k ≡ k = omega arith in
           ap₂ joinedBy p q ∙ far-level links matches known attributes users resources operations t c k e
 
-  -- the first of all seats is the partner
-  pub partner-first : {r : ℕ} → FirstIn (partnerAt links matches known attributes users resources operations t c) 0 roleCells r → c < roleCells → Partner (pairAt links matches known attributes users resources operations t) c r
-  partner-first {r} (inl (e, h)) l = inl (e, (λ k a b. sym (partner-before b) ∙ h k a (omega arith)), λ k a b. sym (partner-after (omega arith)) ∙ h k (omega arith) b)
-  partner-first {r} (inr (p, q, e, h)) l = test (ltb r c)
+  -- the first of all parts is the partner
+  pub partner-first : {parts r : ℕ} → FirstIn parts (partnerAt links matches known attributes users resources operations t c) 0 parts r → c < parts → Partner parts (pairAt links matches known attributes users resources operations t) c r
+  partner-first {parts} {r} (inl (e, h)) l = inl (e, (λ k a b. sym (partner-before b) ∙ h k a (omega arith)), λ k a b. sym (partner-after (omega arith)) ∙ h k (omega arith) b)
+  partner-first {parts} {r} (inr (p, q, e, h)) l = test (ltb r c)
       (λ z. let b = ltb-true r c z in inr (inl (b, sym (partner-before b) ∙ e, λ k a d. sym (partner-before (omega arith)) ∙ h k a d)))
       (λ z. test (eqb r c)
       (λ y. never e (ap (partnerAt links matches known attributes users resources operations t c) (eqb-true r c y) ∙ partner-self))
@@ -135,7 +135,7 @@ module _ (links matches known attributes : List ℕ) (users resources operations
       inr (inr (b, q, sym (partner-after b) ∙ e, (λ k x y. sym (partner-before y) ∙ h k x (omega arith)), λ k x y. sym (partner-after (omega arith)) ∙ h k (omega arith) y))))
 
   -- the first behind c
-  pub partner-later : {r : ℕ} → FirstIn (partnerAt links matches known attributes users resources operations t c) (c + 1) roleCells r → FirstIn (pairAt links matches known attributes users resources operations t c) (c + 1) roleCells r
+  pub partner-later : {parts r : ℕ} → FirstIn parts (partnerAt links matches known attributes users resources operations t c) (c + 1) parts r → FirstIn parts (pairAt links matches known attributes users resources operations t c) (c + 1) parts r
   partner-later (inl (e, h)) = inl (e, λ k a b. sym (partner-after (omega arith)) ∙ h k a b)
   partner-later (inr (p, q, e, h)) = inr (p, q, sym (partner-after (omega arith)) ∙ e, λ k a b. sym (partner-after (omega arith)) ∙ h k a b)
 
@@ -146,73 +146,73 @@ pub none-on : (f : ℕ → Bool) (a n : ℕ) → NoneIn f a n → f n ≡ false 
 none-on f a n h e k p l = test (eqb k n) (λ q. ap f (eqb-true k n q) ∙ e) (λ q. let d = eqb-false k n q in h k p (omega arith))
 
 -- with none before c the first behind is the partner
-pub partner-behind : (pair : ℕ → ℕ → Bool) (c : ℕ) {r : ℕ} → NoneIn (λ i. pair i c) 0 c → FirstIn (pair c) (c + 1) roleCells r → Partner pair c r
+pub partner-behind : {parts : ℕ} (pair : ℕ → ℕ → Bool) (c : ℕ) {r : ℕ} → NoneIn (λ i. pair i c) 0 c → FirstIn parts (pair c) (c + 1) parts r → Partner parts pair c r
 partner-behind pair c b (inl (e, h)) = inl (e, b, h)
 partner-behind pair c b (inr (p, q, e, h)) = inr (inr (omega arith, q, e, b, h))
 
--- what the code needs of a partner: the two seats in order are a pair
-abbrev pub Chosen : (ℕ → ℕ → Bool) → ℕ → ℕ → Type 0
-Chosen pair c r = (r ≡ roleCells) ⊎ (((r < c) × (pair r c ≡ true)) ⊎ ((c < r) × (r < roleCells) × (pair c r ≡ true)))
+-- what the code needs of a partner: the two heads in order are a pair
+abbrev pub Chosen : ℕ → (ℕ → ℕ → Bool) → ℕ → ℕ → Type 0
+Chosen parts pair c r = (r ≡ parts) ⊎ (((r < c) × (pair r c ≡ true)) ⊎ ((c < r) × (r < parts) × (pair c r ≡ true)))
 
-module _ (pair : ℕ → ℕ → Bool) (c : ℕ) where
+module _ {parts : ℕ} (pair : ℕ → ℕ → Bool) (c : ℕ) where
   -- a partner is one
-  pub chosen-partner : {r : ℕ} → Partner pair c r → Chosen pair c r
+  pub chosen-partner : {r : ℕ} → Partner parts pair c r → Chosen parts pair c r
   chosen-partner (inl (e, h, k)) = inl e
   chosen-partner (inr (inl (q, e, h))) = inr (inl (q, e))
   chosen-partner (inr (inr (p, q, e, h, k))) = inr (inr (p, q, e))
 
   -- so is the first behind c
-  pub chosen-behind : {r : ℕ} → FirstIn (pair c) (c + 1) roleCells r → Chosen pair c r
+  pub chosen-behind : {r : ℕ} → FirstIn parts (pair c) (c + 1) parts r → Chosen parts pair c r
   chosen-behind (inl (e, h)) = inl e
   chosen-behind (inr (p, q, e, h)) = inr (inr (omega arith, q, e))
 
-  chosen-pair : {r i j : ℕ} → Chosen pair c r → r < roleCells → c < roleCells → i ≡ min c r → j ≡ max c r → (i < j) × (j < roleCells) × (i ≤ c) × (pair i j ≡ true)
+  chosen-pair : {r i j : ℕ} → Chosen parts pair c r → r < parts → c < parts → i ≡ min c r → j ≡ max c r → (i < j) × (j < parts) × (i ≤ c) × (pair i j ≡ true)
   chosen-pair (inl e) l m p q = absurd (omega arith)
   chosen-pair {r} {i} {j} (inr (inl (h, e))) l m p q = let a : i ≡ r = omega arith in let b : j ≡ c = omega arith in (omega arith, omega arith, omega arith, ap₂ pair a b ∙ e)
   chosen-pair {r} {i} {j} (inr (inr (h, k, e))) l m p q = let a : i ≡ c = omega arith in let b : j ≡ r = omega arith in (omega arith, omega arith, omega arith, ap₂ pair a b ∙ e)
 
-module _ (links matches known attributes : List ℕ) (users resources operations : ℕ) (t : List ℕ) (c i j level : ℕ) where
-  -- what the code knows of the two seats that it joins
+module _ (parts : ℕ) (links matches known attributes : List ℕ) (users resources operations : ℕ) (t : List ℕ) (c i j level : ℕ) where
+  -- what the code knows of the two heads that it joins
   pub record Taking : Type 0 where
     pub order : i < j
-    pub below : j < roleCells
+    pub below : j < parts
     pub back : i ≤ c
     pub leveled : level ≡ joinedLevel links matches known attributes users resources operations t i j
     pub low : level < 4
     pub first : Is (isHeadAt t i)
     pub second : Is (isHeadAt t j)
 
-  -- seat c and the partner found, in order
-  pub taking : {r : ℕ} → Chosen (pairAt links matches known attributes users resources operations t) c r → (r < roleCells → level ≡ partnerLevel links matches known attributes users resources operations t c r) → r < roleCells → c < roleCells → i ≡ min c r → j ≡ max c r → Taking
+  -- c and the partner found, in order
+  pub taking : {r : ℕ} → Chosen parts (pairAt links matches known attributes users resources operations t) c r → (r < parts → level ≡ partnerLevel links matches known attributes users resources operations t c r) → r < parts → c < parts → i ≡ min c r → j ≡ max c r → Taking
   taking {r} C f l m p q =
       let o = chosen-pair (pairAt links matches known attributes users resources operations t) c C l m p q in
       let out = pair-out links matches known attributes users resources operations t i j (o .3) in
       let e = beside-out links matches known attributes users resources operations t c r (o .0) p q (f l) in
       record { order = o .0; below = o .1; back = o .2; leveled = e; low = rw e (ltb-true (joinedLevel links matches known attributes users resources operations t i j) 4 (out .2)); first = out .0; second = out .1 }
 
--- tests that agree on all seats have the same partner
-pub partner-same : (f g : ℕ → ℕ → Bool) (c : ℕ) {r : ℕ} → c < roleCells → ((i j : ℕ) → i < roleCells → j < roleCells → f i j ≡ g i j) → Partner f c r → Partner g c r
+-- tests that agree on all parts have the same partner
+pub partner-same : {parts : ℕ} (f g : ℕ → ℕ → Bool) (c : ℕ) {r : ℕ} → c < parts → ((i j : ℕ) → i < parts → j < parts → f i j ≡ g i j) → Partner parts f c r → Partner parts g c r
 partner-same f g c l e (inl (p, h, k)) = inl (p, (λ i a b. sym (e i c (omega arith) l) ∙ h i a b), λ j a b. sym (e c j l b) ∙ k j a b)
 partner-same f g c l e (inr (inl (p, h, k))) = inr (inl (p, sym (e _ c (omega arith) l) ∙ h, λ i a b. sym (e i c (omega arith) l) ∙ k i a b))
 partner-same f g c l e (inr (inr (p, q, h, k, m))) = inr (inr (p, q, sym (e c _ l q) ∙ h, (λ i a b. sym (e i c (omega arith) l) ∙ k i a b), λ j a b. sym (e c j l (omega arith)) ∙ m j a b))
 
 -- ---- the search among the near heads
 
--- of a word of marks: `seats` are those asked for, `rest` those not looked at yet
-module _ (t : List ℕ) (W : Words) (word seats : ℕ) where
+-- of a word of marks: `marked` are those asked for, `rest` those not looked at yet
+module _ (t : List ℕ) (W : Words) (word marked : ℕ) where
   -- what is left gives the same answer as all of them
   abbrev pub LeftOf : ℕ → Type 0
-  LeftOf rest = (k : ℕ) → 64 * word ≤ k → k < 64 * word + 64 → (bit rest (k % 64) && nearAt t W k) ≡ (bit seats (k % 64) && nearAt t W k)
+  LeftOf rest = (k : ℕ) → 64 * word ≤ k → k < 64 * word + 64 → (bit rest (k % 64) && nearAt t W k) ≡ (bit marked (k % 64) && nearAt t W k)
 
   module _ (rest : ℕ) (h : rest < 2 ^ 64) (left : LeftOf rest) where
     -- nothing is left
-    pub within-none : rest ≡ 0 → FirstIn (λ k. bit seats (k % 64) && nearAt t W k) (64 * word) (64 * word + 64) roleCells
+    pub within-none : {parts : ℕ} → rest ≡ 0 → FirstIn parts (λ k. bit marked (k % 64) && nearAt t W k) (64 * word) (64 * word + 64) parts
     within-none e = inl (refl, λ k a b. sym (left k a b) ∙ ap (λ (x : ℕ). bit x (k % 64) && nearAt t W k) e ∙ ap (λ (b : Bool). b && nearAt t W k) (bit-none (k % 64)))
 
     module _ (y : ℕ) (least : y ≡ lowestFrom (bit rest) 0 64) (some : 0 < rest) where
       -- the least that is left is near
-      pub within-found : {b : Bool} {k : ℕ} → k ≡ 64 * word + y → b ≡ nearAt t W k → b ≡ true → FirstIn (λ k. bit seats (k % 64) && nearAt t W k) (64 * word) (64 * word + 64) k
-      within-found {b} {k} q e f =
+      pub within-found : {parts : ℕ} {b : Bool} {k : ℕ} → k ≡ 64 * word + y → b ≡ nearAt t W k → b ≡ true → FirstIn parts (λ k. bit marked (k % 64) && nearAt t W k) (64 * word) (64 * word + 64) k
+      within-found {parts} {b} {k} q e f =
           let low = least-in rest h y least some in
           let z : k % 64 ≡ y = omega (arith, low .0) in
           inr (
@@ -236,41 +236,47 @@ module _ (t : List ℕ) (W : Words) (word seats : ℕ) where
 
 -- over the words of marks
 module _ (marks t : List ℕ) (W : Words) (from : ℕ) where
-  module _ (word : ℕ) {m passed seats : ℕ} (l : word < 8) (e : m ≡ max from (64 * word)) (p : passed ≡ maskOf 64 (λ k. ltb k (m - 64 * word))) (q : seats ≡ maskOf 64 (λ k. bit (getD marks word 0) k && not (bit passed k))) (none : NoneIn (nearHead marks t W) from (64 * word)) where
-    -- the seats asked for are those of the word from `from` on
-    asked : (k : ℕ) → 64 * word ≤ k → k < 64 * word + 64 → bit seats (k % 64) ≡ (isMarked marks k && not (ltb (k % 64) (m - 64 * word)))
+  module _ (word : ℕ) {m passed marked : ℕ} (e : m ≡ max from (64 * word)) (p : passed ≡ maskOf 64 (λ k. ltb k (m - 64 * word))) (q : marked ≡ maskOf 64 (λ k. bit (getD marks word 0) k && not (bit passed k))) (none : NoneIn (nearHead marks t W) from (64 * word)) where
+    -- the parts asked for are those of the word from `from` on
+    asked : (k : ℕ) → 64 * word ≤ k → k < 64 * word + 64 → bit marked (k % 64) ≡ (isMarked marks k && not (ltb (k % 64) (m - 64 * word)))
     asked k a b =
         let z : word ≡ k / 64 = omega arith in
         ap (λ (x : ℕ). bit x (k % 64)) q ∙ bit-mask 64 (λ k. bit (getD marks word 0) k && not (bit passed k)) (k % 64) (omega arith)
         ∙ ap₂ (λ (x : ℕ) (b : Bool). bit (getD marks x 0) (k % 64) && not b) z (ap (λ (x : ℕ). bit x (k % 64)) p ∙ bit-mask 64 (λ k. ltb k (m - 64 * word)) (k % 64) (omega arith))
 
-    asked-on : (k : ℕ) → 64 * word ≤ k → k < 64 * word + 64 → from ≤ k → (bit seats (k % 64) && nearAt t W k) ≡ nearHead marks t W k
+    asked-on : (k : ℕ) → 64 * word ≤ k → k < 64 * word + 64 → from ≤ k → (bit marked (k % 64) && nearAt t W k) ≡ nearHead marks t W k
     asked-on k a b f = ap (λ (x : Bool). x && nearAt t W k) (asked k a b ∙ ap (λ (x : Bool). isMarked marks k && not x) (le-ltb (k % 64) (m - 64 * word) (omega arith)) ∙ and-true (isMarked marks k))
 
-    asked-before : (k : ℕ) → 64 * word ≤ k → k < 64 * word + 64 → k < from → (bit seats (k % 64) && nearAt t W k) ≡ false
+    asked-before : (k : ℕ) → 64 * word ≤ k → k < 64 * word + 64 → k < from → (bit marked (k % 64) && nearAt t W k) ≡ false
     asked-before k a b f = ap (λ (x : Bool). x && nearAt t W k) (asked k a b ∙ ap (λ (x : Bool). isMarked marks k && not x) (lt-ltb (k % 64) (m - 64 * word) (omega arith)) ∙ and-false (isMarked marks k))
 
-    none-up : (n : ℕ) → n ≤ 64 * word + 64 → NoneIn (λ k. bit seats (k % 64) && nearAt t W k) (64 * word) n → NoneIn (nearHead marks t W) from n
+    none-up : (n : ℕ) → n ≤ 64 * word + 64 → NoneIn (λ k. bit marked (k % 64) && nearAt t W k) (64 * word) n → NoneIn (nearHead marks t W) from n
     none-up n b h k f g = test (ltb k (64 * word)) (λ z. none k f (ltb-true k (64 * word) z)) (λ z. let d = ltb-false k (64 * word) z in sym (asked-on k d (omega arith) f) ∙ h k d g)
 
+    -- they are parts
+    pub asked-below : {parts : ℕ} → MarkedBelow parts marks → (k room : ℕ) → parts ≤ room → k < 64 → Is (bit marked k) → 64 * word + k < room
+    asked-below low k room r h b =
+        word-below marks low word k room r h
+        (and-l (bit (getD marks word 0) k) _ (sym (bit-mask 64 (λ k. bit (getD marks word 0) k && not (bit passed k)) k h) ∙ ap (λ (x : ℕ). bit x k) (sym q) ∙ b))
+
     -- one of this word is found
-    pub near-found : {r : ℕ} → FirstIn (λ k. bit seats (k % 64) && nearAt t W k) (64 * word) (64 * word + 64) r → r < roleCells → FirstIn (nearHead marks t W) from roleCells r
-    near-found {r} (inl (x, h)) b = absurd (omega arith)
-    near-found {r} (inr (x, y, z, h)) b = test (ltb r from) (λ d. never z (asked-before r x y (ltb-true r from d))) (λ d. let f = ltb-false r from d in inr (f, b, sym (asked-on r x y f) ∙ z, none-up r (omega arith) h))
+    pub near-found : {parts r : ℕ} → FirstIn parts (λ k. bit marked (k % 64) && nearAt t W k) (64 * word) (64 * word + 64) r → r < parts → FirstIn parts (nearHead marks t W) from parts r
+    near-found {parts} {r} (inl (x, h)) b = absurd (omega arith)
+    near-found {parts} {r} (inr (x, y, z, h)) b = test (ltb r from) (λ d. never z (asked-before r x y (ltb-true r from d))) (λ d. let f = ltb-false r from d in inr (f, b, sym (asked-on r x y f) ∙ z, none-up r (omega arith) h))
 
     -- none is
-    pub near-on : {r : ℕ} → FirstIn (λ k. bit seats (k % 64) && nearAt t W k) (64 * word) (64 * word + 64) r → roleCells ≤ r → NoneIn (nearHead marks t W) from (64 * (word + 1))
-    near-on (inl (x, h)) b k f g = none-up (64 * word + 64) (omega arith) h k f (omega arith)
-    near-on (inr (x, y, z, h)) b k f g = absurd (omega arith)
+    pub near-on : {parts r : ℕ} → MarkedBelow parts marks → FirstIn parts (λ k. bit marked (k % 64) && nearAt t W k) (64 * word) (64 * word + 64) r → parts ≤ r → NoneIn (nearHead marks t W) from (64 * (word + 1))
+    near-on low (inl (x, h)) b k f g = none-up (64 * word + 64) (omega arith) h k f (omega arith)
+    near-on {parts} {r} low (inr (x, y, z, h)) b k f g = let n = low r (and-l (isMarked marks r) _ (sym (asked r x y) ∙ and-l (bit marked (r % 64)) (nearAt t W r) z)) in absurd (omega arith)
 
-module _ (links matches known attributes : List ℕ) (users resources operations : ℕ) (marks t : List ℕ) (c from : ℕ) where
-  -- none before k is a partner of c, and k is a head or past the last seat
+module _ (parts : ℕ) (links matches known attributes : List ℕ) (users resources operations : ℕ) (marks t : List ℕ) (c from : ℕ) where
+  -- none before k is a partner of c, and k is a head or past the last part
   pub record Looking (k : ℕ) : Type 0 where
     pub none : NoneIn (partnerAt links matches known attributes users resources operations t c) from k
-    pub head : k < roleCells → (from ≤ k) × Is (isHeadAt t k)
-    pub most : k ≤ roleCells
+    pub head : k < parts → (from ≤ k) × Is (isHeadAt t k)
+    pub most : k ≤ parts
 
-  module _ (M : Open marks t c) {W : Words} (g : W ≡ wordsAt t c) where
+  module _ (M : Open parts marks t c) {W : Words} (g : W ≡ wordsAt t c) where
     -- a head that is not near cannot be joined
     far-head : (k : ℕ) → nearAt t W k ≡ false → partnerAt links matches known attributes users resources operations t c k ≡ false
     unfolding partnerAt
@@ -278,43 +284,43 @@ module _ (links matches known attributes : List ℕ) (users resources operations
         ap (λ (b : Bool). isHeadAt t c && (isHeadAt t k && b)) (far-partner links matches known attributes users resources operations t c k (ap (λ (X : Words). reaches X (wordsAt t k) && reaches (wordsAt t k) X) (sym g) ∙ e))
         ∙ ap (λ (b : Bool). isHeadAt t c && b) (and-false (isHeadAt t k)) ∙ and-false (isHeadAt t c)
 
-    -- nor a seat that is no head, nor one that is not open, nor c itself
-    far-refused : (k : ℕ) → k < roleCells → nearHead marks t W k ≡ false → partnerAt links matches known attributes users resources operations t c k ≡ false
+    -- nor a part that is no head, nor one that is not open, nor c itself
+    far-refused : (k : ℕ) → k < parts → nearHead marks t W k ≡ false → partnerAt links matches known attributes users resources operations t c k ≡ false
     unfolding partnerAt partnerLevel
     far-refused k h e = test (isMarked marks k)
         (λ m. far-head k (sym (ap (λ (b : Bool). b && nearAt t W k) m) ∙ e))
         (λ m. test (eqb k c)
         (λ z. ap (λ (b : Bool). isHeadAt t c && (isHeadAt t k && ltb (cond b 4 (joinedLevel links matches known attributes users resources operations t (min c k) (max c k))) 4)) z ∙ ap (λ (b : Bool). isHeadAt t c && b) (and-false (isHeadAt t k)) ∙ and-false (isHeadAt t c))
         (λ z. test (isHeadAt t k)
-        (λ q. far-head k (ap (λ (b : Bool). reaches W (wordsAt t k) && b) (ap (reaches (wordsAt t k)) g ∙ M .far k h (eqb-false k c z) q m) ∙ and-false (reaches W (wordsAt t k))))
+        (λ q. far-head k (ap (λ (b : Bool). reaches W (wordsAt t k) && b) (ap (reaches (wordsAt t k)) g ∙ M .far k (eqb-false k c z) (and-in (lt-ltb k parts h) q) m) ∙ and-false (reaches W (wordsAt t k))))
         (λ q. ap (λ (b : Bool). isHeadAt t c && (b && ltb (partnerLevel links matches known attributes users resources operations t c k) 4)) q ∙ and-false (isHeadAt t c))))
 
     -- the next near head
-    pub looking : {a k : ℕ} → from ≤ a → a ≤ roleCells → NoneIn (partnerAt links matches known attributes users resources operations t c) from a → FirstIn (nearHead marks t W) a roleCells k → Looking k
+    pub looking : {a k : ℕ} → from ≤ a → a ≤ parts → NoneIn (partnerAt links matches known attributes users resources operations t c) from a → FirstIn parts (nearHead marks t W) a parts k → Looking k
     looking {a} {k} f l none (inl (e, h)) = record { none = λ n p q. test (ltb n a) (λ z. none n p (ltb-true n a z)) (λ z. far-refused n (omega arith) (h n (ltb-false n a z) (omega arith))); head = λ b. absurd (omega arith); most = omega arith }
     looking {a} {k} f l none (inr (x, y, z, h)) = record {
       none = λ n p q. test (ltb n a) (λ d. none n p (ltb-true n a d)) (λ d. far-refused n (omega arith) (h n (ltb-false n a d) q));
-      head = λ b. (omega arith, M .heads k y (and-l (isMarked marks k) (nearAt t W k) z));
+      head = λ b. (omega arith, and-r (ltb k parts) (isHeadAt t k) (M .heads k (and-l (isMarked marks k) (nearAt t W k) z)));
       most = omega arith;
     }
 
   -- k is refused
-  pub looking-on : {p : Bool} {k l : ℕ} → p ≡ isHeadAt t c → p ≡ true → Looking k → k < roleCells → l ≡ partnerLevel links matches known attributes users resources operations t c k → 4 ≤ l → NoneIn (partnerAt links matches known attributes users resources operations t c) from (k + 1)
+  pub looking-on : {p : Bool} {k l : ℕ} → p ≡ isHeadAt t c → p ≡ true → Looking k → k < parts → l ≡ partnerLevel links matches known attributes users resources operations t c k → 4 ≤ l → NoneIn (partnerAt links matches known attributes users resources operations t c) from (k + 1)
   looking-on {p} {k} {l} e f L h r d = none-on (partnerAt links matches known attributes users resources operations t c) from k (L .none) (partner-told links matches known attributes users resources operations t c k e f (L .head h .1) r ∙ le-ltb l 4 d)
 
   -- k is the partner
-  pub looking-found : {p : Bool} {k l : ℕ} → p ≡ isHeadAt t c → p ≡ true → Looking k → k < roleCells → l ≡ partnerLevel links matches known attributes users resources operations t c k → l < 4 → Finds links matches known attributes users resources operations t c from k l
+  pub looking-found : {p : Bool} {k l : ℕ} → p ≡ isHeadAt t c → p ≡ true → Looking k → k < parts → l ≡ partnerLevel links matches known attributes users resources operations t c k → l < 4 → Finds parts links matches known attributes users resources operations t c from k l
   looking-found {p} {k} {l} e f L h r d = record { first = inr (L .head h .0, h, partner-told links matches known attributes users resources operations t c k e f (L .head h .1) r ∙ lt-ltb l 4 d, L .none); leveled = λ _. r }
 
   -- there is none
-  pub looking-end : {k : ℕ} → Looking k → roleCells ≤ k → Finds links matches known attributes users resources operations t c from roleCells 4
+  pub looking-end : {k : ℕ} → Looking k → parts ≤ k → Finds parts links matches known attributes users resources operations t c from parts 4
   looking-end L h = record { first = inl (refl, λ n p q. L .none n p (omega arith)); leveled = λ b. absurd (omega arith) }
 
   -- c is no head
-  pub finds-none : {p : Bool} → p ≡ isHeadAt t c → p ≡ false → Finds links matches known attributes users resources operations t c from roleCells 4
+  pub finds-none : {p : Bool} → p ≡ isHeadAt t c → p ≡ false → Finds parts links matches known attributes users resources operations t c from parts 4
   finds-none e f = record { first = inl (refl, λ n _ _. no-partner links matches known attributes users resources operations t c e f n); leveled = λ b. absurd (omega arith) }
 
 -- the first from a on is none before a
-pub first-later : {f : ℕ → Bool} {a r : ℕ} → a ≤ roleCells → FirstIn f a roleCells r → a ≤ r
+pub first-later : {parts : ℕ} {f : ℕ → Bool} {a r : ℕ} → a ≤ parts → FirstIn parts f a parts r → a ≤ r
 first-later l (inl (e, h)) = omega arith
 first-later l (inr (p, q, e, h)) = p

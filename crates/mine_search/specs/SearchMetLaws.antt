@@ -10,10 +10,10 @@ use native.Mathlib.Omega.{arith}
 use Rattle.mine_matches.specs.Matches.{Met, bothMembers, SidesMet}
 use Rattle.mine_widen.specs.MetLaws.{met-first, met-turned}
 use Rattle.mine_search.specs.PartnerSearch.{GroupMet}
-use Rattle.mine_seats.specs.Seats.{usersAt, resourcesAt}
+use Rattle.mine_parts.specs.Layout.{usersAt, resourcesAt}
 use Rattle.sets.specs.TestLaws.{test}
 
--- the members of two seats' groups, in the order of the seats
+-- the members of two heads' groups, in the order of the heads
 pub beside-met : (matches : List ℕ) (side : ℕ) (f : ℕ → ℕ) (c k : ℕ) (met : List ℕ) {i j : ℕ} → i ≡ min c k → j ≡ max c k → Met matches side (bothMembers (f c) (f k)) met → Met matches side (bothMembers (f i) (f j)) met
 beside-met matches side f c k met {i} {j} p q h = test (ltb c k)
     (λ e. let l = ltb-true c k e in

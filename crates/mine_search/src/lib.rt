@@ -1,15 +1,15 @@
 // The search in scratch memory for the first group that may be joined with a given one.
-ghost use lib.ListN.{length, getD};
+ghost use lib.ListN.{getD};
 ghost use mathlib.Core.Bool.{_&&_};
 ghost use mathlib.Core.Path.{_≡_};
-ghost use Prim.Native.Nat.{_+_, _*_, _%_, _≤_, _<_, max, min};
+ghost use Prim.Native.Nat.{ℕ, _+_, _*_, _%_, _≤_, _<_, max, min};
 ghost use Rattle.mine_matches.specs.Matches.{bothMembers, SidesMet};
-ghost use Rattle.mine_heads.specs.Heads.{Open};
+ghost use Rattle.mine_heads.specs.Heads.{markWords, MarkedBelow, Open};
 ghost use Rattle.mine_search.specs.PartnerSearch.{joinedLevel, partnerLevel, FirstIn, Finds, nearAt, nearHead, GroupMet};
 ghost use Rattle.mine_corners.specs.Pairing.{wordsIn};
-ghost use Rattle.mine_seats.specs.Seats.{usersAt, resourcesAt, scratchWords};
+ghost use Rattle.mine_parts.specs.Layout.{roomIn, usersAt, resourcesAt};
 ghost use Rattle.sets.specs.Sets.{bit};
-ghost use Rattle.role_record.specs.Cells.{roleCells};
+ghost use Rattle.sets.specs.Tests.{Is};
 ghost use Rattle.role_record.specs.Record.{WithinLimits};
 use mine_corners::Group;
 use mine_heads::Marks;
@@ -18,18 +18,17 @@ use role_record::ByPlace;
 use role_record::ByPlaceMember;
 use role_record::CountBySide;
 use role_record::Links;
-use role_record::RoleFile;
 use role_record::Sizes;
 
-// A seat to be joined with another, and the level of both together; the seat is past the last if there is none.
+// A head to be joined with another, and the level of both together; past the last part if there is none.
 pub struct Found {
-    pub seat: usize,
+    pub head: usize,
     pub level: usize,
 }
 
-// A seat that a partner is sought for, and the first seat that is looked at.
+// A head that a partner is sought for, and the first part that is looked at.
 pub struct Seeking {
-    pub seat: usize,
+    pub head: usize,
     pub from: usize,
 }
 
@@ -45,7 +44,7 @@ pub fn higher(a: usize, b: usize) -> usize
     if a < b { b } else { a }
 }
 
-// The level of two seats' groups together, if they may be joined; else 4. The table of who meets the values of both groups' members is
+// The level of two heads' groups together, if they may be joined; else 4. The table of who meets the values of both groups' members is
 // handed in.
 fn level_if_joined<'a>(
     scratch: &[u64],
@@ -62,9 +61,8 @@ fn level_if_joined<'a>(
         WithinLimits sizes
         × (getD (now attributes) 0 0 ≤ 6)
         × (getD (now attributes) 1 0 ≤ 6)
-        × (i < roleCells)
-        × (j < roleCells)
-        × (length (now scratch) ≡ scratchWords)
+        × (i < roomIn (now scratch))
+        × (j < roomIn (now scratch))
         × SidesMet (now matches) (bothMembers (usersAt (now scratch) i) (usersAt (now scratch) j))
         (bothMembers (resourcesAt (now scratch) i) (resourcesAt (now scratch) j)) (now met) ⌝ }
     ensures { λ l. ⌜
@@ -73,15 +71,15 @@ fn level_if_joined<'a>(
         (sizes .users) (sizes .resources) (sizes .operations) (now (scratch .entry)) i j ⌝ }
 {
     let limit = higher(
-        mine_seats::level_at(scratch, i),
-        mine_seats::level_at(scratch, j),
+        mine_parts::level_at(scratch, i),
+        mine_parts::level_at(scratch, j),
     );
-    let g = mine_seats::group_at(scratch, i);
-    let h = mine_seats::group_at(scratch, j);
+    let g = mine_parts::group_at(scratch, i);
+    let h = mine_parts::group_at(scratch, j);
     mine_pairs::level_of_pair(links, matches, met, knowing, attributes, sizes, g, h, limit)
 }
 
-// The level of seat c's group together with that of seat k, the earlier seat first, if they may be joined; else 4.
+// The level of c's group together with k's, the earlier head first, if they may be joined; else 4.
 // The table of c's group is handed in: it is put to many others, and most of these have few members.
 fn level_beside<'a>(
     scratch: &[u64],
@@ -98,9 +96,8 @@ fn level_beside<'a>(
         WithinLimits sizes
         × (getD (now attributes) 0 0 ≤ 6)
         × (getD (now attributes) 1 0 ≤ 6)
-        × (c < roleCells)
-        × (k < roleCells)
-        × (length (now scratch) ≡ scratchWords)
+        × (c < roomIn (now scratch))
+        × (k < roomIn (now scratch))
         × GroupMet (now matches) (now scratch) c (now met) ⌝ }
     ensures { λ l. ⌜
         l
@@ -113,8 +110,8 @@ fn level_beside<'a>(
     let mut met_by_both = *met;
     mine_widen::widen(
         matches,
-        mine_seats::users_at(scratch, k),
-        mine_seats::resources_at(scratch, k),
+        mine_parts::users_at(scratch, k),
+        mine_parts::resources_at(scratch, k),
         &mut met_by_both,
     );
     let i = lower(c, k);
@@ -132,42 +129,45 @@ fn level_beside<'a>(
     )
 }
 
-// The first of these seats of a word of marks whose group is near: past the last if there is none.
-fn near_within(scratch: &[u64], seats: u64, word: usize, g: Group) -> usize
-    requires { ⌜ (word < 8) × (length (now scratch) ≡ scratchWords) ⌝ }
+// The first of these parts of a word of marks whose group is near: past the last if there is none.
+fn near_within(scratch: &[u64], parts: usize, marked: u64, word: usize, g: Group) -> usize
+    requires { ⌜
+        (word < markWords) × ((k : ℕ) → k < 64 → Is (bit marked k) → 64 * word + k < roomIn (now scratch)) ⌝ }
     ensures { λ r. ⌜
-        FirstIn (λ k. bit seats (k % 64) && nearAt (now (scratch .entry)) (wordsIn g) k) (64 * word) (64 * word + 64)
-        r ⌝ }
+        FirstIn parts (λ k. bit marked (k % 64) && nearAt (now (scratch .entry)) (wordsIn g) k) (64 * word)
+        (64 * word + 64) r ⌝ }
 {
-    let mut rest = seats;
+    let mut rest = marked;
     while 0 < rest {
         let k = 64 * word + sets::least(rest);
-        if mine_corners::near(g, mine_seats::group_at(scratch, k)) {
+        if mine_corners::near(g, mine_parts::group_at(scratch, k)) {
             return k;
         }
         rest = sets::without_least(rest);
     }
-    RoleFile::PARTS
+    parts
 }
 
-// The first marked seat from a seat on whose group is near: past the last if there is none.
-fn next_near(scratch: &[u64], heads: &Marks, g: Group, from: usize) -> usize
-    requires { ⌜ length (now scratch) ≡ scratchWords ⌝ }
-    ensures { λ r. ⌜ FirstIn (nearHead (now (heads .entry)) (now (scratch .entry)) (wordsIn g)) from roleCells r ⌝ }
+// The first marked part from a part on whose group is near: past the last if there is none.
+fn next_near(scratch: &[u64], parts: usize, heads: &Marks, g: Group, from: usize) -> usize
+    requires { ⌜ (parts ≤ roomIn (now scratch)) × MarkedBelow parts (now heads) ⌝ }
+    ensures { λ r. ⌜ FirstIn parts (nearHead (now (heads .entry)) (now (scratch .entry)) (wordsIn g)) from parts r ⌝ }
 {
-    for word in from / 64..mine_heads::WORDS {
+    let end = (parts + 63) / 64;
+    for word in from / 64..end {
         let passed = sets::below(higher(from, 64 * word) - 64 * word);
-        let k = near_within(scratch, sets::without(heads[word], passed), word, g);
-        if k < RoleFile::PARTS {
+        let k = near_within(scratch, parts, sets::without(heads[word], passed), word, g);
+        if k < parts {
             return k;
         }
     }
-    RoleFile::PARTS
+    parts
 }
 
-// The first seat from a seat on that may be joined with the seat that seeks one. Only ready heads are looked at, and of these only the near ones.
+// The first part from a part on that may be joined with the head that seeks one. Only ready heads are looked at, and of these only the near ones.
 pub fn first_partner<'a>(
     scratch: &[u64],
+    parts: usize,
     ready: &Marks,
     links: &'a Links,
     matches: &'a ByPlaceMember,
@@ -181,21 +181,21 @@ pub fn first_partner<'a>(
         WithinLimits sizes
         × (getD (now attributes) 0 0 ≤ 6)
         × (getD (now attributes) 1 0 ≤ 6)
-        × (seeking .seat < roleCells)
-        × (seeking .from ≤ roleCells)
-        × (length (now scratch) ≡ scratchWords)
-        × Open (now ready) (now scratch) (seeking .seat)
-        × GroupMet (now matches) (now scratch) (seeking .seat) (now met) ⌝ }
+        × (seeking .head < parts)
+        × (seeking .from ≤ parts)
+        × (parts ≤ roomIn (now scratch))
+        × Open parts (now ready) (now scratch) (seeking .head)
+        × GroupMet (now matches) (now scratch) (seeking .head) (now met) ⌝ }
     ensures { λ r. ⌜
-        Finds (now (links .entry)) (now (matches .entry)) (now (knowing .entry)) (now (attributes .entry))
-        (sizes .users) (sizes .resources) (sizes .operations) (now (scratch .entry)) (seeking .seat) (seeking .from)
-        (r .seat) (r .level) ⌝ }
+        Finds parts (now (links .entry)) (now (matches .entry)) (now (knowing .entry)) (now (attributes .entry))
+        (sizes .users) (sizes .resources) (sizes .operations) (now (scratch .entry)) (seeking .head) (seeking .from)
+        (r .head) (r .level) ⌝ }
 {
-    // Most seats are no heads.
-    if mine_seats::is_head(scratch, seeking.seat) {
-        let g = mine_seats::group_at(scratch, seeking.seat);
-        let mut k = next_near(scratch, ready, g, seeking.from);
-        while k < RoleFile::PARTS {
+    // Most parts are no heads.
+    if mine_parts::is_head(scratch, seeking.head) {
+        let g = mine_parts::group_at(scratch, seeking.head);
+        let mut k = next_near(scratch, parts, ready, g, seeking.from);
+        while k < parts {
             let level = level_beside(
                 scratch,
                 links,
@@ -204,20 +204,20 @@ pub fn first_partner<'a>(
                 knowing,
                 attributes,
                 sizes,
-                seeking.seat,
+                seeking.head,
                 k,
             );
             if level < mine_pairs::NO_LEVEL {
                 return Found {
-                    seat: k,
+                    head: k,
                     level: level,
                 };
             }
-            k = next_near(scratch, ready, g, k + 1);
+            k = next_near(scratch, parts, ready, g, k + 1);
         }
     }
     Found {
-        seat: RoleFile::PARTS,
+        head: parts,
         level: mine_pairs::NO_LEVEL,
     }
 }

@@ -1,3 +1,2 @@
 pub mod Frontier
 pub mod FrontierLaws
-pub mod AlikeLaws

@@ -2,7 +2,7 @@
 ghost use Prim.Native.Nat.{ℕ, _≤_};
 ghost use lib.ListN.{length, take};
 ghost use mathlib.Core.Path.{_≡_};
-ghost use Rattle.mine_seats.specs.Seats.{scratchWords};
+ghost use Rattle.mine_parts.specs.Layout.{mostParts, roomIn};
 ghost use Rattle.files.specs.Answer.{told, accepted};
 ghost use Rattle.files.specs.Calls.{Counts, countValues, mineAnswer, mineOutput};
 ghost use Rattle.files.specs.Beside.{besideOf};
@@ -36,7 +36,7 @@ pub fn ones() -> Weights
 
 // Mining with the words of scratch that it needs, whatever they hold.
 fn mine_in(file: &[u8], scratch: &mut [u64], out: &mut [u8]) -> Attempt
-    requires { ⌜ length (now scratch) ≡ scratchWords ⌝ }
+    requires { ⌜ mostParts ≤ roomIn (now scratch) ⌝ }
     ensures { λ r. ⌜
         ((n : ℕ) → 4096 ≤ n → Outcome (now (file .entry)) n (now (out .entry)) (r .wrote) (now (out .exit)))
         × (r .bytes ≡ bytesFor (readRoles 2 (now (file .entry)))) ⌝ }
@@ -87,7 +87,7 @@ pub fn mine(file: &[u8], weights: Weights, scratch: &mut [u64], out: &mut [u8]) 
     if scratch.len() < SCRATCH {
         return Mined::Refused(refusal::SMALL_SCRATCH);
     }
-    let a = mine_in(file, &mut scratch[0..2048], out);
+    let a = mine_in(file, &mut scratch[0..mine_parts::WORDS], out);
     let wrote = a.wrote;
     write_answer::answer(wrote, weights)
 }
@@ -102,6 +102,6 @@ pub fn rule_bytes(file: &[u8], scratch: &mut [u64]) -> usize
         return 0;
     }
     let mut out = [0u8; 1];
-    let a = mine_in(file, &mut scratch[0..2048], &mut out);
+    let a = mine_in(file, &mut scratch[0..mine_parts::WORDS], &mut out);
     a.bytes
 }

@@ -13,23 +13,23 @@ use Rattle.files.specs.RoleFile.{readRoles}
 use Rattle.grant_grids.specs.Links.{linkTable}
 use Rattle.mine_matches.specs.Matches.{matchTable, knownPlaces}
 use Rattle.write_file.specs.FileLaws.{file-means, measure-means}
-use Rattle.write_kept.specs.Kept.{keptTable}
+use Rattle.write_kept.specs.Kept.{KeptTable}
 use Rattle.write_measure.specs.FileTable.{fileBytes, measuredOf}
 use Rattle.write_measure.specs.MeasureLaws.{file-most}
 use Rattle.write_shape.specs.ShapedFile.{shapedBytes}
 use Rattle.rule_opening.specs.Opening.{shapeIn}
 use Rattle.rule_opening.specs.OpeningLaws.{shape-so}
-use Rattle.role_record.specs.Cells.{roleCells}
 use Rattle.role_record.specs.declared.Sizes.{Sizes}
 use Rattle.write_answer.specs.MineLaws.{written}
-use Rattle.write_answer.specs.Stages.{OfRecord, Outcome, keptFor, MergedBy, WrittenBy}
+use Rattle.write_answer.specs.Stages.{OfRecord, Outcome, KeptFor, MergedBy, WrittenBy}
 use Rattle.write_lines.specs.Writing.{wrote}
-use Rattle.policy.specs.Policy.{Policy}
+use Rattle.policy.specs.Mined.{mergeCount}
+use Rattle.policy.specs.Policy.{Policy, settingOf, rolesIn}
 use Rattle.policy.specs.Rules.{user, resource}
 use Rattle.policy.specs.declared.Weights.{Weights}
 use Rattle.write_cost.specs.CostSums.{weighed}
-use Rattle.mine_groups.specs.Scratch.{Merged}
-use Rattle.mine_groups.specs.SeatGroups.{seatMerges}
+use Rattle.mine_groups.specs.Scratch.{Merged, allParts, Stands}
+use Rattle.mine_parts.specs.Layout.{mostParts}
 use Rattle.role_record.specs.declared.RoleFile.{RoleFile}
 use Rattle.write_measure.specs.declared.Measured.{Measured}
 use Rattle.mine_merge.specs.Steps.{Tables}
@@ -75,8 +75,9 @@ module _ (F : Policy) (known values kinds domains attributes holders permissions
     of-roles = s .of-roles;
   }
 
-  pub written-by : (kept t : List ℕ) → Merged F t → kept ≡ keptFor F t → WrittenBy F kept distinct having inside kinds permissions (record { users = users; resources = resources; operations = operations; roles = roles }) attributes t
-  written-by kept t M k = record {
+  pub written-by : (kept starts t : List ℕ) → Merged F (allParts starts) t → KeptFor F starts t kept
+      → WrittenBy F kept distinct having inside kinds permissions (record { users = users; resources = resources; operations = operations; roles = roles }) attributes starts t
+  written-by kept starts t M k = record {
     merged = M;
     of-kept = k;
     of-distinct = merged-by .of-distinct;
@@ -114,29 +115,31 @@ module _ (F : Policy) (known kinds domains attributes holders permissions distin
       of-roles = m .of-roles;
     }
 
-    pub kept-so : (kept t : List ℕ) → kept ≡ keptTable links matched places attributes users resources operations t → kept ≡ keptFor F t
-    kept-so kept t k = k ∙ rw (tables-so .of-links, tables-so .of-matches, tables-so .of-known, m .of-attributes, m .of-users, m .of-resources, m .of-operations) refl
+    pub kept-so : (kept starts t : List ℕ) → KeptTable links matched places attributes users resources operations (allParts starts) t kept → KeptFor F starts t kept
+    kept-so kept starts t k i l = k i l ∙ rw (tables-so .of-links, tables-so .of-matches, tables-so .of-known, m .of-attributes, m .of-users, m .of-resources, m .of-operations) refl
 
 -- ---- writing
 
-module _ (F : Policy) (Z : Sized F) (kept distinct having inside kinds permissions : List ℕ) (sizes : Sizes) (attributes t : List ℕ) (w : WrittenBy F kept distinct having inside kinds permissions sizes attributes t) where
-  pub file-so : shapedBytes (shapeIn sizes attributes) (fileBytes kept distinct having inside kinds permissions (sizes .operations) t) ≡ minedBytes 2 F
+module _ (F : Policy) (Z : Sized F) (kept distinct having inside kinds permissions : List ℕ) (sizes : Sizes) (attributes starts t : List ℕ) (S : Stands t starts)
+    (w : WrittenBy F kept distinct having inside kinds permissions sizes attributes starts t) where
+  pub file-so : shapedBytes (shapeIn sizes attributes) (fileBytes kept distinct having inside kinds permissions (sizes .operations) starts t) ≡ minedBytes 2 F
   file-so =
-      ap (λ (shape : List ℕ). shapedBytes shape (fileBytes kept distinct having inside kinds permissions (sizes .operations) t)) (w .of-shape)
-      ∙ rw (w .of-kept, w .of-distinct, w .of-having, w .of-inside, w .of-kinds, w .of-permissions, w .of-operations) (file-means F Z t (w .merged))
+      ap (λ (shape : List ℕ). shapedBytes shape (fileBytes kept distinct having inside kinds permissions (sizes .operations) starts t)) (w .of-shape)
+      ∙ rw (w .of-distinct, w .of-having, w .of-inside, w .of-kinds, w .of-permissions, w .of-operations) (file-means F Z starts t S (w .merged) kept (w .of-kept))
 
-  pub measured-so : (m : Measured) → m ≡ measuredOf kept distinct having inside kinds permissions (sizes .operations) t
-      → (7 + m .bytes ≡ length (minedBytes 2 F)) × ((weights : Weights) → minedCounts 2 F weights ≡ record { size = 7 + m .bytes; parts = m .parts; rules = m .rules; merges = seatMerges F; cost = weighed weights (m .sums) })
+  pub measured-so : (m : Measured) → m ≡ measuredOf kept distinct having inside kinds permissions (sizes .operations) starts t
+      → (7 + m .bytes ≡ length (minedBytes 2 F))
+      × ((weights : Weights) → minedCounts 2 F weights ≡ record { size = 7 + m .bytes; parts = allParts starts; rules = m .rules; merges = mergeCount (settingOf F) (rolesIn F); cost = weighed weights (m .sums) })
   measured-so m e =
-      measure-means F Z t (w .merged) m (e ∙ rw (w .of-kept, w .of-distinct, w .of-having, w .of-inside, w .of-kinds, w .of-permissions, w .of-operations) refl)
+      measure-means F Z starts t S (w .merged) kept (w .of-kept) m (e ∙ rw (w .of-distinct, w .of-having, w .of-inside, w .of-kinds, w .of-permissions, w .of-operations) refl)
 
 -- what was measured is as long as the rules that are written, and not long
-pub measured-long : (kept distinct having inside kinds permissions : List ℕ) (operations : ℕ) (t : List ℕ) (m : Measured) → m ≡ measuredOf kept distinct having inside kinds permissions operations t
-    → (m .bytes ≡ length (fileBytes kept distinct having inside kinds permissions operations t)) × (m .bytes ≤ 12288 * roleCells + 1)
+pub measured-long : (kept distinct having inside kinds permissions : List ℕ) (operations : ℕ) (starts t : List ℕ) → Stands t starts → (m : Measured) → m ≡ measuredOf kept distinct having inside kinds permissions operations starts t
+    → (m .bytes ≡ length (fileBytes kept distinct having inside kinds permissions operations starts t)) × (m .bytes ≤ 12288 * mostParts + 1)
 unfolding measuredOf
-measured-long kept distinct having inside kinds permissions operations t m e =
+measured-long kept distinct having inside kinds permissions operations starts t S m e =
     let l = ap (λ (x : Measured). x .bytes) e in
-    (l, omega (arith, l, file-most kept distinct having inside kinds permissions operations t))
+    (l, omega (arith, l, S .room, file-most kept distinct having inside kinds permissions operations starts t))
 
 -- the sizes of a loaded record
 pub record-sizes : (F : Policy) → Sized F → (f : RoleFile) → f ≡ recordOf F → ((f .users ≤ 64) × (f .resources ≤ 64) × (f .operations ≤ 16) × (f .roles ≤ 32)) × (getD (f .attributes) 0 0 ≤ 6) × (getD (f .attributes) 1 0 ≤ 6)
@@ -146,12 +149,13 @@ record-sizes F Z f e =
     ((Z .many user, Z .many resource, Z .operable, Z .few), Z .declared user, Z .declared resource)
 
 -- the answer once the file is written
-pub answered : (file : List ℕ) (scratch : ℕ) (former : List ℕ) → 4096 ≤ scratch → (F : Policy) → readRoles 2 file ≡ accepted F → (m : Measured) (merges : ℕ)
-    → ((weights : Weights) → minedCounts 2 F weights ≡ record { size = 7 + m .bytes; parts = m .parts; rules = m .rules; merges = seatMerges F; cost = weighed weights (m .sums) }) → merges ≡ seatMerges F → length (minedBytes 2 F) ≤ length former
-    → (bytes out : List ℕ) → bytes ≡ minedBytes 2 F → out ≡ wrote bytes former → Outcome file scratch former (Rules (7 + m .bytes) (m .parts) (m .rules) merges (m .sums)) out
-answered file scratch former h F q m merges e g l bytes out b o =
-    written file scratch former h F q l out (o ∙ ap (λ (x : List ℕ). wrote x former) b) (Rules (7 + m .bytes) (m .parts) (m .rules) merges (m .sums))
-    (λ weights. ap (λ (k : ℕ). 0 ∷ (7 + m .bytes) ∷ m .parts ∷ m .rules ∷ k ∷ weighed weights (m .sums) ∷ []) g ∙ ap (λ (c : Counts). 0 ∷ countValues c) (sym (e weights)))
+pub answered : (file : List ℕ) (scratch : ℕ) (former : List ℕ) → 4096 ≤ scratch → (F : Policy) → readRoles 2 file ≡ accepted F → (m : Measured) (parts merges : ℕ)
+    → ((weights : Weights) → minedCounts 2 F weights ≡ record { size = 7 + m .bytes; parts = parts; rules = m .rules; merges = mergeCount (settingOf F) (rolesIn F); cost = weighed weights (m .sums) })
+    → merges ≡ mergeCount (settingOf F) (rolesIn F) → length (minedBytes 2 F) ≤ length former
+    → (bytes out : List ℕ) → bytes ≡ minedBytes 2 F → out ≡ wrote bytes former → Outcome file scratch former (Rules (7 + m .bytes) parts (m .rules) merges (m .sums)) out
+answered file scratch former h F q m parts merges e g l bytes out b o =
+    written file scratch former h F q l out (o ∙ ap (λ (x : List ℕ). wrote x former) b) (Rules (7 + m .bytes) parts (m .rules) merges (m .sums))
+    (λ weights. ap (λ (k : ℕ). 0 ∷ (7 + m .bytes) ∷ parts ∷ m .rules ∷ k ∷ weighed weights (m .sums) ∷ []) g ∙ ap (λ (c : Counts). 0 ∷ countValues c) (sym (e weights)))
 
 -- the answer that is told
 pub told-so : (file : List ℕ) (scratch : ℕ) (former : List ℕ) {out : List ℕ} {r s : Wrote} → r ≡ s → Outcome file scratch former s out → Outcome file scratch former r out

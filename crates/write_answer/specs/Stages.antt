@@ -20,9 +20,9 @@ use Rattle.write_answer.specs.declared.Wrote.{Wrote}
 use Rattle.write_answer.specs.declared.Wrote.the-variants.{Nothing, Rules}
 use Rattle.write_cost.specs.CostSums.{weighed}
 use Rattle.grant_grids.specs.Links.{linksOf}
-use Rattle.mine_groups.specs.Scratch.{Merged}
+use Rattle.mine_groups.specs.Scratch.{Merged, allParts}
 use Rattle.mine_matches.specs.Matches.{knownIn, matchesIn}
-use Rattle.write_kept.specs.Kept.{keptTable}
+use Rattle.write_kept.specs.Kept.{KeptTable}
 
 -- how long the rule file is: 0 where the role file is refused
 abbrev pub bytesFor : Answer Policy → ℕ
@@ -62,14 +62,14 @@ pub record MergedBy (F : Policy) (known kinds domains attributes holders permiss
   pub of-operations : operations ≡ recordOf F .operations
   pub of-roles : roles ≡ recordOf F .roles
 
--- the places that the rule of each group in scratch memory keeps
-abbrev pub keptFor : Policy → List ℕ → List ℕ
-keptFor F = keptTable (linksOf F) (matchesIn F) (knownIn F) (recordOf F .attributes) (recordOf F .users) (recordOf F .resources) (recordOf F .operations)
+-- the table has the places that the rule of each group in scratch memory keeps
+abbrev pub KeptFor : Policy → (starts t kept : List ℕ) → Type 0
+KeptFor F starts = KeptTable (linksOf F) (matchesIn F) (knownIn F) (recordOf F .attributes) (recordOf F .users) (recordOf F .resources) (recordOf F .operations) (allParts starts)
 
 -- rules are written by what they keep of the merged groups, and by tables of the policy, its sizes and its numbers of attributes
-pub record WrittenBy (F : Policy) (kept distinct having inside kinds permissions : List ℕ) (sizes : Sizes) (attributes t : List ℕ) : Type 0 where
-  pub merged : Merged F t
-  pub of-kept : kept ≡ keptFor F t
+pub record WrittenBy (F : Policy) (kept distinct having inside kinds permissions : List ℕ) (sizes : Sizes) (attributes starts t : List ℕ) : Type 0 where
+  pub merged : Merged F (allParts starts) t
+  pub of-kept : KeptFor F starts t kept
   pub of-distinct : distinct ≡ distinctIn F
   pub of-having : having ≡ havingIn F
   pub of-inside : inside ≡ insideIn F

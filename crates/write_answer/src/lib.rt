@@ -2,15 +2,17 @@
 ghost use lib.Dec.{ltb};
 ghost use lib.ListN.{length};
 ghost use mathlib.Core.Path.{_≡_};
-ghost use Rattle.mine_seats.specs.Seats.{scratchWords};
 ghost use Rattle.role_record.specs.Record.{Sized, WithinLimits, FewAttributes};
 ghost use Rattle.files.specs.Calls.{minedBytes};
-ghost use Rattle.policy.specs.Policy.{Policy};
+ghost use Rattle.policy.specs.Mined.{mergeCount};
+ghost use Rattle.policy.specs.Policy.{Policy, settingOf, rolesIn};
 ghost use Rattle.write_answer.specs.MinedNumbers.{minedNumbers};
 ghost use Rattle.write_answer.specs.Stages.{wroteNumbers, Result, WrittenBy};
-ghost use Rattle.mine_groups.specs.SeatGroups.{seatMerges};
+ghost use Rattle.mine_groups.specs.Scratch.{Stands};
 ghost use Rattle.write_answer.specs.declared.Wrote.the-variants.{Rules};
 use files::refusal;
+use mine_parts::ByPart;
+use mine_parts::Starts;
 use policy::Weights;
 use role_record::ByPlaceMember;
 use role_record::ByRoleOperation;
@@ -53,10 +55,11 @@ pub struct Attempt {
     pub bytes: usize,
 }
 
-// What merging leaves: how many merges were made, and the places that the rule of each group keeps.
+// What merging leaves: how many merges were made, the places that the rule of each group keeps, and where the parts of each role stand.
 pub struct Merging {
     pub made: usize,
-    pub kept: ByRoleOperation,
+    pub kept: ByPart,
+    pub starts: Starts,
 }
 
 // Whether so much memory has no room for so many bytes.
@@ -67,14 +70,14 @@ fn lacks_room(room: usize, bytes: usize) -> bool
 }
 
 // The answer where the rule file, of so many bytes, is written.
-fn written(m: Measured, bytes: usize, made: usize) -> Attempt
+fn written(m: Measured, bytes: usize, parts: usize, made: usize) -> Attempt
     ensures { λ r. ⌜
-        (r .wrote ≡ Rules bytes (m .parts) (m .rules) made (m .sums)) × (r .bytes ≡ bytes) ⌝ }
+        (r .wrote ≡ Rules bytes parts (m .rules) made (m .sums)) × (r .bytes ≡ bytes) ⌝ }
 {
     let sums = m.sums;
     let wrote = Wrote::Rules {
         length: bytes,
-        parts: m.parts,
+        parts: parts,
         rules: m.rules,
         merges: made,
         sums: sums,
@@ -121,17 +124,18 @@ pub fn write_groups<'a>(
     out: &mut [u8],
 ) -> Attempt
     requires { ⌜
-        WithinLimits sizes × FewAttributes (now attributes) × (length (now scratch) ≡ scratchWords) ⌝ }
+        WithinLimits sizes × FewAttributes (now attributes) × Stands (now scratch) (merging .starts) ⌝ }
     ensures { λ r. ⌜
         ((F : Policy)
         → Sized F
         → WrittenBy F (merging .kept) (now (distinct .entry)) (now (having .entry)) (now (inside .entry))
-        (now (kinds .entry)) (now (permissions .entry)) sizes (now (attributes .entry)) (now (scratch .entry))
-        → merging .made ≡ seatMerges F
+        (now (kinds .entry)) (now (permissions .entry)) sizes (now (attributes .entry)) (merging .starts)
+        (now (scratch .entry))
+        → merging .made ≡ mergeCount (settingOf F) (rolesIn F)
         → Result F (now (out .entry)) (r .wrote) (now (out .exit)) × (r .bytes ≡ length (minedBytes 2 F))) ⌝ }
 {
-    let mut group_roles = [0u64; RoleFile::PARTS];
-    write_roles::roles_of_groups(scratch, &mut group_roles);
+    let mut group_roles = [0u64; mine_parts::MOST];
+    write_roles::roles_of_groups(scratch, &merging.starts, &mut group_roles);
     let m = write_measure::measure(
         &merging.kept,
         distinct,
@@ -141,6 +145,7 @@ pub fn write_groups<'a>(
         permissions,
         &group_roles,
         sizes.operations,
+        &merging.starts,
         scratch,
     );
     let bytes = rule_opening::BYTES + m.bytes;
@@ -160,8 +165,9 @@ pub fn write_groups<'a>(
         &group_roles,
         sizes,
         attributes,
+        &merging.starts,
         scratch,
         out,
     );
-    written(m, bytes, merging.made)
+    written(m, bytes, merging.starts[RoleFile::ROLES], merging.made)
 }

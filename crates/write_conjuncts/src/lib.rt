@@ -3,9 +3,8 @@ ghost use lib.ListN.{length};
 ghost use mathlib.Core.Path.{_≡_};
 ghost use Prim.Native.Nat.{_≤_, _<_};
 ghost use Rattle.files.specs.RoleFile.{sideBy};
-ghost use Rattle.mine_seats.specs.Seats.{scratchWords};
+ghost use Rattle.mine_parts.specs.Layout.{roomIn};
 ghost use Rattle.write_lines.specs.Writing.{wrote};
-ghost use Rattle.role_record.specs.Cells.{roleCells};
 ghost use Rattle.role_record.specs.Places.{placeSide};
 ghost use Rattle.write_theory.specs.RuleTable.{keptAs, placeBytesIn, kindBytesIn, conjunctBytesIn};
 use role_record::ByPlaceMember;
@@ -36,7 +35,7 @@ fn put_place<'a>(
     place: usize,
     out: &mut [u8],
 ) -> usize
-    requires { ⌜ (length (now scratch) ≡ scratchWords) × (rule .head < roleCells) × (place < 14) ⌝ }
+    requires { ⌜ (rule .head < roomIn (now scratch)) × (place < 14) ⌝ }
     requires { ⌜
         length
         (placeBytesIn (now distinct) (now having) (now inside) (now kinds) (now scratch) (rule .head) (rule .kept)
@@ -82,7 +81,7 @@ fn put_kind<'a>(
     set: bool,
     out: &mut [u8],
 ) -> usize
-    requires { ⌜ (length (now scratch) ≡ scratchWords) × (rule .head < roleCells) × (side < 2) ⌝ }
+    requires { ⌜ (rule .head < roomIn (now scratch)) × (side < 2) ⌝ }
     requires { ⌜
         length
         (kindBytesIn (now distinct) (now having) (now inside) (now kinds) (now scratch) (rule .head) (rule .kept)
@@ -126,7 +125,7 @@ pub fn put_conjuncts<'a>(
     rule: Outline,
     out: &mut [u8],
 ) -> usize
-    requires { ⌜ (length (now scratch) ≡ scratchWords) × (rule .head < roleCells) ⌝ }
+    requires { ⌜ (rule .head < roomIn (now scratch)) ⌝ }
     requires { ⌜
         length (conjunctBytesIn (now distinct) (now having) (now inside) (now kinds) (now scratch) (rule .head)
         (rule .kept)) ≤ length

@@ -3,23 +3,23 @@
 use Prim.Native.Nat.{ℕ, _+_, _<_}
 use lib.ListN.{length, getD}
 use mathlib.Core.Bool.{Bool, true, false, cond}
-use mathlib.Core.List.{List, [], _∷_, _++_, map}
+use mathlib.Core.List.{List, [], _∷_, _++_}
 use mathlib.Core.Path.{_≡_, refl, sym, ap, _∙_}
 use native.Mathlib.Omega.{arith}
-use Rattle.role_record.specs.Cells.{roleCells}
 use Rattle.role_record.specs.Record.{Sized, recordOf}
 use Rattle.files.specs.Beside.{shapeOf}
-use Rattle.files.specs.Calls.{minedBytes, minedCounts}
-use Rattle.files.specs.RuleFile.{encode, encodeAll, opens}
-use Rattle.write_kept.specs.Kept.{keptAt, keptHead, keptTable}
+use Rattle.files.specs.Calls.{Counts, minedLines, minedBytes, minedCounts}
+use Rattle.files.specs.RuleFile.{Lines, encode, encodeAll, encodeFile, opens, linesOf}
+use Rattle.write_kept.specs.Kept.{keptAt, keptHead, KeptTable}
 use Rattle.write_measure.specs.FileTable.{sumsWith, sumsAt, ruleWith, fileBytes, measuredOf}
-use Rattle.role_record.specs.RecordLaws.{table-get}
 use Rattle.mine_matches.specs.Matches.{knownIn, matchesIn}
 use Rattle.grant_grids.specs.Links.{linksOf}
 use Rattle.policy.specs.Cost.{ruleCost}
 use Rattle.policy.specs.Covering.{levelOf}
 use Rattle.policy.specs.Merging.{union}
-use Rattle.policy.specs.Policy.{Policy, settingOf}
+use Rattle.policy.specs.Mined.{partCount, minedGroups, mergeCount, ruleOf}
+use Rattle.policy.specs.Policy.{Policy, settingOf, rolesIn}
+use Rattle.policy.specs.Rules.{Rule}
 use Rattle.policy.specs.declared.Weights.{Weights}
 use Rattle.write_cost.specs.CostSumLaws.{cost-weighed, weighed-if, weighed-all}
 use Rattle.write_cost.specs.CostSums.{ruleSums, noSums, allSums, weighed}
@@ -30,17 +30,18 @@ use Rattle.write_theory.specs.WriterLaws.{written-bytes, written-sums}
 use Rattle.mine_distinct.specs.InsideValues.{distinctIn, havingIn, insideIn}
 use Rattle.sets.specs.ListLaws.{each-map, sum-ext}
 use Rattle.sets.specs.Tests.{Is, keep, each, upTo, sum}
-use Rattle.mine_groups.specs.MergedLaws.{heads-each, heads-sum, heads-count, parts-count}
-use Rattle.mine_seats.specs.Seats.{wordsAt, isHeadAt}
-use Rattle.mine_groups.specs.Scratch.{Merged}
-use Rattle.mine_groups.specs.SeatGroupLaws.{bytes-seats, counts-seats}
-use Rattle.mine_groups.specs.SeatGroups.{seatBlock, seatGroups, seatsOf, seatMerges, seatRule, seatLines}
+use Rattle.mine_groups.specs.MergedLaws.{heads-each, heads-sum, heads-count}
+use Rattle.mine_parts.specs.Layout.{wordsAt, isHeadAt}
+use Rattle.mine_groups.specs.Scratch.{blocksOf, Merged, allParts, Stands}
 use Rattle.mine_thin.specs.KeptPlacesLaws.{kept-means}
 use Rattle.mine_theory.specs.Words.FlagLaws.{sum-if}
 use Rattle.mine_theory.specs.Words.Flags.{keptPlaces}
 use Rattle.write_measure.specs.declared.Measured.{Measured}
 
--- ---- lists
+-- ---- lists and counts
+
+counts-same : {a b c d e p q r s t : ℕ} → a ≡ p → b ≡ q → c ≡ r → d ≡ s → e ≡ t → _≡_ {A = Counts} (record { size = a; parts = b; rules = c; merges = d; cost = e }) (record { size = p; parts = q; rules = r; merges = s; cost = t })
+counts-same h i j k l = rw (h, i, j, k, l) refl
 
 each-if : {C : Type 0} (p : ℕ → Bool) (f : ℕ → List C) (l : List ℕ) → each (λ i. cond (p i) (f i) []) l ≡ each f (keep p l)
 each-if p f [] = refl
@@ -50,80 +51,78 @@ each-if p f (x ∷ l) = go (p x) (each-if p f l)
     go true e = ap (λ r. f x ++ r) e
     go false e = e
 
-module _ (F : Policy) (Z : Sized F) (t : List ℕ) (M : Merged F t) where
-  -- the table of what is kept, by the tables of the policy's record
-  abbrev pub keptIn : List ℕ
-  keptIn = keptTable (linksOf F) (matchesIn F) (knownIn F) (recordOf F .attributes) (recordOf F .users) (recordOf F .resources) (recordOf F .operations) t
+module _ (F : Policy) (Z : Sized F) (starts t : List ℕ) (S : Stands t starts) (M : Merged F (allParts starts) t) (kept : List ℕ)
+    (k : KeptTable (linksOf F) (matchesIn F) (knownIn F) (recordOf F .attributes) (recordOf F .users) (recordOf F .resources) (recordOf F .operations) (allParts starts) t kept) where
+  abbrev group : ℕ → List ℕ
+  group i = M .groups .group i
 
-  abbrev kept : ℕ → ℕ
-  kept i = getD keptIn i 0
+  abbrev rule : List ℕ → Rule
+  rule = ruleOf (settingOf F) (rolesIn F)
 
-  abbrev block : ℕ → List ℕ
-  block i = M .groups .group i
+  abbrev lines : List ℕ → Lines
+  lines g = linesOf (settingOf F) (rolesIn F) (rule g) g
+
+  abbrev mined : List (List ℕ)
+  mined = minedGroups (settingOf F) (rolesIn F)
 
   -- the places kept are those of the written rule
-  kept-so : (i : ℕ) → i < roleCells → Is (M .groups .alive i) → kept i ≡ keptPlaces (settingOf F) (wordsAt t i) (levelOf (settingOf F) (union (settingOf F) (seatBlock F) (block i)))
-  unfolding keptTable keptHead keptAt
+  kept-so : (i : ℕ) → i < allParts starts → Is (M .groups .alive i) → getD kept i 0 ≡ keptPlaces (settingOf F) (wordsAt t i) (levelOf (settingOf F) (union (settingOf F) (blocksOf F) (group i)))
+  unfolding keptHead keptAt
   kept-so i h a =
-      table-get roleCells (keptHead (linksOf F) (matchesIn F) (knownIn F) (recordOf F .attributes) (recordOf F .users) (recordOf F .resources) (recordOf F .operations) t) i h
+      k i h
       ∙ ap (λ (b : Bool). cond b (keptAt (linksOf F) (matchesIn F) (knownIn F) (recordOf F .attributes) (recordOf F .users) (recordOf F .resources) (recordOf F .operations) t i) 0) (M .shown .heads i h ∙ a)
-      ∙ rw (M .shown .words i h a, M .shown .level i h a) (kept-means F Z (union (settingOf F) (seatBlock F) (block i)) (levelOf (settingOf F) (union (settingOf F) (seatBlock F) (block i))))
+      ∙ rw (M .shown .words i h a, M .shown .level i h a) (kept-means F Z (union (settingOf F) (blocksOf F) (group i)) (levelOf (settingOf F) (union (settingOf F) (blocksOf F) (group i))))
 
   abbrev bytesOf : ℕ → List ℕ
-  bytesOf i = ruleBytesIn (distinctIn F) (havingIn F) (insideIn F) (recordOf F .kinds) (recordOf F .permissions) (recordOf F .operations) t i (kept i)
+  bytesOf i = ruleBytesIn (distinctIn F) (havingIn F) (insideIn F) (recordOf F .kinds) (recordOf F .permissions) (recordOf F .operations) starts t i (getD kept i 0)
 
   abbrev sumsOf : ℕ → Sums
-  sumsOf i = ruleSumsIn (distinctIn F) (havingIn F) (insideIn F) (recordOf F .kinds) t i (kept i)
+  sumsOf i = ruleSumsIn (distinctIn F) (havingIn F) (insideIn F) (recordOf F .kinds) t i (getD kept i 0)
 
-  rule-so : (i : ℕ) → i < roleCells → Is (M .groups .alive i) → bytesOf i ≡ each (encode 2) (opens ∷ seatLines F (block i))
-  rule-so i h a = written-bytes F Z t (M .groups) (M .shown) i h a (kept i) (kept-so i h a)
+  rule-so : (i : ℕ) → i < allParts starts → Is (M .groups .alive i) → bytesOf i ≡ each (encode 2) (opens ∷ lines (group i))
+  rule-so i h a = written-bytes F Z (allParts starts) starts t (S .begun) (M .groups) (M .shown) i h a (getD kept i 0) (kept-so i h a)
 
-  sums-so : (i : ℕ) → i < roleCells → Is (M .groups .alive i) → sumsOf i ≡ ruleSums (settingOf F) (seatRule F (block i))
-  sums-so i h a = written-sums F Z t (M .groups) (M .shown) i h a (kept i) (kept-so i h a)
+  sums-so : (i : ℕ) → i < allParts starts → Is (M .groups .alive i) → sumsOf i ≡ ruleSums (settingOf F) (rule (group i))
+  sums-so i h a = written-sums F Z (allParts starts) starts t (S .begun) (M .groups) (M .shown) i h a (getD kept i 0) (kept-so i h a)
 
   abbrev tables-bytes : List ℕ
-  tables-bytes = fileBytes keptIn (distinctIn F) (havingIn F) (insideIn F) (recordOf F .kinds) (recordOf F .permissions) (recordOf F .operations) t
+  tables-bytes = fileBytes kept (distinctIn F) (havingIn F) (insideIn F) (recordOf F .kinds) (recordOf F .permissions) (recordOf F .operations) starts t
 
-  all-encoded : each (λ g. each (encode 2) (opens ∷ seatLines F g)) (seatGroups F) ++ (0x2F ∷ []) ≡ encodeAll 2 (map (seatLines F) (seatGroups F))
-  unfolding encodeAll encode
-  all-encoded = ap (λ r. r ++ (0x2F ∷ [])) (sym (each-map (λ ls. each (encode 2) (opens ∷ ls)) (seatLines F) (seatGroups F)))
+  all-encoded : each (λ g. each (encode 2) (opens ∷ lines g)) mined ++ (0x2F ∷ []) ≡ encodeAll 2 (minedLines (settingOf F) (rolesIn F))
+  unfolding encodeAll encode minedLines
+  all-encoded = ap (λ r. r ++ (0x2F ∷ [])) (sym (each-map (λ ls. each (encode 2) (opens ∷ ls)) lines mined))
 
   -- THE LAW: the bytes, behind the 20
-  pub file-means : 0x20 ∷ (shapeOf F ++ fileBytes keptIn (distinctIn F) (havingIn F) (insideIn F) (recordOf F .kinds) (recordOf F .permissions) (recordOf F .operations) t) ≡ minedBytes 2 F
-  unfolding fileBytes ruleWith
+  pub file-means : 0x20 ∷ (shapeOf F ++ fileBytes kept (distinctIn F) (havingIn F) (insideIn F) (recordOf F .kinds) (recordOf F .permissions) (recordOf F .operations) starts t) ≡ minedBytes 2 F
+  unfolding fileBytes ruleWith minedBytes encodeFile
   file-means =
       ap (λ (l : List ℕ). 0x20 ∷ (shapeOf F ++ l))
-      (ap (λ r. r ++ (0x2F ∷ [])) (each-if (isHeadAt t) bytesOf (upTo roleCells) ∙ heads-each F t M (λ g. each (encode 2) (opens ∷ seatLines F g)) bytesOf rule-so)
+      (ap (λ r. r ++ (0x2F ∷ [])) (each-if (isHeadAt t) bytesOf (upTo (allParts starts)) ∙ heads-each F (allParts starts) t M (λ g. each (encode 2) (opens ∷ lines g)) bytesOf rule-so)
       ∙ all-encoded)
-      ∙ sym (bytes-seats F (Z .few) (Z .operable))
-
-  abbrev tables-measured : Measured
-  tables-measured = measuredOf keptIn (distinctIn F) (havingIn F) (insideIn F) (recordOf F .kinds) (recordOf F .permissions) (recordOf F .operations) t
 
   -- what the rules' cost is made of comes to their cost, by whatever weights
   weighed-groups : (weights : Weights)
-      → weighed weights (allSums (sumsAt keptIn (distinctIn F) (havingIn F) (insideIn F) (recordOf F .kinds) t) (upTo roleCells)) ≡ sum (λ g. ruleCost (settingOf F) weights (seatRule F g)) (seatGroups F)
+      → weighed weights (allSums (sumsAt kept (distinctIn F) (havingIn F) (insideIn F) (recordOf F .kinds) t) (upTo (allParts starts))) ≡ sum (λ g. ruleCost (settingOf F) weights (rule g)) mined
   unfolding sumsWith
   weighed-groups weights =
-      weighed-all weights (λ i. cond (isHeadAt t i) (sumsOf i) noSums) (upTo roleCells)
-      ∙ sum-ext (λ i. weighed weights (cond (isHeadAt t i) (sumsOf i) noSums)) (λ i. cond (isHeadAt t i) (weighed weights (sumsOf i)) 0) (upTo roleCells) (λ i m. weighed-if weights (isHeadAt t i) (sumsOf i))
-      ∙ sum-if (isHeadAt t) (λ i. weighed weights (sumsOf i)) (upTo roleCells)
-      ∙ heads-sum F t M (λ g. ruleCost (settingOf F) weights (seatRule F g)) (λ i. weighed weights (sumsOf i)) (λ i h a. ap (weighed weights) (sums-so i h a) ∙ sym (cost-weighed (settingOf F) weights (seatRule F (block i))))
+      weighed-all weights (λ i. cond (isHeadAt t i) (sumsOf i) noSums) (upTo (allParts starts))
+      ∙ sum-ext (λ i. weighed weights (cond (isHeadAt t i) (sumsOf i) noSums)) (λ i. cond (isHeadAt t i) (weighed weights (sumsOf i)) 0) (upTo (allParts starts)) (λ i m. weighed-if weights (isHeadAt t i) (sumsOf i))
+      ∙ sum-if (isHeadAt t) (λ i. weighed weights (sumsOf i)) (upTo (allParts starts))
+      ∙ heads-sum F (allParts starts) t M (λ g. ruleCost (settingOf F) weights (rule g)) (λ i. weighed weights (sumsOf i)) (λ i h a. ap (weighed weights) (sums-so i h a) ∙ sym (cost-weighed (settingOf F) weights (rule (group i))))
 
   -- THE LAW: the counts
-  pub measure-means : (measured-of : Measured) → measured-of ≡ measuredOf keptIn (distinctIn F) (havingIn F) (insideIn F) (recordOf F .kinds) (recordOf F .permissions) (recordOf F .operations) t
+  pub measure-means : (measured-of : Measured) → measured-of ≡ measuredOf kept (distinctIn F) (havingIn F) (insideIn F) (recordOf F .kinds) (recordOf F .permissions) (recordOf F .operations) starts t
       → (7 + measured-of .bytes ≡ length (minedBytes 2 F))
-      × ((weights : Weights) → minedCounts 2 F weights ≡ record { size = 7 + measured-of .bytes; parts = measured-of .parts; rules = measured-of .rules; merges = seatMerges F; cost = weighed weights (measured-of .sums) })
-  unfolding measuredOf
+      × ((weights : Weights) → minedCounts 2 F weights ≡ record { size = 7 + measured-of .bytes; parts = allParts starts; rules = measured-of .rules; merges = mergeCount (settingOf F) (rolesIn F); cost = weighed weights (measured-of .sums) })
+  unfolding measuredOf minedCounts
   measure-means m e =
       let of-rules : m .bytes ≡ length tables-bytes = ap (λ (x : Measured). x .bytes) e in
       let of-file : length (0x20 ∷ (shapeOf F ++ tables-bytes)) ≡ length (minedBytes 2 F) = ap length file-means in
       let sized : 7 + m .bytes ≡ length (minedBytes 2 F) = omega (arith, of-rules, of-file) in
-      let ruled : m .rules ≡ length (seatGroups F) = ap (λ (x : Measured). x .rules) e ∙ heads-count F t M in
-      let parted : m .parts ≡ length (seatsOf F) = ap (λ (x : Measured). x .parts) e ∙ parts-count F t M in
-      let long : length (0x20 ∷ (shapeOf F ++ encodeAll 2 (map (seatLines F) (seatGroups F)))) ≡ 7 + m .bytes = ap length (sym (bytes-seats F (Z .few) (Z .operable))) ∙ sym sized in (
+      let ruled : m .rules ≡ length mined = ap (λ (x : Measured). x .rules) e ∙ heads-count F (allParts starts) t M in
+      let parted : allParts starts ≡ partCount (settingOf F) (rolesIn F) = M .shown .all in (
         sized,
         λ weights.
-            let costed : weighed weights (m .sums) ≡ sum (λ g. ruleCost (settingOf F) weights (seatRule F g)) (seatGroups F) = ap (λ (x : Measured). weighed weights (x .sums)) e ∙ weighed-groups weights in
-            counts-seats F (Z .few) (Z .operable) weights ∙ rw (long, ← parted, ← ruled, ← costed) refl,
+            let costed : weighed weights (m .sums) ≡ sum (λ g. ruleCost (settingOf F) weights (rule g)) mined = ap (λ (x : Measured). weighed weights (x .sums)) e ∙ weighed-groups weights in
+            counts-same (sym sized) (sym parted) (sym ruled) refl (sym costed),
       )

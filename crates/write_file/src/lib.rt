@@ -3,11 +3,12 @@ ghost use lib.ListN.{length};
 ghost use mathlib.Core.Path.{_≡_};
 ghost use Prim.Native.Nat.{_≤_, _<_};
 ghost use Rattle.write_measure.specs.FileTable.{fileBytes, ruleWith};
-ghost use Rattle.mine_seats.specs.Seats.{scratchWords};
-ghost use Rattle.role_record.specs.Cells.{roleCells};
+ghost use Rattle.mine_groups.specs.Scratch.{allParts, Stands};
 ghost use Rattle.write_lines.specs.Writing.{wrote};
-ghost use Rattle.write_roles.specs.GroupRoles.{rolesFor, rolesTable};
+ghost use Rattle.write_roles.specs.GroupRoles.{rolesFor, RolesTable};
 use files::rule_byte;
+use mine_parts::ByPart;
+use mine_parts::Starts;
 use role_record::ByPlaceMember;
 use role_record::ByRoleOperation;
 use role_record::BySide;
@@ -17,41 +18,43 @@ use write_theory::Outline;
 // The last byte, as it is stored.
 const ENDS: u8 = rule_byte::ENDS as u8;
 
-// ---- one seat
+// ---- one head
 
-// Writes a rule at the front of a slice; nothing where its seat is no head.
-fn write_seat<'a>(
+// Writes a rule at the front of a slice; nothing where its part is no head.
+fn write_head<'a>(
     distinct: &'a ByPlaceMember,
     having: &'a ByPlaceMember,
     inside: &'a ByPlaceMember,
     kinds: &'a BySide,
     permissions: &'a ByRoleOperation,
     operations: usize,
+    starts: &'a Starts,
     scratch: &'a [u64],
     rule: Outline,
     out: &mut [u8],
 ) -> usize
     requires { ⌜
         (operations ≤ 16)
-        × (length (now scratch) ≡ scratchWords)
-        × (rule .head < roleCells)
-        × (rule .roles ≡ rolesFor (now scratch) (rule .head))
+        × Stands (now scratch) (now starts)
+        × (rule .head < allParts (now starts))
+        × (rule .roles ≡ rolesFor (now starts) (now scratch) (rule .head))
         × (length
-        (ruleWith (now distinct) (now having) (now inside) (now kinds) (now permissions) operations (now scratch)
-        (rule .head) (rule .kept))
+        (ruleWith (now distinct) (now having) (now inside) (now kinds) (now permissions) operations (now starts)
+        (now scratch) (rule .head) (rule .kept))
         ≤ length (now out)) ⌝ }
     ensures { λ r. ⌜
         (now (out .exit)
         ≡ wrote
         (ruleWith (now (distinct .entry)) (now (having .entry)) (now (inside .entry)) (now (kinds .entry))
-        (now (permissions .entry)) operations (now (scratch .entry)) (rule .head) (rule .kept))
+        (now (permissions .entry)) operations (now (starts .entry)) (now (scratch .entry)) (rule .head) (rule .kept))
         (now (out .entry)))
         × (r
         ≡ length
         (ruleWith (now (distinct .entry)) (now (having .entry)) (now (inside .entry)) (now (kinds .entry))
-        (now (permissions .entry)) operations (now (scratch .entry)) (rule .head) (rule .kept))) ⌝ }
+        (now (permissions .entry)) operations (now (starts .entry)) (now (scratch .entry)) (rule .head)
+        (rule .kept))) ⌝ }
 {
-    if mine_seats::is_head(scratch, rule.head) {
+    if mine_parts::is_head(scratch, rule.head) {
         return write_rule::write_rule(
             distinct,
             having,
@@ -59,6 +62,7 @@ fn write_seat<'a>(
             kinds,
             permissions,
             operations,
+            starts,
             scratch,
             rule,
             out,
@@ -69,46 +73,49 @@ fn write_seat<'a>(
 
 // Writes the rule file. A rule is written from the place where the rule before it ended.
 pub fn write_rules<'a>(
-    kept: &'a ByRoleOperation,
+    kept: &'a ByPart,
     distinct: &'a ByPlaceMember,
     having: &'a ByPlaceMember,
     inside: &'a ByPlaceMember,
     kinds: &'a BySide,
     permissions: &'a ByRoleOperation,
-    group_roles: &'a ByRoleOperation,
+    group_roles: &'a ByPart,
     operations: usize,
+    starts: &'a Starts,
     scratch: &'a [u64],
     out: &mut [u8],
 )
     requires { ⌜
         (operations ≤ 16)
-        × (length (now scratch) ≡ scratchWords)
-        × (now «group_roles» ≡ rolesTable (now scratch))
+        × Stands (now scratch) (now starts)
+        × RolesTable (now starts) (now scratch) (now «group_roles»)
         × (length
         (fileBytes (now kept) (now distinct) (now having) (now inside) (now kinds) (now permissions) operations
-        (now scratch))
+        (now starts) (now scratch))
         ≤ length (now out)) ⌝ }
     ensures { λ _. ⌜
         now (out .exit)
         ≡ wrote
         (fileBytes (now (kept .entry)) (now (distinct .entry)) (now (having .entry)) (now (inside .entry))
-        (now (kinds .entry)) (now (permissions .entry)) operations (now (scratch .entry)))
+        (now (kinds .entry)) (now (permissions .entry)) operations (now (starts .entry)) (now (scratch .entry)))
         (now (out .entry)) ⌝ }
 {
+    let parts = starts[RoleFile::ROLES];
     let mut at: usize = 0;
-    for i in 0..RoleFile::PARTS {
+    for i in 0..parts {
         let rule = Outline {
             head: i,
             kept: kept[i],
             roles: group_roles[i],
         };
-        at += write_seat(
+        at += write_head(
             distinct,
             having,
             inside,
             kinds,
             permissions,
             operations,
+            starts,
             scratch,
             rule,
             &mut out[at..],

@@ -1,15 +1,11 @@
--- The table of what is kept, seat by seat.
+-- What is kept, part by part.
 -- Assumes nothing.
-use Prim.Native.Nat.{ℕ, _<_}
-use lib.ListN.{length, getD}
+use Prim.Native.Nat.{ℕ}
 use mathlib.Core.Bool.{Bool, true, false, cond}
 use mathlib.Core.List.{List}
 use mathlib.Core.Path.{_≡_, sym, ap, ap₂, _∙_}
-use Rattle.write_kept.specs.Kept.{keptAt, keptHead, keptTable}
-use Rattle.role_record.specs.Cells.{roleCells}
-use Rattle.role_record.specs.Record.{tableOf}
-use Rattle.sets.specs.LoopLaws.{table-unique}
-use Rattle.mine_seats.specs.Seats.{restAt, levelIn, wordsAt, isHeadAt}
+use Rattle.write_kept.specs.Kept.{keptAt, keptHead}
+use Rattle.mine_parts.specs.Layout.{restAt, levelIn, wordsAt, isHeadAt}
 use Rattle.mine_rows.specs.KeptPlaces.{keptIn}
 use Rattle.mine_theory.specs.Words.Words.{Words}
 
@@ -26,8 +22,3 @@ module _ (links matches known attributes : List ℕ) (users resources operations
   pub kept-none : (i : ℕ) → isHeadAt t i ≡ false → 0 ≡ keptHead links matches known attributes users resources operations t i
   unfolding keptHead
   kept-none i h = sym (ap (λ (b : Bool). cond b (keptAt links matches known attributes users resources operations t i) 0) h)
-
-  pub kept-unique : (out : List ℕ) → length out ≡ roleCells → ((i : ℕ) → i < roleCells → getD out i 0 ≡ keptHead links matches known attributes users resources operations t i)
-      → out ≡ keptTable links matches known attributes users resources operations t
-  unfolding keptTable tableOf
-  kept-unique out e h = table-unique roleCells out (keptHead links matches known attributes users resources operations t) e h

@@ -2,20 +2,18 @@
 ghost use lib.ListN.{length};
 ghost use mathlib.Core.Path.{_≡_};
 ghost use Prim.Native.Nat.{_≤_, _<_};
-ghost use Rattle.write_kept.specs.Kept.{keptHead, keptTable};
-ghost use Rattle.mine_seats.specs.Seats.{scratchWords};
-ghost use Rattle.role_record.specs.Cells.{roleCells};
+ghost use Rattle.write_kept.specs.Kept.{keptHead, KeptTable};
+ghost use Rattle.mine_parts.specs.Layout.{mostParts, roomIn};
+use mine_parts::ByPart;
 use role_record::ByPlace;
 use role_record::ByPlaceMember;
-use role_record::ByRoleOperation;
 use role_record::CountBySide;
 use role_record::Links;
-use role_record::RoleFile;
 use role_record::Sizes;
 
 // ---- what is kept
 
-// The places that the rule of a seat's group keeps; none where the seat is no head.
+// The places that the rule of a head's group keeps; none where the part is no head.
 fn kept_head<'a>(
     links: &'a Links,
     matches: &'a ByPlaceMember,
@@ -26,15 +24,15 @@ fn kept_head<'a>(
     i: usize,
 ) -> u64
     requires { ⌜
-        (sizes .users ≤ 64) × (sizes .resources ≤ 64) × (i < roleCells) × (length (now scratch) ≡ scratchWords) ⌝ }
+        (sizes .users ≤ 64) × (sizes .resources ≤ 64) × (i < roomIn (now scratch)) ⌝ }
     ensures { λ r. ⌜
         r
         ≡ keptHead (now (links .entry)) (now (matches .entry)) (now (knowing .entry)) (now (attributes .entry))
         (sizes .users) (sizes .resources) (sizes .operations) (now (scratch .entry)) i ⌝ }
 {
-    if mine_seats::is_head(scratch, i) {
-        let g = mine_seats::group_at(scratch, i);
-        let level = mine_seats::level_at(scratch, i);
+    if mine_parts::is_head(scratch, i) {
+        let g = mine_parts::group_at(scratch, i);
+        let level = mine_parts::level_at(scratch, i);
         return mine_thin::kept_places(links, matches, knowing, attributes, g, level, sizes);
     }
     0
@@ -48,19 +46,19 @@ fn fill_kept<'a>(
     attributes: &'a CountBySide,
     sizes: Sizes,
     scratch: &'a [u64],
+    parts: usize,
     out: &mut [u64],
 )
     requires { ⌜
         (sizes .users ≤ 64)
         × (sizes .resources ≤ 64)
-        × (length (now scratch) ≡ scratchWords)
-        × (length (now out) ≡ roleCells) ⌝ }
+        × (parts ≤ roomIn (now scratch))
+        × (length (now out) ≡ mostParts) ⌝ }
     ensures { λ _. ⌜
-        now (out .exit)
-        ≡ keptTable (now (links .entry)) (now (matches .entry)) (now (knowing .entry)) (now (attributes .entry))
-        (sizes .users) (sizes .resources) (sizes .operations) (now (scratch .entry)) ⌝ }
+        KeptTable (now (links .entry)) (now (matches .entry)) (now (knowing .entry)) (now (attributes .entry))
+        (sizes .users) (sizes .resources) (sizes .operations) parts (now (scratch .entry)) (now (out .exit)) ⌝ }
 {
-    for i in 0..RoleFile::PARTS {
+    for i in 0..parts {
         out[i] = kept_head(links, matches, knowing, attributes, sizes, scratch, i);
     }
 }
@@ -73,13 +71,22 @@ pub fn kept_places<'a>(
     attributes: &'a CountBySide,
     sizes: Sizes,
     scratch: &'a [u64],
-    out: &mut ByRoleOperation,
+    parts: usize,
+    out: &mut ByPart,
 )
-    requires { ⌜ (sizes .users ≤ 64) × (sizes .resources ≤ 64) × (length (now scratch) ≡ scratchWords) ⌝ }
+    requires { ⌜ (sizes .users ≤ 64) × (sizes .resources ≤ 64) × (parts ≤ roomIn (now scratch)) ⌝ }
     ensures { λ _. ⌜
-        now (out .exit)
-        ≡ keptTable (now (links .entry)) (now (matches .entry)) (now (knowing .entry)) (now (attributes .entry))
-        (sizes .users) (sizes .resources) (sizes .operations) (now (scratch .entry)) ⌝ }
+        KeptTable (now (links .entry)) (now (matches .entry)) (now (knowing .entry)) (now (attributes .entry))
+        (sizes .users) (sizes .resources) (sizes .operations) parts (now (scratch .entry)) (now (out .exit)) ⌝ }
 {
-    fill_kept(links, matches, knowing, attributes, sizes, scratch, out);
+    fill_kept(
+        links,
+        matches,
+        knowing,
+        attributes,
+        sizes,
+        scratch,
+        parts,
+        out,
+    );
 }

@@ -2,11 +2,11 @@
 ghost use lib.ListN.{length};
 ghost use mathlib.Core.Path.{_≡_};
 ghost use Prim.Native.Nat.{_≤_, _<_};
-ghost use Rattle.mine_seats.specs.Seats.{scratchWords};
+ghost use Rattle.mine_groups.specs.Scratch.{allParts, Stands};
 ghost use Rattle.write_lines.specs.Writing.{wrote};
-ghost use Rattle.role_record.specs.Cells.{roleCells};
 ghost use Rattle.write_theory.specs.RuleTable.{roleBytesIn, partBytesIn};
 ghost use Rattle.write_roles.specs.GroupRoles.{rolesFor};
+use mine_parts::Starts;
 use role_record::ByMember;
 use role_record::ByRoleOperation;
 use role_record::RoleFile;
@@ -16,21 +16,34 @@ use write_theory::Outline;
 fn put_role<'a>(
     permissions: &'a ByRoleOperation,
     operations: usize,
+    starts: &'a Starts,
     scratch: &'a [u64],
     head: usize,
     role: usize,
     list: &mut ByMember,
     out: &mut [u8],
 ) -> usize
-    requires { ⌜ (operations ≤ 16) × (length (now scratch) ≡ scratchWords) × (head < roleCells) × (role < 32) ⌝ }
-    requires { ⌜ length (roleBytesIn (now permissions) operations (now scratch) head role) ≤ length (now out) ⌝ }
+    requires { ⌜
+        (operations ≤ 16) × Stands (now scratch) (now starts) × (head < allParts (now starts)) × (role < 32) ⌝ }
+    requires { ⌜
+        length (roleBytesIn (now permissions) operations (now starts) (now scratch) head role) ≤ length (now out) ⌝ }
     ensures { λ r. ⌜
-        (r ≡ length (roleBytesIn (now (permissions .entry)) operations (now (scratch .entry)) head role))
+        (r
+        ≡ length (roleBytesIn (now (permissions .entry)) operations (now (starts .entry)) (now (scratch .entry)) head role))
         × (now (out .exit)
-        ≡ wrote (roleBytesIn (now (permissions .entry)) operations (now (scratch .entry)) head role)
+        ≡ wrote
+        (roleBytesIn (now (permissions .entry)) operations (now (starts .entry)) (now (scratch .entry)) head role)
         (now (out .entry))) ⌝ }
 {
-    let count = write_parts::list_classes(permissions, operations, scratch, head, role, list);
+    let count = write_parts::list_classes(
+        permissions,
+        operations,
+        starts,
+        scratch,
+        head,
+        role,
+        list,
+    );
     write_lines::put_classes(list, count, role, out)
 }
 
@@ -38,19 +51,24 @@ fn put_role<'a>(
 pub fn put_parts<'a>(
     permissions: &'a ByRoleOperation,
     operations: usize,
+    starts: &'a Starts,
     scratch: &'a [u64],
     rule: Outline,
     out: &mut [u8],
 ) -> usize
     requires { ⌜
-        (operations ≤ 16) × (length (now scratch) ≡ scratchWords) × (rule .head < roleCells)
-        × (rule .roles ≡ rolesFor (now scratch)
+        (operations ≤ 16) × Stands (now scratch) (now starts) × (rule .head < allParts (now starts))
+        × (rule .roles ≡ rolesFor (now starts) (now scratch)
         (rule .head)) ⌝ }
-    requires { ⌜ length (partBytesIn (now permissions) operations (now scratch) (rule .head)) ≤ length (now out) ⌝ }
+    requires { ⌜
+        length (partBytesIn (now permissions) operations (now starts) (now scratch) (rule .head)) ≤ length (now out) ⌝ }
     ensures { λ r. ⌜
-        (r ≡ length (partBytesIn (now (permissions .entry)) operations (now (scratch .entry)) (rule .head)))
+        (r
+        ≡ length
+        (partBytesIn (now (permissions .entry)) operations (now (starts .entry)) (now (scratch .entry)) (rule .head)))
         × (now (out .exit)
-        ≡ wrote (partBytesIn (now (permissions .entry)) operations (now (scratch .entry)) (rule .head))
+        ≡ wrote
+        (partBytesIn (now (permissions .entry)) operations (now (starts .entry)) (now (scratch .entry)) (rule .head))
         (now (out .entry))) ⌝ }
 {
     let mut at: usize = 0;
@@ -62,6 +80,7 @@ pub fn put_parts<'a>(
         at += put_role(
             permissions,
             operations,
+            starts,
             scratch,
             rule.head,
             k,

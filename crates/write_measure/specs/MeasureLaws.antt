@@ -1,4 +1,4 @@
--- The loops that measure and write a rule file, seat by seat.
+-- The loops that measure and write a rule file, part by part.
 -- Assumes nothing.
 use Prim.Native.Nat.{ℕ, _+_, _*_, _≤_, _<_}
 use lib.ListN.{length, getD, set, length-append}
@@ -10,10 +10,10 @@ use Rattle.write_measure.specs.FileTable.{ruleAt, sumsAt, fileBytes, mea
 use Rattle.write_theory.specs.SectionLaws.{bytes-most, runs-most}
 use Rattle.write_lines.specs.Writing.{wrote}
 use Rattle.write_lines.specs.WritingLaws.{length-wrote, Runs, runs-end}
-use Rattle.role_record.specs.Cells.{roleCells}
+use Rattle.mine_groups.specs.Scratch.{allParts}
 use Rattle.sets.specs.ListLaws.{each-more, keep-more}
 use Rattle.sets.specs.Tests.{keep, each, only, upTo}
-use Rattle.mine_seats.specs.Seats.{isPartAt, isHeadAt}
+use Rattle.mine_parts.specs.Layout.{mostParts, isHeadAt}
 use Rattle.write_measure.specs.declared.Measured.{Measured}
 use Rattle.write_cost.specs.CostSumLaws.{all-more, all-most}
 use Rattle.write_cost.specs.CostSums.{noSums, added, allSums, AtMost}
@@ -36,7 +36,7 @@ pub flag-low : (b : Bool) → cond b 1 0 ≤ 1
 flag-low true = omega arith
 flag-low false = omega arith
 
--- ---- what one seat can take
+-- ---- what one part can take
 
 module _ (distinct having inside kinds t : List ℕ) (head kept : ℕ) where
   pub sums-head : isHeadAt t head ≡ true → ruleSumsIn distinct having inside kinds t head kept ≡ sumsWith distinct having inside kinds t head kept
@@ -55,8 +55,8 @@ module _ (distinct having inside kinds t : List ℕ) (head kept : ℕ) where
       go true = sums-most distinct having inside kinds t head kept
       go false = (omega arith, omega arith, omega arith, omega arith)
 
--- the sums of two fit together: those so far, of at most 512 seats, and those of one more
-pub add-fits : (kept distinct having inside kinds t : List ℕ) (i : ℕ) {a b : Sums} → i < roleCells → a ≡ allSums (sumsAt kept distinct having inside kinds t) (upTo i) → b ≡ sumsAt kept distinct having inside kinds t i
+-- the sums of two fit together: those so far, of no more parts than there may be, and those of one more
+pub add-fits : (kept distinct having inside kinds t : List ℕ) (i : ℕ) {a b : Sums} → i < mostParts → a ≡ allSums (sumsAt kept distinct having inside kinds t) (upTo i) → b ≡ sumsAt kept distinct having inside kinds t i
     → AtMost 2147483647 a × AtMost 2147483647 b
 add-fits kept distinct having inside kinds t i {a} {b} l e f = (
   subst (AtMost 2147483647) (sym e) (lower (allSums (sumsAt kept distinct having inside kinds t) (upTo i)) (all-most 28672 (sumsAt kept distinct having inside kinds t) (λ j. sums-low distinct having inside kinds t j (getD kept j 0)) i)),
@@ -69,45 +69,43 @@ add-fits kept distinct having inside kinds t i {a} {b} l e f = (
     low : (s : Sums) → AtMost 28672 s → AtMost 2147483647 s
     low s h = let u = h .0 in let r = h .1 in let o = h .2 in let m = h .3 in (omega (arith, u), omega (arith, r), omega (arith, o), omega (arith, m))
 
-module _ (distinct having inside kinds permissions : List ℕ) (operations : ℕ) (t : List ℕ) (head kept : ℕ) where
-  pub seat-head : isHeadAt t head ≡ true → ruleBytesIn distinct having inside kinds permissions operations t head kept ≡ ruleWith distinct having inside kinds permissions operations t head kept
+module _ (distinct having inside kinds permissions : List ℕ) (operations : ℕ) (starts t : List ℕ) (head kept : ℕ) where
+  pub rule-head : isHeadAt t head ≡ true → ruleBytesIn distinct having inside kinds permissions operations starts t head kept ≡ ruleWith distinct having inside kinds permissions operations starts t head kept
   unfolding ruleWith
-  seat-head h = sym (ap (λ (b : Bool). cond b (ruleBytesIn distinct having inside kinds permissions operations t head kept) []) h)
+  rule-head h = sym (ap (λ (b : Bool). cond b (ruleBytesIn distinct having inside kinds permissions operations starts t head kept) []) h)
 
-  pub seat-none : isHeadAt t head ≡ false → ruleWith distinct having inside kinds permissions operations t head kept ≡ []
+  pub rule-none : isHeadAt t head ≡ false → ruleWith distinct having inside kinds permissions operations starts t head kept ≡ []
   unfolding ruleWith
-  seat-none h = ap (λ (b : Bool). cond b (ruleBytesIn distinct having inside kinds permissions operations t head kept) []) h
+  rule-none h = ap (λ (b : Bool). cond b (ruleBytesIn distinct having inside kinds permissions operations starts t head kept) []) h
 
-  pub rule-most : length (ruleWith distinct having inside kinds permissions operations t head kept) ≤ 12288
+  pub rule-most : length (ruleWith distinct having inside kinds permissions operations starts t head kept) ≤ 12288
   unfolding ruleWith
   rule-most = go (isHeadAt t head)
     where
-      go : (b : Bool) → length (cond b (ruleBytesIn distinct having inside kinds permissions operations t head kept) []) ≤ 12288
-      go true = bytes-most distinct having inside kinds permissions operations t head kept
+      go : (b : Bool) → length (cond b (ruleBytesIn distinct having inside kinds permissions operations starts t head kept) []) ≤ 12288
+      go true = bytes-most distinct having inside kinds permissions operations starts t head kept
       go false = omega arith
 
-module _ (kept distinct having inside kinds permissions : List ℕ) (operations : ℕ) (t : List ℕ) where
+module _ (kept distinct having inside kinds permissions : List ℕ) (operations : ℕ) (starts t : List ℕ) where
   abbrev rule : ℕ → List ℕ
-  rule = ruleAt kept distinct having inside kinds permissions operations t
+  rule = ruleAt kept distinct having inside kinds permissions operations starts t
 
   abbrev made : ℕ → Sums
   made = sumsAt kept distinct having inside kinds t
 
-  -- ---- so many seats
+  -- ---- so many parts
 
-  pub record Counted (bytes rules : ℕ) (sums : Sums) (parts i : ℕ) : Type 0 where
-    pub within : i ≤ roleCells
-    pub bytes-so : bytes ≡ length (each (ruleAt kept distinct having inside kinds permissions operations t) (upTo i))
+  pub record Counted (bytes rules : ℕ) (sums : Sums) (i : ℕ) : Type 0 where
+    pub within : i ≤ allParts starts
+    pub bytes-so : bytes ≡ length (each (ruleAt kept distinct having inside kinds permissions operations starts t) (upTo i))
     pub bytes-low : bytes ≤ 12288 * i
     pub rules-so : rules ≡ length (keep (isHeadAt t) (upTo i))
     pub rules-low : rules ≤ i
     pub sums-so : sums ≡ allSums (sumsAt kept distinct having inside kinds t) (upTo i)
-    pub parts-so : parts ≡ length (keep (isPartAt t) (upTo i))
-    pub parts-low : parts ≤ i
 
-  pub counted-none : (sums : Sums) → sums ≡ noSums → Counted 0 0 sums 0 0
+  pub counted-none : (sums : Sums) → sums ≡ noSums → Counted 0 0 sums 0
   unfolding allSums
-  counted-none sums e = record { within = omega arith; bytes-so = refl; bytes-low = omega arith; rules-so = refl; rules-low = omega arith; sums-so = e; parts-so = refl; parts-low = omega arith }
+  counted-none sums e = record { within = omega arith; bytes-so = refl; bytes-low = omega arith; rules-so = refl; rules-low = omega arith; sums-so = e }
 
   kept-more : (p : ℕ → Bool) (i : ℕ) → length (keep p (upTo (i + 1))) ≡ length (keep p (upTo i)) + cond (p i) 1 0
   kept-more p i = ap length (keep-more p i) ∙ length-append (keep p (upTo i)) (only (p i) i) ∙ ap (λ (k : ℕ). length (keep p (upTo i)) + k) (one (p i))
@@ -116,15 +114,13 @@ module _ (kept distinct having inside kinds permissions : List ℕ) (operations 
       one true = refl
       one false = refl
 
-  pub counted-more : (b r : ℕ) (s : Sums) (p i db dr : ℕ) (ds s′ : Sums) (dp : ℕ) → Counted b r s p i → i < roleCells → db ≡ length (rule i) → dr ≡ cond (isHeadAt t i) 1 0 → ds ≡ made i → s′ ≡ added s ds → dp ≡ cond (isPartAt t i) 1 0
-      → Counted (b + db) (r + dr) s′ (p + dp) (i + 1)
-  counted-more b r s p i db dr ds s′ dp n l e f g k h =
-      let m = rule-most distinct having inside kinds permissions operations t i (getD kept i 0) in
+  pub counted-more : (b r : ℕ) (s : Sums) (i db dr : ℕ) (ds s′ : Sums) → Counted b r s i → i < allParts starts → db ≡ length (rule i) → dr ≡ cond (isHeadAt t i) 1 0 → ds ≡ made i → s′ ≡ added s ds
+      → Counted (b + db) (r + dr) s′ (i + 1)
+  counted-more b r s i db dr ds s′ n l e f g k =
+      let m = rule-most distinct having inside kinds permissions operations starts t i (getD kept i 0) in
       let x = flag-low (isHeadAt t i) in
-      let y = flag-low (isPartAt t i) in
       let q = n .bytes-low in
       let u = n .rules-low in
-      let w = n .parts-low in
       record {
         within = omega arith;
         bytes-so = ap₂ _+_ (n .bytes-so) e ∙ sym (ap length (each-more rule i) ∙ length-append (each rule (upTo i)) (rule i));
@@ -132,49 +128,46 @@ module _ (kept distinct having inside kinds permissions : List ℕ) (operations 
         rules-so = ap₂ _+_ (n .rules-so) f ∙ sym (kept-more (isHeadAt t) i);
         rules-low = omega arith;
         sums-so = k ∙ ap₂ added (n .sums-so) g ∙ sym (all-more made i);
-        parts-so = ap₂ _+_ (n .parts-so) h ∙ sym (kept-more (isPartAt t) i);
-        parts-low = omega arith;
       }
 
-  pub counted-end : (b r : ℕ) (s : Sums) (p i : ℕ) → Counted b r s p i → i ≡ roleCells
-      → record { bytes = b + 1; rules = r; sums = s; parts = p } ≡ measuredOf kept distinct having inside kinds permissions operations t
+  pub counted-end : (b r : ℕ) (s : Sums) (i : ℕ) → Counted b r s i → i ≡ allParts starts
+      → record { bytes = b + 1; rules = r; sums = s } ≡ measuredOf kept distinct having inside kinds permissions operations starts t
   unfolding measuredOf fileBytes
-  counted-end b r s p i n e =
-      let long : b + 1 ≡ length (each rule (upTo roleCells) ++ (0x2F ∷ [])) = ap (λ (k : ℕ). k + 1) (n .bytes-so ∙ ap (λ (k : ℕ). length (each rule (upTo k))) e) ∙ sym (length-append (each rule (upTo roleCells)) (0x2F ∷ [])) in
-      let ruled : r ≡ length (keep (isHeadAt t) (upTo roleCells)) = n .rules-so ∙ ap (λ (k : ℕ). length (keep (isHeadAt t) (upTo k))) e in
-      let summed : s ≡ allSums made (upTo roleCells) = n .sums-so ∙ ap (λ (k : ℕ). allSums made (upTo k)) e in
-      let parted : p ≡ length (keep (isPartAt t) (upTo roleCells)) = n .parts-so ∙ ap (λ (k : ℕ). length (keep (isPartAt t) (upTo k))) e in
-      together long ruled summed parted
+  counted-end b r s i n e =
+      let long : b + 1 ≡ length (each rule (upTo (allParts starts)) ++ (0x2F ∷ [])) = ap (λ (k : ℕ). k + 1) (n .bytes-so ∙ ap (λ (k : ℕ). length (each rule (upTo k))) e) ∙ sym (length-append (each rule (upTo (allParts starts))) (0x2F ∷ [])) in
+      let ruled : r ≡ length (keep (isHeadAt t) (upTo (allParts starts))) = n .rules-so ∙ ap (λ (k : ℕ). length (keep (isHeadAt t) (upTo k))) e in
+      let summed : s ≡ allSums made (upTo (allParts starts)) = n .sums-so ∙ ap (λ (k : ℕ). allSums made (upTo k)) e in
+      together long ruled summed
     where
-      together : {b r p x y w : ℕ} {s z : Sums} → b ≡ x → r ≡ y → s ≡ z → p ≡ w → _≡_ {A = Measured} (record { bytes = b; rules = r; sums = s; parts = p }) (record { bytes = x; rules = y; sums = z; parts = w })
-      together e f g h = rw (e, f, g, h) refl
+      together : {b r x y : ℕ} {s z : Sums} → b ≡ x → r ≡ y → s ≡ z → _≡_ {A = Measured} (record { bytes = b; rules = r; sums = s }) (record { bytes = x; rules = y; sums = z })
+      together e f g = rw (e, f, g) refl
 
   -- ---- the end of writing
 
   -- behind all rules there is room for the last byte, and with it the file is written
-  pub file-room : (o : List ℕ) → length (fileBytes kept distinct having inside kinds permissions operations t) ≤ length o → length (each (ruleAt kept distinct having inside kinds permissions operations t) (upTo roleCells)) < length o
+  pub file-room : (o : List ℕ) → length (fileBytes kept distinct having inside kinds permissions operations starts t) ≤ length o → length (each (ruleAt kept distinct having inside kinds permissions operations starts t) (upTo (allParts starts))) < length o
   unfolding fileBytes
-  file-room o h = let e = length-append (each rule (upTo roleCells)) (0x2F ∷ []) in omega arith
+  file-room o h = let e = length-append (each rule (upTo (allParts starts))) (0x2F ∷ []) in omega arith
 
-  pub file-written : (o out : List ℕ) (at : ℕ) → length (fileBytes kept distinct having inside kinds permissions operations t) ≤ length o
-      → at ≡ length (each (ruleAt kept distinct having inside kinds permissions operations t) (upTo roleCells)) → out ≡ wrote (each (ruleAt kept distinct having inside kinds permissions operations t) (upTo roleCells)) o
-      → set out at 0x2F ≡ wrote (fileBytes kept distinct having inside kinds permissions operations t) o
+  pub file-written : (o out : List ℕ) (at : ℕ) → length (fileBytes kept distinct having inside kinds permissions operations starts t) ≤ length o
+      → at ≡ length (each (ruleAt kept distinct having inside kinds permissions operations starts t) (upTo (allParts starts))) → out ≡ wrote (each (ruleAt kept distinct having inside kinds permissions operations starts t) (upTo (allParts starts))) o
+      → set out at 0x2F ≡ wrote (fileBytes kept distinct having inside kinds permissions operations starts t) o
   unfolding fileBytes
-  file-written o out at h e f = ap₂ (λ (l : List ℕ) (k : ℕ). set l k 0x2F) f e ∙ end-written (each rule (upTo roleCells)) o 0x2F h
+  file-written o out at h e f = ap₂ (λ (l : List ℕ) (k : ℕ). set l k 0x2F) f e ∙ end-written (each rule (upTo (allParts starts))) o 0x2F h
 
-  pub file-ended : (o out : List ℕ) (at i : ℕ) → Runs (ruleAt kept distinct having inside kinds permissions operations t) roleCells o out at i → i ≡ roleCells → length (fileBytes kept distinct having inside kinds permissions operations t) ≤ length o
-      → (at < length out) × (set out at 0x2F ≡ wrote (fileBytes kept distinct having inside kinds permissions operations t) o) × (length (set out at 0x2F) ≡ length o)
+  pub file-ended : (o out : List ℕ) (at i : ℕ) → Runs (ruleAt kept distinct having inside kinds permissions operations starts t) (allParts starts) o out at i → i ≡ allParts starts → length (fileBytes kept distinct having inside kinds permissions operations starts t) ≤ length o
+      → (at < length out) × (set out at 0x2F ≡ wrote (fileBytes kept distinct having inside kinds permissions operations starts t) o) × (length (set out at 0x2F) ≡ length o)
   file-ended o out at i w e h =
-      let r = runs-end rule roleCells o out at i e w in
+      let r = runs-end rule (allParts starts) o out at i e w in
       let f = file-written o out at h (r .0) (r .1) in
       let k = file-room o h in
       let l = w .long in
       let x = r .0 in
-      (omega (arith, k, l, x), f, ap length f ∙ length-wrote (fileBytes kept distinct having inside kinds permissions operations t) o h)
+      (omega (arith, k, l, x), f, ap length f ∙ length-wrote (fileBytes kept distinct having inside kinds permissions operations starts t) o h)
 
   -- the rules' bytes are not many
-  pub file-most : length (fileBytes kept distinct having inside kinds permissions operations t) ≤ 12288 * roleCells + 1
+  pub file-most : length (fileBytes kept distinct having inside kinds permissions operations starts t) ≤ 12288 * allParts starts + 1
   unfolding fileBytes
   file-most =
-      let m = runs-most 12288 rule roleCells (λ i. rule-most distinct having inside kinds permissions operations t i (getD kept i 0)) in
-      omega (arith, m, length-append (each rule (upTo roleCells)) (0x2F ∷ []))
+      let m = runs-most 12288 rule (allParts starts) (λ i. rule-most distinct having inside kinds permissions operations starts t i (getD kept i 0)) in
+      omega (arith, m, length-append (each rule (upTo (allParts starts))) (0x2F ∷ []))

@@ -3,9 +3,8 @@
 ghost use lib.ListN.{length};
 ghost use mathlib.Core.Path.{_≡_};
 ghost use Prim.Native.Nat.{_<_};
-ghost use Rattle.mine_seats.specs.Seats.{scratchWords};
+ghost use Rattle.mine_parts.specs.Layout.{roomIn};
 ghost use Rattle.mine_theory.specs.Lines.RuleLines.{atomSet};
-ghost use Rattle.role_record.specs.Cells.{roleCells};
 ghost use Rattle.role_record.specs.Places.{setPlace};
 ghost use Rattle.write_lines.specs.Writing.{wrote};
 ghost use Rattle.write_theory.specs.RuleLists.{listedAt};
@@ -44,7 +43,7 @@ pub fn list_values<'a>(
     place: usize,
     list: &mut ByMember,
 ) -> usize
-    requires { ⌜ (length (now scratch) ≡ scratchWords) × (head < roleCells) × (place < 14) ⌝ }
+    requires { ⌜ (head < roomIn (now scratch)) × (place < 14) ⌝ }
     ensures { λ r. ⌜
         (r
         ≡ length
@@ -56,7 +55,7 @@ pub fn list_values<'a>(
         (now (scratch .entry)) head place)
         (now (list .entry))) ⌝ }
 {
-    let members = mine_seats::members_at(scratch, head, place / RoleFile::CONJUNCTS);
+    let members = mine_parts::members_at(scratch, head, place / RoleFile::CONJUNCTS);
     mine_distinct::listed(distinct, having, inside, place, members, list)
 }
 

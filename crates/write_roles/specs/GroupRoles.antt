@@ -1,23 +1,25 @@
--- The roles that have a part in a group, so that writing and measuring visit no others.
+-- The roles that have a part in a group, by the names of its parts, so that writing and measuring visit no others.
 -- Assumes nothing.
-use Prim.Native.Nat.{ℕ}
+use Prim.Native.Nat.{ℕ, _<_}
 use lib.Dec.{eqb}
-use mathlib.Core.Bool.{_&&_, not}
+use lib.ListN.{getD}
+use mathlib.Core.Bool.{_&&_}
 use mathlib.Core.List.{List}
-use Rattle.role_record.specs.Cells.{cellRow, roleCells}
-use Rattle.role_record.specs.Record.{tableOf}
+use mathlib.Core.Path.{_≡_}
+use Rattle.mine_groups.specs.Scratch.{allParts}
+use Rattle.mine_parts.specs.Layout.{roleAt}
 use Rattle.sets.specs.Sets.{maskOf}
-use Rattle.mine_seats.specs.Seats.{isPartAt}
-use Rattle.write_theory.specs.RuleLists.{memberSet}
+use Rattle.sets.specs.Tests.{any, upTo}
+use Rattle.write_theory.specs.RuleLists.{inGroup}
 
--- the set of the role whose part stands in a seat; empty where none does
-unfoldable pub seatRole : List ℕ → ℕ → ℕ
-seatRole t s = maskOf 64 (λ r. isPartAt t s && eqb r (cellRow s))
+-- the roles that one of the parts before n has in the group
+unfoldable pub rolesBefore : List ℕ → ℕ → ℕ → ℕ
+rolesBefore t n head = maskOf 32 (λ r. any (λ i. inGroup t head i && eqb r (roleAt t i)) (upTo n))
 
--- the roles that have a part in the group
-unfoldable pub rolesFor : List ℕ → ℕ → ℕ
-rolesFor t head = maskOf 32 (λ k. not (eqb (memberSet t head k) 0))
+-- the roles that have a part in it
+abbrev pub rolesFor : (starts t : List ℕ) → ℕ → ℕ
+rolesFor starts t head = rolesBefore t (allParts starts) head
 
--- seat by seat
-unfoldable pub rolesTable : List ℕ → List ℕ
-rolesTable t = tableOf roleCells (rolesFor t)
+-- part by part
+abbrev pub RolesTable : (starts t roles : List ℕ) → Type 0
+RolesTable starts t roles = (i : ℕ) → i < allParts starts → getD roles i 0 ≡ rolesFor starts t i

@@ -12,6 +12,7 @@ use mathlib.Core.Logic.{_⊎_, inl, inr}
 use mathlib.Core.Path.{_≡_, refl, sym, ap, ap₂, _∙_, subst}
 use native.Mathlib.Nat.{lt-of-lt-of-le}
 use native.Mathlib.Omega.{arith}
+use Rattle.mine_groups.specs.Scratch.{Stands}
 use Rattle.write_lines.specs.Writing.{wrote}
 use Rattle.write_lines.specs.WritingLaws.{tailOf, backIn, Writing, begin, room-for, place-within, write-on, all-written}
 use Rattle.sets.specs.MemberLaws.{least-in, bit-less, less-less}
@@ -25,7 +26,7 @@ use Rattle.sets.specs.SortedLaws.{keep-rising, rising-ext, from-rising}
 use Rattle.sets.specs.Tests.{Is, _isIn_, keep, each, upTo}
 use Rattle.sets.specs.TestLaws.{and-in, and-l, and-r, never, test, keep-in, keep-out, upTo-in, upTo-out, not-in}
 use Rattle.write_theory.specs.RuleTable.{atomBytesAt, atomBytesIn, roleBytesIn, partBytesIn}
-use Rattle.write_roles.specs.GroupRoleLaws.{classes-none, roles-low}
+use Rattle.write_roles.specs.GroupRoleLaws.{none-listed, roles-low}
 use Rattle.write_roles.specs.GroupRoles.{rolesFor}
 
 -- ---- the members of a set, least first
@@ -155,14 +156,14 @@ atoms-begin kept m o e r =
 
 -- ---- parts
 
--- a role that has no part in the group has no line
-part-none : (permissions : List ℕ) (operations : ℕ) (t : List ℕ) (head i : ℕ) → i < 32 → bit (rolesFor t head) i ≡ false → roleBytesIn permissions operations t head i ≡ []
-unfolding roleBytesIn
-part-none permissions operations t head i l h = ap (each (partBytes i)) (classes-none t permissions operations head i l h)
+module _ (permissions : List ℕ) (operations : ℕ) (starts t : List ℕ) (S : Stands t starts) (head : ℕ) where
+  -- a role that has no part in the group has no line
+  part-none : (i : ℕ) → i < 32 → bit (rolesFor starts t head) i ≡ false → roleBytesIn permissions operations starts t head i ≡ []
+  unfolding roleBytesIn
+  part-none i l h = ap (each (partBytes i)) (none-listed permissions operations starts t S head i l h)
 
--- none is written, and the others are left
-pub parts-begin : (permissions : List ℕ) (operations : ℕ) (t : List ℕ) (head m : ℕ) (o : List ℕ) → m ≡ rolesFor t head → length (partBytesIn permissions operations t head) ≤ length o
-    → Visits (roleBytesIn permissions operations t head) 32 o o 0 m
-unfolding partBytesIn
-parts-begin permissions operations t head m o e r =
-    visits-begin (roleBytesIn permissions operations t head) 32 (omega arith) o m (omega (arith, e, roles-low t head)) (λ i l h. part-none permissions operations t head i l (ap (λ (k : ℕ). bit k i) (sym e) ∙ h)) r
+  -- none is written, and the others are left
+  pub parts-begin : (m : ℕ) (o : List ℕ) → m ≡ rolesFor starts t head → length (partBytesIn permissions operations starts t head) ≤ length o → Visits (roleBytesIn permissions operations starts t head) 32 o o 0 m
+  unfolding partBytesIn
+  parts-begin m o e r =
+      visits-begin (roleBytesIn permissions operations starts t head) 32 (omega arith) o m (omega (arith, e, roles-low starts t head)) (λ i l h. part-none i l (ap (λ (k : ℕ). bit k i) (sym e) ∙ h)) r

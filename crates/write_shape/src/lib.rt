@@ -3,14 +3,16 @@ ghost use lib.ListN.{length};
 ghost use mathlib.Core.List.{_∷_};
 ghost use mathlib.Core.Path.{_≡_};
 ghost use Prim.Native.Nat.{_+_, _≤_};
-ghost use Rattle.mine_seats.specs.Seats.{scratchWords};
+ghost use Rattle.mine_groups.specs.Scratch.{Stands};
 ghost use Rattle.role_record.specs.Record.{WithinLimits, FewAttributes};
 ghost use Rattle.rule_opening.specs.Opening.{shapeIn};
 ghost use Rattle.write_lines.specs.Writing.{wrote};
 ghost use Rattle.write_measure.specs.FileTable.{fileBytes};
-ghost use Rattle.write_roles.specs.GroupRoles.{rolesTable};
+ghost use Rattle.write_roles.specs.GroupRoles.{RolesTable};
 ghost use Rattle.write_shape.specs.ShapedFile.{shapedBytes};
 use files::rule_byte;
+use mine_parts::ByPart;
+use mine_parts::Starts;
 use role_record::ByPlaceMember;
 use role_record::ByRoleOperation;
 use role_record::BySide;
@@ -36,34 +38,36 @@ fn put_shape(sizes: Sizes, attributes: &CountBySide, out: &mut [u8])
 
 // Writes the rule file of merged groups, where there is room for it.
 pub fn write_shaped<'a>(
-    kept: &'a ByRoleOperation,
+    kept: &'a ByPart,
     distinct: &'a ByPlaceMember,
     having: &'a ByPlaceMember,
     inside: &'a ByPlaceMember,
     kinds: &'a BySide,
     permissions: &'a ByRoleOperation,
-    group_roles: &'a ByRoleOperation,
+    group_roles: &'a ByPart,
     sizes: Sizes,
     attributes: &'a CountBySide,
+    starts: &'a Starts,
     scratch: &'a [u64],
     out: &mut [u8],
 )
     requires { ⌜
         WithinLimits sizes
         × FewAttributes (now attributes)
-        × (length (now scratch) ≡ scratchWords)
-        × (now «group_roles» ≡ rolesTable (now scratch))
+        × Stands (now scratch) (now starts)
+        × RolesTable (now starts) (now scratch) (now «group_roles»)
         × (7
         + length
         (fileBytes (now kept) (now distinct) (now having) (now inside) (now kinds) (now permissions)
-        (sizes .operations) (now scratch))
+        (sizes .operations) (now starts) (now scratch))
         ≤ length (now out)) ⌝ }
     ensures { λ _. ⌜
         now (out .exit)
         ≡ wrote
         (shapedBytes (shapeIn sizes (now (attributes .entry)))
         (fileBytes (now (kept .entry)) (now (distinct .entry)) (now (having .entry)) (now (inside .entry))
-        (now (kinds .entry)) (now (permissions .entry)) (sizes .operations) (now (scratch .entry))))
+        (now (kinds .entry)) (now (permissions .entry)) (sizes .operations) (now (starts .entry))
+        (now (scratch .entry))))
         (now (out .entry)) ⌝ }
 {
     put_shape(sizes, attributes, out);
@@ -76,6 +80,7 @@ pub fn write_shaped<'a>(
         permissions,
         group_roles,
         sizes.operations,
+        starts,
         scratch,
         &mut out[rule_opening::BYTES..],
     );

@@ -9,7 +9,7 @@ use native.Mathlib.Nat.{add-zero}
 use native.Mathlib.Omega.{arith}
 use Rattle.mine_distinct.specs.InsideValues.{isListed, listedBy}
 use Rattle.sets.specs.ListLaws.{sum-append, sum-most, sum-more, keep-more}
-use Rattle.mine_seats.specs.Seats.{membersAt}
+use Rattle.mine_parts.specs.Layout.{membersAt}
 use Rattle.sets.specs.LoopLaws.{turn-within}
 use Rattle.sets.specs.MaskLaws.{size-most}
 use Rattle.sets.specs.Sets.{bit, size}

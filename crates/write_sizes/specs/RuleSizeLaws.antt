@@ -1,8 +1,8 @@
 -- How many bytes a rule has, from the counts of what it lists.
 -- Assumes nothing.
 use Prim.Native.Nat.{ℕ, zero, suc, _+_, _*_, _/_, _%_, _^_, _≤_, _<_}
-use borrow.Author.Tests.{eqb-true, eqb-false, ltb-true, ne-eqb}
-use lib.Dec.{eqb, ltb}
+use borrow.Author.Tests.{eqb-true, eqb-false, ne-eqb}
+use lib.Dec.{eqb}
 use lib.ListN.{length, length-append}
 use mathlib.Core.Bool.{Bool, true, false, cond, _&&_, not}
 use mathlib.Core.List.{List, [], _∷_, _++_}
@@ -14,19 +14,21 @@ use Rattle.sets.specs.MemberLaws.{bit-less}
 use Rattle.policy.specs.Rules.{Which, by, user, resource}
 use Rattle.mine_theory.specs.Lines.RuleBytesLaws.{atom-bytes, atom-length, value-length}
 use Rattle.mine_theory.specs.Lines.RuleLines.{valueBytes, partBytes, atomSet, kindPlace}
-use Rattle.mine_seats.specs.Seats.{operationsAt, restAt, levelIn}
-use Rattle.sets.specs.MaskLaws.{bit-maskOf, size-most}
+use Rattle.mine_groups.specs.Scratch.{Stands}
+use Rattle.mine_parts.specs.Layout.{mostParts, operationsAt, restAt, levelIn}
+use Rattle.sets.specs.MaskLaws.{bit-low, size-most}
 use Rattle.sets.specs.Sets.{bit, size, lessOne}
-use Rattle.sets.specs.SetLaws.{bit-none, bit-mask}
+use Rattle.sets.specs.SetLaws.{bit-none}
 use Rattle.sets.specs.Tests.{Is, iff, each, from, upTo, sum}
 use Rattle.sets.specs.TestLaws.{and-l, test, from-out, upTo-out}
-use Rattle.role_record.specs.Cells.{rowCells, roleCells}
+use Rattle.role_record.specs.Cells.{rowCells}
 use Rattle.role_record.specs.Places.{placeAttribute, setPlace}
-use Rattle.write_theory.specs.ListingLaws.{listed-none, classes-most}
-use Rattle.write_theory.specs.RuleLists.{listedAt, memberSet, classesAt}
+use Rattle.write_theory.specs.ListingLaws.{classes-most}
+use Rattle.write_theory.specs.RuleLists.{listedAt, classesAt}
 use Rattle.write_sizes.specs.Sizes.{linesLong, placeLongIn, sideLongIn}
 use Rattle.write_theory.specs.RuleTable.{keptAs, placeBytesIn, kindBytesIn, atomBytesAt, atomBytesIn, roleBytesIn, partBytesIn, levelBytesIn, ruleBytesIn}
 use Rattle.write_roles.specs.GroupRoles.{rolesFor}
+use Rattle.write_roles.specs.GroupRoleLaws.{roles-low, none-listed}
 use Rattle.write_sizes.specs.ListSizeLaws.{longs-most}
 
 -- ---- a loop over the members of a set, which adds a number for each
@@ -103,43 +105,39 @@ module _ (f : ℕ → ℕ) where
 
 -- ---- parts
 
-module _ (permissions : List ℕ) (operations : ℕ) (t : List ℕ) (head : ℕ) where
+module _ (permissions : List ℕ) (operations : ℕ) (starts t : List ℕ) (head : ℕ) where
   -- how many parts of a role there are
   abbrev pub partCount : ℕ → ℕ
-  partCount k = length (classesAt permissions operations t head k)
+  partCount k = length (classesAt permissions operations starts t head k)
 
   -- a role that has no part in the group adds none
-  pub parts-begin : (roles : ℕ) → roles < 2 ^ 64 → roles ≡ rolesFor t head → Adding partCount 0 roles
-  unfolding rolesFor
-  parts-begin roles h e = record {
+  pub parts-begin : (roles : ℕ) → roles < 2 ^ 64 → Stands t starts → roles ≡ rolesFor starts t head → Adding partCount 0 roles
+  parts-begin roles h S e = record {
     small = h;
-    low = λ k b. ltb-true k 32 (and-l (ltb k 32) (not (eqb (memberSet t head k) 0)) (sym (bit-maskOf 32 (λ k. not (eqb (memberSet t head k) 0)) k) ∙ ap (λ (m : ℕ). bit m k) (sym e) ∙ b));
-    adds = zero-add _ ∙ sum-ext (λ k. cond (bit roles k) (partCount k) 0) partCount (upTo 32) (λ k m. part (upTo-out 32 m));
+    low = λ k b. bit-low 32 (rolesFor starts t head) k (roles-low starts t head) (ap (λ (m : ℕ). bit m k) (sym e) ∙ b);
+    adds = zero-add _ ∙ sum-ext (λ k. cond (bit roles k) (partCount k) 0) partCount (upTo 32) (λ k m. part k (upTo-out 32 m));
   }
     where
-      part : {k : ℕ} → k < 32 → cond (bit roles k) (partCount k) 0 ≡ partCount k
-      part {k} l = test (eqb (memberSet t head k) 0)
-          (λ z. ap (λ (c : Bool). cond c (partCount k) 0) (says k l ∙ ap not z) ∙ listed-none permissions operations t head k (memberSet t head k) [] refl (eqb-true (memberSet t head k) 0 z) .0)
-          (λ z. ap (λ (c : Bool). cond c (partCount k) 0) (says k l ∙ ap not z))
-        where
-          says : (k : ℕ) → k < 32 → bit roles k ≡ not (eqb (memberSet t head k) 0)
-          says k l = ap (λ (m : ℕ). bit m k) e ∙ bit-mask 32 (λ k. not (eqb (memberSet t head k) 0)) k l
+      part : (k : ℕ) → k < 32 → cond (bit roles k) (partCount k) 0 ≡ partCount k
+      part k l = test (bit roles k)
+          (λ z. ap (λ (c : Bool). cond c (partCount k) 0) z)
+          (λ z. ap (λ (c : Bool). cond c (partCount k) 0) z ∙ sym (ap length (none-listed permissions operations starts t S head k l (ap (λ (m : ℕ). bit m k) (sym e) ∙ z))))
 
-  -- a rule has at most as many parts as there are seats
-  pub counts-most : sum partCount (upTo 32) ≤ roleCells
-  counts-most = sum-most rowCells partCount (upTo 32) (λ k m. classes-most permissions operations t head k)
+  -- a rule has at most as many parts as there may be
+  pub counts-most : sum partCount (upTo 32) ≤ mostParts
+  counts-most = sum-most rowCells partCount (upTo 32) (λ k m. classes-most permissions operations starts t head k)
 
   sum-times : (c : ℕ) (f g : ℕ → ℕ) (l : List ℕ) → ((k : ℕ) → f k ≡ c * g k) → sum f l ≡ c * sum g l
   sum-times c f g [] h = omega arith
   sum-times c f g (x ∷ l) h = let a = h x in let r = sum-times c f g l h in omega (arith, a, r)
 
   -- each line has 4 bytes
-  parts-long : length (partBytesIn permissions operations t head) ≡ 4 * sum partCount (upTo 32)
+  parts-long : length (partBytesIn permissions operations starts t head) ≡ 4 * sum partCount (upTo 32)
   unfolding partBytesIn roleBytesIn
   parts-long =
-      length-each (roleBytesIn permissions operations t head) (upTo 32)
-      ∙ sum-times 4 (λ k. length (roleBytesIn permissions operations t head k)) partCount (upTo 32)
-      (λ k. length-each (partBytes k) (classesAt permissions operations t head k) ∙ sum-each 4 (λ n. length (partBytes k n)) (classesAt permissions operations t head k) (λ n m. refl))
+      length-each (roleBytesIn permissions operations starts t head) (upTo 32)
+      ∙ sum-times 4 (λ k. length (roleBytesIn permissions operations starts t head k)) partCount (upTo 32)
+      (λ k. length-each (partBytes k) (classesAt permissions operations starts t head k) ∙ sum-each 4 (λ n. length (partBytes k n)) (classesAt permissions operations starts t head k) (λ n m. refl))
 
 -- ---- conjuncts
 
@@ -185,24 +183,24 @@ atoms-long kept = sym (ap length (atom-bytes kept)) ∙ atom-length kept
 
 -- ---- the rule
 
-module _ (distinct having inside kinds permissions : List ℕ) (operations : ℕ) (t : List ℕ) (head kept : ℕ) (users resources atoms parts : ℕ)
-    (u : users ≡ sideLongIn distinct having inside kinds t head kept 0) (r : resources ≡ sideLongIn distinct having inside kinds t head kept 1) (p : parts ≡ sum (partCount permissions operations t head) (upTo 32)) where
+module _ (distinct having inside kinds permissions : List ℕ) (operations : ℕ) (starts t : List ℕ) (head kept : ℕ) (users resources atoms parts : ℕ)
+    (u : users ≡ sideLongIn distinct having inside kinds t head kept 0) (r : resources ≡ sideLongIn distinct having inside kinds t head kept 1) (p : parts ≡ sum (partCount permissions operations starts t head) (upTo 32)) where
   -- it is small
   pub size-within : (set : ℕ) → atoms ≡ size set → 6 + users + resources + 3 * atoms + 4 * parts ≤ 12288
   size-within set a =
-      within u (longs-most distinct having inside kinds t head kept 0) r (longs-most distinct having inside kinds t head kept 1) a (size-most set) p (counts-most permissions operations t head)
+      within u (longs-most distinct having inside kinds t head kept 0) r (longs-most distinct having inside kinds t head kept 1) a (size-most set) p (counts-most permissions operations starts t head)
     where
-      within : {x y z w : ℕ} → users ≡ x → x ≤ 4480 → resources ≡ y → y ≤ 4480 → atoms ≡ z → z ≤ 64 → parts ≡ w → w ≤ roleCells → 6 + users + resources + 3 * atoms + 4 * parts ≤ 12288
+      within : {x y z w : ℕ} → users ≡ x → x ≤ 4480 → resources ≡ y → y ≤ 4480 → atoms ≡ z → z ≤ 64 → parts ≡ w → w ≤ mostParts → 6 + users + resources + 3 * atoms + 4 * parts ≤ 12288
       within b c d e f g h i = omega arith
 
   -- section by section
-  pub size-added : (set : ℕ) → atoms ≡ size set → set ≡ atomSet kept → 6 + users + resources + 3 * atoms + 4 * parts ≡ length (ruleBytesIn distinct having inside kinds permissions operations t head kept)
+  pub size-added : (set : ℕ) → atoms ≡ size set → set ≡ atomSet kept → 6 + users + resources + 3 * atoms + 4 * parts ≡ length (ruleBytesIn distinct having inside kinds permissions operations starts t head kept)
   unfolding ruleBytesIn levelBytesIn
   size-added set a e =
       go (kindBytesIn distinct having inside kinds t head kept user false) (kindBytesIn distinct having inside kinds t head kept user true) (kindBytesIn distinct having inside kinds t head kept resource false) (kindBytesIn distinct having inside kinds t head kept resource true)
-      (operationsAt t head % 256) (operationsAt t head / 256 % 256) (atomBytesIn kept) (partBytesIn permissions operations t head) (levelIn (restAt t head))
+      (operationsAt t head % 256) (operationsAt t head / 256 % 256) (atomBytesIn kept) (partBytesIn permissions operations starts t head) (levelIn (restAt t head))
       (side-long distinct having inside kinds t head kept user) (side-long distinct having inside kinds t head kept resource) u r
-      (atoms-long kept) (a ∙ ap size e) (parts-long permissions operations t head) p
+      (atoms-long kept) (a ∙ ap size e) (parts-long permissions operations starts t head) p
     where
       go : (i j k l : List ℕ) (x y : ℕ) (e f : List ℕ) (b : ℕ) {us rs n m : ℕ} → length i + length j ≡ us → length k + length l ≡ rs → users ≡ us → resources ≡ rs → length e ≡ 3 * n → atoms ≡ n → length f ≡ 4 * m → parts ≡ m
           → 6 + users + resources + 3 * atoms + 4 * parts ≡ length (0x21 ∷ (i ++ (j ++ (k ++ (l ++ ((0x26 ∷ x ∷ y ∷ []) ++ (e ++ (f ++ (0x29 ∷ b ∷ [])))))))))

@@ -3,13 +3,14 @@ ghost use lib.ListN.{length};
 ghost use mathlib.Core.Path.{_≡_};
 ghost use Prim.Native.Nat.{_≤_, _<_};
 ghost use Rattle.mine_distinct.specs.InsideValues.{listedBy};
-ghost use Rattle.mine_seats.specs.Seats.{scratchWords};
-ghost use Rattle.role_record.specs.Cells.{roleCells};
+ghost use Rattle.mine_groups.specs.Scratch.{allParts, Stands};
+ghost use Rattle.mine_parts.specs.Layout.{roomIn};
 ghost use Rattle.sets.specs.Tests.{upTo, sum};
 ghost use Rattle.write_roles.specs.GroupRoles.{rolesFor};
 ghost use Rattle.write_sizes.specs.Sizes.{linesLong, linesCost, placeLongIn, sideLongIn};
 ghost use Rattle.write_theory.specs.RuleLists.{placeCostIn, sideCostIn, ruleSumsIn, classesAt};
 ghost use Rattle.write_theory.specs.RuleTable.{ruleBytesIn};
+use mine_parts::Starts;
 use role_record::ByPlaceMember;
 use role_record::ByRoleOperation;
 use role_record::BySide;
@@ -79,7 +80,7 @@ fn place_size<'a>(
     kept: u64,
     place: usize,
 ) -> Size
-    requires { ⌜ (length (now scratch) ≡ scratchWords) × (head < roleCells) × (place < 14) ⌝ }
+    requires { ⌜ (head < roomIn (now scratch)) × (place < 14) ⌝ }
     ensures { λ r. ⌜
         (r .bytes
         ≡ placeLongIn (now (distinct .entry)) (now (having .entry)) (now (inside .entry)) (now (kinds .entry))
@@ -89,7 +90,7 @@ fn place_size<'a>(
         (now (scratch .entry)) head kept place) ⌝ }
 {
     if sets::has(kept, place) {
-        let members = mine_seats::members_at(scratch, head, place / RoleFile::CONJUNCTS);
+        let members = mine_parts::members_at(scratch, head, place / RoleFile::CONJUNCTS);
         let set = write_places::set_place(kinds, place);
         return listed_size(distinct, having, inside, set, place, members);
     }
@@ -107,7 +108,7 @@ fn side_size<'a>(
     kept: u64,
     side: usize,
 ) -> Size
-    requires { ⌜ (length (now scratch) ≡ scratchWords) × (head < roleCells) × (side < 2) ⌝ }
+    requires { ⌜ (head < roomIn (now scratch)) × (side < 2) ⌝ }
     ensures { λ r. ⌜
         (r .bytes
         ≡ sideLongIn (now (distinct .entry)) (now (having .entry)) (now (inside .entry)) (now (kinds .entry))
@@ -134,23 +135,26 @@ fn side_size<'a>(
 fn count_parts<'a>(
     permissions: &'a ByRoleOperation,
     operations: usize,
+    starts: &'a Starts,
     scratch: &'a [u64],
     head: usize,
     roles: u64,
 ) -> usize
     requires { ⌜
-        (operations ≤ 16) × (length (now scratch) ≡ scratchWords) × (head < roleCells)
-        × (roles ≡ rolesFor (now scratch) head) ⌝ }
+        (operations ≤ 16) × Stands (now scratch) (now starts) × (head < allParts (now starts))
+        × (roles ≡ rolesFor (now starts) (now scratch) head) ⌝ }
     ensures { λ r. ⌜
         r
-        ≡ sum (λ k. length (classesAt (now (permissions .entry)) operations (now (scratch .entry)) head k))
+        ≡ sum
+        (λ k. length
+        (classesAt (now (permissions .entry)) operations (now (starts .entry)) (now (scratch .entry)) head k))
         (upTo 32) ⌝ }
 {
     let mut n: usize = 0;
     let mut left = roles;
     while 0 < left {
         let role = sets::least(left);
-        n += write_parts::count_classes(permissions, operations, scratch, head, role);
+        n += write_parts::count_classes(permissions, operations, starts, scratch, head, role);
         left = sets::without_least(left);
     }
     n
@@ -165,18 +169,19 @@ pub fn rule_size<'a>(
     kinds: &'a BySide,
     permissions: &'a ByRoleOperation,
     operations: usize,
+    starts: &'a Starts,
     scratch: &'a [u64],
     rule: Outline,
 ) -> RuleSize
     requires { ⌜
-        (operations ≤ 16) × (length (now scratch) ≡ scratchWords) × (rule .head < roleCells)
-        × (rule .roles ≡ rolesFor (now scratch)
+        (operations ≤ 16) × Stands (now scratch) (now starts) × (rule .head < allParts (now starts))
+        × (rule .roles ≡ rolesFor (now starts) (now scratch)
         (rule .head)) ⌝ }
     ensures { λ r. ⌜
         (r .bytes
         ≡ length
         (ruleBytesIn (now (distinct .entry)) (now (having .entry)) (now (inside .entry)) (now (kinds .entry))
-        (now (permissions .entry)) operations (now (scratch .entry)) (rule .head) (rule .kept)))
+        (now (permissions .entry)) operations (now (starts .entry)) (now (scratch .entry)) (rule .head) (rule .kept)))
         × (r .sums
         ≡ ruleSumsIn (now (distinct .entry)) (now (having .entry)) (now (inside .entry)) (now (kinds .entry))
         (now (scratch .entry)) (rule .head) (rule .kept)) ⌝ }
@@ -185,9 +190,9 @@ pub fn rule_size<'a>(
     let kept = rule.kept;
     let users = side_size(distinct, having, inside, kinds, scratch, head, kept, 0);
     let resources = side_size(distinct, having, inside, kinds, scratch, head, kept, 1);
-    let ops = sets::count(mine_seats::operations_at(scratch, head));
+    let ops = sets::count(mine_parts::operations_at(scratch, head));
     let atoms = sets::count(write_places::atoms_kept(kept));
-    let parts = count_parts(permissions, operations, scratch, head, rule.roles);
+    let parts = count_parts(permissions, operations, starts, scratch, head, rule.roles);
     let sums = Sums {
         users: users.cost as u32,
         resources: resources.cost as u32,

@@ -1,35 +1,35 @@
 -- What a rule lists and costs, in the steps in which code works it out.
 -- Assumes nothing.
 use Prim.Native.Nat.{ℕ, _+_, _*_, _/_, _≤_, _<_}
-use borrow.Author.Tests.{eq-eqb, ne-eqb, ltb-true, ltb-false}
+use borrow.Author.Tests.{eq-eqb, eqb-true, ltb-true, ltb-false}
 use lib.Dec.{ltb}
 use lib.ListN.{length, getD, length-map}
-use mathlib.Core.Bool.{Bool, true, false, cond, _&&_, and-true}
-use mathlib.Core.List.{List, [], map}
-use mathlib.Core.Path.{_≡_, refl, sym, ap, _∙_, subst}
+use mathlib.Core.Bool.{Bool, true, false, cond}
+use mathlib.Core.List.{List, [], _∷_, map, List·Memᴰ·head, List·Memᴰ·tail}
+use mathlib.Core.Path.{_≡_, refl, sym, ap, ap₂, _∙_, subst}
 use native.Mathlib.Omega.{arith}
 use Rattle.mine_distinct.specs.InsideValues.{isListed, listedBy}
 use Rattle.write_cost.specs.CostSumLaws.{sums-same}
 use Rattle.write_cost.specs.CostSums.{AtMost}
 use Rattle.write_lines.specs.Writing.{wrote}
-use Rattle.role_record.specs.Cells.{rowCells, rowStart, cellAt, cellOperation}
-use Rattle.role_record.specs.CellsLaws.{cell-parts}
+use Rattle.role_record.specs.Cells.{rowCells}
 use Rattle.role_record.specs.Places.{placeSide, setPlace}
 use Rattle.role_record.specs.Record.{tableOf}
 use Rattle.role_record.specs.RecordLaws.{table-get}
 use Rattle.grant_parts.specs.Parts.{classRow}
 use Rattle.mine_theory.specs.Lines.RuleLines.{atomSet}
 use Rattle.sets.specs.ListLaws.{sum-most, keep-most, sort-most, sort-same, from-length}
-use Rattle.sets.specs.MaskLaws.{bit-maskOf, size-most}
+use Rattle.sets.specs.MaskLaws.{bit-maskOf, size-most, size-mask}
 use Rattle.sets.specs.Sets.{bit, size}
 use Rattle.sets.specs.SetLaws.{bit-mask}
+use Rattle.sets.specs.Sorted.{sort}
 use Rattle.sets.specs.SortedLaws.{numbers}
-use Rattle.sets.specs.Tests.{Is, _isIn_, keep, from, upTo, sum}
-use Rattle.sets.specs.TestLaws.{and-l, and-r, test, keep-in, keep-out, from-in, from-out, upTo-in, map-in, map-out}
-use Rattle.mine_seats.specs.Seats.{operationsAt, restAt, membersAt, headIn, wordsAt, isPartAt}
+use Rattle.sets.specs.Tests.{Is, _isIn_, any, keep, upTo, sum}
+use Rattle.sets.specs.TestLaws.{and-in, and-l, and-r, test, any-in, any-out, keep-in, keep-out, upTo-in, map-in, map-out}
+use Rattle.mine_parts.specs.Layout.{operationsAt, membersAt, leadAt, wordsAt}
 use Rattle.mine_theory.specs.Words.Words.{membersOf}
-use Rattle.write_theory.specs.RuleLists.{sidePlace, listedAt, classAt, classAmong, ClassTable, inGroup, memberSet, partsAt, classesAt, placeCostIn, sideCostIn, ruleSumsIn}
-use Rattle.mine_seats.specs.SeatLaws.{users-first, resources-second}
+use Rattle.write_theory.specs.RuleLists.{sidePlace, listedAt, partsOf, classAt, classAmong, ClassTable, inGroup, ledBy, memberSet, partsAt, classesAt, placeCostIn, sideCostIn, ruleSumsIn}
+use Rattle.mine_parts.specs.LayoutLaws.{users-first, resources-second}
 use Rattle.grant_listed.specs.ValueLaws.{among-nobody}
 use Rattle.grant_listed.specs.Values.{valuesAmong, listedOf}
 
@@ -67,20 +67,6 @@ module _ (distinct having inside t : List ℕ) (head i : ℕ) where
 
 -- ---- parts
 
--- a seat of another group
-pub seat-other : {h : ℕ} (t : List ℕ) (head i : ℕ) → h ≡ headIn (restAt t i) → (h ≡ head → ⊥) → false ≡ inGroup t head i
-unfolding inGroup
-seat-other t head i e n = rw (ne-eqb (headIn (restAt t i)) head (λ q. n (e ∙ q))) (never (isPartAt t i))
-  where
-    never : (b : Bool) → false ≡ (b && false)
-    never true = refl
-    never false = refl
-
--- and one of this, if a part stands in it
-pub seat-own : {h : ℕ} {b : Bool} (t : List ℕ) (head i : ℕ) → h ≡ headIn (restAt t i) → h ≡ head → b ≡ isPartAt t i → b ≡ inGroup t head i
-unfolding inGroup
-seat-own t head i e q p = rw (eq-eqb (headIn (restAt t i)) head (sym e ∙ q)) (p ∙ sym (and-true (isPartAt t i)))
-
 -- an operation that is one of these, and one that is not
 pub class-in : (permissions : List ℕ) (operations k members o r : ℕ) → Is (bit members o) → r ≡ classRow permissions k operations o → r ≡ classAmong permissions operations k members o
 unfolding classAmong
@@ -90,65 +76,84 @@ pub class-out : (permissions : List ℕ) (operations k members o : ℕ) → bit 
 unfolding classAmong
 class-out permissions operations k members o b = sym (ap (λ (c : Bool). cond c (classRow permissions k operations o) 0) b)
 
-module _ (permissions : List ℕ) (operations : ℕ) (t : List ℕ) (head k : ℕ) where
-  -- the class of the part in a seat of the role
-  pub seat-class : (o : ℕ) → o < rowCells → classAt permissions operations (cellAt k o) ≡ classRow permissions k operations o
-  unfolding classAt
-  seat-class o h = cell-parts (λ x y. classRow permissions x operations y) k o h
+-- the operations that lead, and the parts that they lead
+module _ (starts t : List ℕ) (head k : ℕ) where
+  pub member-in : (i : ℕ) → i isIn partsAt starts t head k → Is (bit (memberSet starts t head k) (leadAt t i))
+  unfolding memberSet partsAt
+  member-in i m =
+      let s = keep-out (inGroup t head) (partsOf starts k) m in
+      bit-mask rowCells (λ o. any (ledBy t head o) (partsOf starts k)) (leadAt t i) (omega arith) ∙ any-in (ledBy t head (leadAt t i)) (s .0) (and-in (s .1) (eq-eqb (leadAt t i) (leadAt t i) refl))
 
+  pub member-out : (o : ℕ) → Is (bit (memberSet starts t head k) o) → (o < rowCells) × (i : ℕ) × (i isIn partsAt starts t head k) × (leadAt t i ≡ o)
+  unfolding memberSet partsAt
+  member-out o b =
+      let m = sym (bit-maskOf rowCells (λ o. any (ledBy t head o) (partsOf starts k)) o) ∙ b in
+      let u = any-out (ledBy t head o) (partsOf starts k) (and-r (ltb o rowCells) _ m) in
+      (ltb-true o rowCells (and-l (ltb o rowCells) _ m), u .0, keep-in (inGroup t head) (u .1) (and-l (inGroup t head (u .0)) _ (u .2)), eqb-true (leadAt t (u .0)) o (and-r (inGroup t head (u .0)) _ (u .2)))
+
+module _ (permissions : List ℕ) (operations : ℕ) (starts t : List ℕ) (head k : ℕ) where
   -- the classes of those who lead, from a table of theirs
-  classes-listed : (table : List ℕ) → ClassTable permissions operations k (memberSet t head k) table → listedOf table (memberSet t head k) false ≡ classesAt permissions operations t head k
-  unfolding listedOf valuesAmong classesAt memberSet partsAt classAmong
+  classes-listed : (table : List ℕ) → ClassTable permissions operations k (memberSet starts t head k) table → listedOf table (memberSet starts t head k) false ≡ classesAt permissions operations starts t head k
+  unfolding listedOf valuesAmong classesAt classAmong classAt
   classes-listed table h =
-      sort-same ltb numbers (map (λ x. getD table x 0) (keep (bit (memberSet t head k)) (upTo 64))) (map (classAt permissions operations) (keep (inGroup t head) (from (rowStart k) rowCells)))
-      (λ v m. let u = map-out (λ x. getD table x 0) (keep (bit (memberSet t head k)) (upTo 64)) m in
-      let m = keep-out (bit (memberSet t head k)) (upTo 64) (u .1) .1 in
-      let b = sym (bit-maskOf rowCells (λ o. inGroup t head (cellAt k o)) (u .0)) ∙ m in
-      there v (u .0) (ltb-true (u .0) rowCells (and-l (ltb (u .0) rowCells) (inGroup t head (cellAt k (u .0))) b)) m (and-r (ltb (u .0) rowCells) (inGroup t head (cellAt k (u .0))) b) (u .2))
-      (λ v m. let u = map-out (classAt permissions operations) (keep (inGroup t head) (from (rowStart k) rowCells)) m in
-      let s = keep-out (inGroup t head) (from (rowStart k) rowCells) (u .1) in
-      let l = from-out (rowStart k) rowCells (s .0) in
-      back v (u .0) (cellOperation (u .0)) (omega arith) (omega arith) (s .1) (u .2))
+      sort-same ltb numbers (map (λ x. getD table x 0) (keep (bit (memberSet starts t head k)) (upTo 64))) (map (classAt permissions operations t k) (partsAt starts t head k))
+      (λ v m. let u = map-out (λ x. getD table x 0) (keep (bit (memberSet starts t head k)) (upTo 64)) m in there v (u .0) (keep-out (bit (memberSet starts t head k)) (upTo 64) (u .1) .1) (u .2))
+      (λ v m. let u = map-out (classAt permissions operations t k) (partsAt starts t head k) m in back v (u .0) (u .1) (u .2))
     where
-      class-at : (o : ℕ) → o < rowCells → Is (bit (memberSet t head k) o) → getD table o 0 ≡ classAt permissions operations (cellAt k o)
-      class-at o l b = h o l ∙ ap (λ (c : Bool). cond c (classRow permissions k operations o) 0) b ∙ sym (seat-class o l)
+      class-at : (o : ℕ) → o < rowCells → Is (bit (memberSet starts t head k) o) → getD table o 0 ≡ classRow permissions k operations o
+      class-at o l b = h o l ∙ ap (λ (c : Bool). cond c (classRow permissions k operations o) 0) b
 
-      there : (v x : ℕ) → x < rowCells → Is (bit (memberSet t head k) x) → Is (inGroup t head (cellAt k x)) → v ≡ getD table x 0 → v isIn map (classAt permissions operations) (keep (inGroup t head) (from (rowStart k) rowCells))
-      there v x l b g e = rw (e ∙ class-at x l b) (map-in (classAt permissions operations) (keep-in (inGroup t head) (from-in (rowStart k) rowCells (cellAt k x) (omega arith) (omega arith)) g))
+      there : (v x : ℕ) → Is (bit (memberSet starts t head k) x) → v ≡ getD table x 0 → v isIn map (classAt permissions operations t k) (partsAt starts t head k)
+      there v x b e =
+          let u = member-out starts t head k x b in
+          rw (e ∙ class-at x (u .0) b ∙ ap (classRow permissions k operations) (sym (u .3))) (map-in (classAt permissions operations t k) (u .2))
 
-      back : (v i o : ℕ) → i ≡ cellAt k o → o < rowCells → Is (inGroup t head i) → v ≡ classAt permissions operations i → v isIn map (λ x. getD table x 0) (keep (bit (memberSet t head k)) (upTo 64))
-      back v i o q l g e =
-          let b = bit-mask rowCells (λ o. inGroup t head (cellAt k o)) o l ∙ ap (inGroup t head) (sym q) ∙ g in
-          rw (e ∙ ap (classAt permissions operations) q ∙ sym (class-at o l b)) (map-in (λ x. getD table x 0) (keep-in (bit (memberSet t head k)) (upTo-in {n = 64} {i = o} (omega arith)) b))
+      back : (v i : ℕ) → i isIn partsAt starts t head k → v ≡ classAt permissions operations t k i → v isIn map (λ x. getD table x 0) (keep (bit (memberSet starts t head k)) (upTo 64))
+      back v i m e =
+          let b = member-in starts t head k i m in
+          rw (e ∙ sym (class-at (leadAt t i) (omega arith) b)) (map-in (λ x. getD table x 0) (keep-in (bit (memberSet starts t head k)) (upTo-in {n = 64} {i = leadAt t i} (omega arith)) b))
+
+  -- a table of them
+  abbrev tabled : List ℕ
+  tabled = tableOf rowCells (classAmong permissions operations k (memberSet starts t head k))
+
+  tabled-so : listedOf tabled (memberSet starts t head k) false ≡ classesAt permissions operations starts t head k
+  tabled-so = classes-listed tabled (λ o l. table-get rowCells (classAmong permissions operations k (memberSet starts t head k)) o l)
 
   -- a role without a part in the group
-  pub listed-none : (members : ℕ) (list : List ℕ) → members ≡ memberSet t head k → members ≡ 0 → (0 ≡ length (classesAt permissions operations t head k)) × (list ≡ wrote (classesAt permissions operations t head k) list)
+  pub listed-none : (members : ℕ) (list : List ℕ) → members ≡ memberSet starts t head k → members ≡ 0 → (0 ≡ length (classesAt permissions operations starts t head k)) × (list ≡ wrote (classesAt permissions operations starts t head k) list)
   unfolding listedOf
   listed-none members list e z =
-      let n : classesAt permissions operations t head k ≡ [] = sym (classes-listed (tableOf rowCells (classAmong permissions operations k (memberSet t head k))) (λ o l. table-get rowCells (classAmong permissions operations k (memberSet t head k)) o l)) ∙ among-nobody (tableOf rowCells (classAmong permissions operations k (memberSet t head k))) (memberSet t head k) (sym e ∙ z) in
+      let n : classesAt permissions operations starts t head k ≡ [] = sym tabled-so ∙ among-nobody tabled (memberSet starts t head k) (sym e ∙ z) in
       (sym (ap length n), sym (ap (λ (l : List ℕ). wrote l list) n))
 
+  -- none of its parts is of the group
+  pub classes-none : ((i : ℕ) → i isIn partsOf starts k → inGroup t head i ≡ false) → classesAt permissions operations starts t head k ≡ []
+  unfolding classesAt partsAt
+  classes-none h = ap (λ (l : List ℕ). sort ltb (map (classAt permissions operations t k) l)) (nobody (partsOf starts k) h)
+    where
+      nobody : (l : List ℕ) → ((i : ℕ) → i isIn l → inGroup t head i ≡ false) → keep (inGroup t head) l ≡ []
+      nobody [] f = refl
+      nobody (x ∷ xs) f = ap₂ (λ (b : Bool) (m : List ℕ). cond b (x ∷ m) m) (f x (List·Memᴰ·head refl)) (nobody xs (λ i m. f i (List·Memᴰ·tail m)))
+
   -- what is listed are the operation sets of the role's parts
-  pub listed-role : (table : List ℕ) (members r : ℕ) (out list : List ℕ) → ClassTable permissions operations k members table → members ≡ memberSet t head k
+  pub listed-role : (table : List ℕ) (members r : ℕ) (out list : List ℕ) → ClassTable permissions operations k members table → members ≡ memberSet starts t head k
       → (r ≡ length (listedOf table members false)) × (out ≡ wrote (listedOf table members false) list)
-      → (r ≡ length (classesAt permissions operations t head k)) × (out ≡ wrote (classesAt permissions operations t head k) list)
+      → (r ≡ length (classesAt permissions operations starts t head k)) × (out ≡ wrote (classesAt permissions operations starts t head k) list)
   listed-role table members r out list h e w =
-      let n : listedOf table members false ≡ classesAt permissions operations t head k = ap (λ (m : ℕ). listedOf table m false) e ∙ classes-listed table (subst (λ (m : ℕ). ClassTable permissions operations k m table) e h) in
+      let n : listedOf table members false ≡ classesAt permissions operations starts t head k = ap (λ (m : ℕ). listedOf table m false) e ∙ classes-listed table (subst (λ (m : ℕ). ClassTable permissions operations k m table) e h) in
       (w .0 ∙ ap length n, w .1 ∙ ap (λ (l : List ℕ). wrote l list) n)
 
--- a role has at most as many parts as a row has cells
-pub classes-most : (permissions : List ℕ) (operations : ℕ) (t : List ℕ) (head k : ℕ) → length (classesAt permissions operations t head k) ≤ rowCells
-unfolding classesAt partsAt
-classes-most permissions operations t head k =
-    let seats = keep (inGroup t head) (from (rowStart k) rowCells) in
-    let p = sort-most ltb (map (classAt permissions operations) seats) in
-    let q = length-map seats (classAt permissions operations) in
-    let r = keep-most (inGroup t head) (from (rowStart k) rowCells) in
-    let s = from-length (rowStart k) rowCells in
-    within p q r s
-  where
-    within : {a b c d : ℕ} → a ≤ b → b ≡ c → c ≤ d → d ≡ rowCells → a ≤ rowCells
-    within p q r s = omega arith
+  -- a role has no more classes than there may be operations
+  pub classes-most : length (classesAt permissions operations starts t head k) ≤ rowCells
+  unfolding listedOf valuesAmong memberSet size
+  classes-most =
+      let leads = keep (bit (memberSet starts t head k)) (upTo 64) in
+      within (ap length (sym tabled-so)) (sort-most ltb (map (λ x. getD tabled x 0) leads)) (length-map leads (λ x. getD tabled x 0))
+      (size-mask rowCells (λ o. any (ledBy t head o) (partsOf starts k)) (omega arith)) (keep-most (λ o. any (ledBy t head o) (partsOf starts k)) (upTo rowCells)) (from-length 0 rowCells)
+    where
+      within : {a b c d e f : ℕ} → a ≡ b → b ≤ c → c ≡ d → d ≡ e → e ≤ f → f ≡ rowCells → a ≤ rowCells
+      within p q r s u v = omega arith
 
 -- ---- cost
 

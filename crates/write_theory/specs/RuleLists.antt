@@ -1,7 +1,7 @@
 -- What a mined rule lists and what it costs, read off the tables of the policy, a group in scratch memory and the places that
 -- its rule keeps: the form in which code works it out.
 -- Assumes nothing.
-use Prim.Native.Nat.{ℕ, _+_, _*_, _<_}
+use Prim.Native.Nat.{ℕ, _+_, _*_, _-_, _<_}
 use lib.Dec.{eqb, ltb}
 use lib.ListN.{length, getD}
 use mathlib.Core.Bool.{Bool, cond, _&&_}
@@ -12,10 +12,10 @@ use Rattle.grant_parts.specs.Parts.{classRow}
 use Rattle.mine_theory.specs.Lines.RuleLines.{atomSet}
 use Rattle.sets.specs.Sets.{bit, maskOf, size}
 use Rattle.sets.specs.Sorted.{sort}
-use Rattle.sets.specs.Tests.{keep, from, upTo, sum}
-use Rattle.mine_seats.specs.Seats.{restAt, headIn, wordsAt, isPartAt}
+use Rattle.sets.specs.Tests.{any, keep, from, upTo, sum}
+use Rattle.mine_parts.specs.Layout.{restAt, headIn, leadAt, wordsAt}
 use Rattle.mine_theory.specs.Words.Words.{membersOf}
-use Rattle.role_record.specs.Cells.{rowCells, rowStart, cellAt, cellRow, cellOperation}
+use Rattle.role_record.specs.Cells.{rowCells}
 use Rattle.role_record.specs.Places.{placeSide, setPlace}
 use Rattle.write_cost.specs.declared.Sums.{Sums}
 
@@ -31,9 +31,13 @@ listedAt distinct having inside t head i = listedBy distinct having inside i (me
 
 -- ---- parts
 
--- the operations of the part in a seat
-unfoldable pub classAt : List ℕ → ℕ → ℕ → ℕ
-classAt permissions operations i = classRow permissions (cellRow i) operations (cellOperation i)
+-- the parts of role k: those from its start on and before that of the next
+abbrev pub partsOf : List ℕ → ℕ → List ℕ
+partsOf starts k = from (getD starts k 0) (getD starts (k + 1) 0 - getD starts k 0)
+
+-- the operations of a part of a role
+unfoldable pub classAt : List ℕ → ℕ → List ℕ → ℕ → ℕ → ℕ
+classAt permissions operations t role i = classRow permissions role operations (leadAt t i)
 
 -- the class of an operation of a role, if it is one of these; and a table with those
 unfoldable pub classAmong : List ℕ → (operations role members : ℕ) → ℕ → ℕ
@@ -42,21 +46,25 @@ classAmong permissions operations role members o = cond (bit members o) (classRo
 abbrev pub ClassTable : List ℕ → (operations role members : ℕ) → List ℕ → Type 0
 ClassTable permissions operations role members table = (o : ℕ) → o < rowCells → getD table o 0 ≡ classAmong permissions operations role members o
 
--- the seat is one of the group
+-- the part is one of the group
 unfoldable pub inGroup : List ℕ → ℕ → ℕ → Bool
-inGroup t head i = isPartAt t i && eqb (headIn (restAt t i)) head
+inGroup t head i = eqb (headIn (restAt t i)) head
+
+-- it is, and operation o leads it
+abbrev pub ledBy : List ℕ → ℕ → ℕ → ℕ → Bool
+ledBy t head o i = inGroup t head i && eqb (leadAt t i) o
 
 -- the operations that lead the group's parts of a role
-unfoldable pub memberSet : List ℕ → ℕ → ℕ → ℕ
-memberSet t head k = maskOf rowCells (λ o. inGroup t head (cellAt k o))
+unfoldable pub memberSet : (starts t : List ℕ) → ℕ → ℕ → ℕ
+memberSet starts t head k = maskOf rowCells (λ o. any (ledBy t head o) (partsOf starts k))
 
--- the group's seats of a role
-unfoldable pub partsAt : List ℕ → ℕ → ℕ → List ℕ
-partsAt t head k = keep (inGroup t head) (from (rowStart k) rowCells)
+-- the group's parts of a role
+unfoldable pub partsAt : (starts t : List ℕ) → ℕ → ℕ → List ℕ
+partsAt starts t head k = keep (inGroup t head) (partsOf starts k)
 
 -- the operation sets of the group's parts of a role, ascending
-unfoldable pub classesAt : List ℕ → ℕ → List ℕ → ℕ → ℕ → List ℕ
-classesAt permissions operations t head k = sort ltb (map (classAt permissions operations) (partsAt t head k))
+unfoldable pub classesAt : List ℕ → ℕ → (starts t : List ℕ) → ℕ → ℕ → List ℕ
+classesAt permissions operations starts t head k = sort ltb (map (classAt permissions operations t k) (partsAt starts t head k))
 
 -- ---- cost
 

@@ -12,7 +12,7 @@ use Rattle.mine_theory.specs.Lines.RuleLines.{linkBytes, valueBytes, partBytes,
 use Rattle.write_theory.specs.RuleLists.{listedAt, classesAt}
 use Rattle.sets.specs.Sets.{bit}
 use Rattle.sets.specs.Tests.{iff, each, upTo}
-use Rattle.mine_seats.specs.Seats.{restAt, levelIn, wordsAt}
+use Rattle.mine_parts.specs.Layout.{restAt, levelIn, wordsAt}
 use Rattle.role_record.specs.Places.{placeAttribute, setPlace}
 
 -- a conjunct of this kind, sets or singles, is kept at a place
@@ -44,10 +44,10 @@ atomBytesAt kept j = cond (bit kept (14 + j)) (linkBytes (j / 6) (j % 6)) []
 unfoldable pub atomBytesIn : ℕ → List ℕ
 atomBytesIn kept = each (atomBytesAt kept) (upTo 36)
 
-module _ (permissions : List ℕ) (operations : ℕ) (t : List ℕ) (head : ℕ) where
+module _ (permissions : List ℕ) (operations : ℕ) (starts t : List ℕ) (head : ℕ) where
   -- the lines 28 of a role
   unfoldable pub roleBytesIn : ℕ → List ℕ
-  roleBytesIn k = each (partBytes k) (classesAt permissions operations t head k)
+  roleBytesIn k = each (partBytes k) (classesAt permissions operations starts t head k)
 
   -- the lines 28
   unfoldable pub partBytesIn : List ℕ
@@ -61,7 +61,7 @@ operationBytesIn t head = 0x26 ∷ spread 2 (wordsAt t head .ops)
 unfoldable pub levelBytesIn : List ℕ → ℕ → List ℕ
 levelBytesIn t head = levelBytes (levelIn (restAt t head))
 
-module _ (distinct having inside kinds permissions : List ℕ) (operations : ℕ) (t : List ℕ) (head kept : ℕ) where
+module _ (distinct having inside kinds permissions : List ℕ) (operations : ℕ) (starts t : List ℕ) (head kept : ℕ) where
   -- the bytes of the rule
   unfoldable pub ruleBytesIn : List ℕ
   ruleBytesIn =
@@ -70,4 +70,4 @@ module _ (distinct having inside kinds permissions : List ℕ) (operations : ℕ
       ++ (kindBytesIn distinct having inside kinds t head kept user true
       ++ (kindBytesIn distinct having inside kinds t head kept resource false
       ++ (kindBytesIn distinct having inside kinds t head kept resource true
-      ++ ((0x26 ∷ spread 2 (wordsAt t head .ops)) ++ (atomBytesIn kept ++ (partBytesIn permissions operations t head ++ levelBytesIn t head)))))))
+      ++ ((0x26 ∷ spread 2 (wordsAt t head .ops)) ++ (atomBytesIn kept ++ (partBytesIn permissions operations starts t head ++ levelBytesIn t head)))))))

@@ -4,7 +4,7 @@ use Prim.Native.Nat.{ℕ, zero, suc, _+_, _*_, _/_, _%_, _≤_, _<_}
 use lib.Dec.{eqb}
 use lib.ListN.{length, getD, drop, length-append}
 use mathlib.Core.Bool.{Bool, true, false, cond, _&&_, Bool·beq}
-use mathlib.Core.List.{List, [], _∷_, _++_, append-assoc, append-nil}
+use mathlib.Core.List.{List, [], _∷_, _++_, append-assoc}
 use mathlib.Core.Path.{_≡_, refl, sym, ap, ap₂, _∙_, subst}
 use native.Mathlib.Omega.{arith}
 use Rattle.files.specs.RoleFile.{sideBy}
@@ -16,7 +16,7 @@ use Rattle.mine_theory.specs.Lines.RuleLines.{linkBytes, valueBytes, partBytes,
 use Rattle.write_theory.specs.ListingLaws.{listed-most, classes-most}
 use Rattle.write_theory.specs.RuleLists.{listedAt, classesAt}
 use Rattle.write_theory.specs.RuleTable.{keptAs, placeBytesIn, kindBytesIn, kindBytesAt, conjunctBytesIn, atomBytesAt, atomBytesIn, roleBytesIn, partBytesIn, levelBytesIn, operationBytesIn, ruleBytesIn}
-use Rattle.mine_seats.specs.Seats.{operationsAt, restAt, levelIn}
+use Rattle.mine_parts.specs.Layout.{operationsAt, restAt, levelIn}
 use Rattle.sets.specs.ListLaws.{length-each, sum-each, sum-most, sum-both, from-length}
 use Rattle.sets.specs.Sets.{bit}
 use Rattle.sets.specs.TestLaws.{beq-iff}
@@ -99,12 +99,12 @@ module _ (kept j : ℕ) where
 -- ---- parts
 
 -- a line for each operation set of a role
-pub role-on : (permissions : List ℕ) (operations : ℕ) (t : List ℕ) (head k : ℕ) (list rest : List ℕ) (n : ℕ) → n ≡ length (classesAt permissions operations t head k) → list ≡ wrote (classesAt permissions operations t head k) rest
-    → each (λ j. partBytes k (getD list j 0)) (upTo n) ≡ roleBytesIn permissions operations t head k
+pub role-on : (permissions : List ℕ) (operations : ℕ) (starts t : List ℕ) (head k : ℕ) (list rest : List ℕ) (n : ℕ) → n ≡ length (classesAt permissions operations starts t head k) → list ≡ wrote (classesAt permissions operations starts t head k) rest
+    → each (λ j. partBytes k (getD list j 0)) (upTo n) ≡ roleBytesIn permissions operations starts t head k
 unfolding roleBytesIn
-role-on permissions operations t head k list rest n e q =
+role-on permissions operations starts t head k list rest n e q =
     ap₂ (λ (m : ℕ) (l : List ℕ). each (λ j. partBytes k (getD l j 0)) (upTo m)) e q
-    ∙ runs-list (partBytes k) (classesAt permissions operations t head k) (drop (length (classesAt permissions operations t head k)) rest)
+    ∙ runs-list (partBytes k) (classesAt permissions operations starts t head k) (drop (length (classesAt permissions operations starts t head k)) rest)
 
 -- ---- the rule
 
@@ -115,14 +115,14 @@ four-joined a b c d r = sym
     ∙ ap (λ (l : List ℕ). b ++ l) (append-assoc c (d ++ []) r
     ∙ ap (λ (l : List ℕ). c ++ l) (append-assoc d [] r))))
 
-module _ (distinct having inside kinds permissions : List ℕ) (operations : ℕ) (t : List ℕ) (head kept : ℕ) where
+module _ (distinct having inside kinds permissions : List ℕ) (operations : ℕ) (starts t : List ℕ) (head kept : ℕ) where
   -- section by section
-  pub rule-sections : ruleBytesIn distinct having inside kinds permissions operations t head kept ≡ (0x21 ∷ []) ++ (conjunctBytesIn distinct having inside kinds t head kept ++ (operationBytesIn t head ++ (atomBytesIn kept ++ (partBytesIn permissions operations t head ++ (levelBytesIn t head ++ [])))))
+  pub rule-sections : ruleBytesIn distinct having inside kinds permissions operations starts t head kept ≡ (0x21 ∷ []) ++ (conjunctBytesIn distinct having inside kinds t head kept ++ (operationBytesIn t head ++ (atomBytesIn kept ++ (partBytesIn permissions operations starts t head ++ (levelBytesIn t head ++ [])))))
   unfolding ruleBytesIn operationBytesIn levelBytesIn conjunctBytesIn kindBytesAt
   rule-sections =
       ap (λ (l : List ℕ). 0x21 ∷ l)
       (four-joined (kindBytesIn distinct having inside kinds t head kept user false) (kindBytesIn distinct having inside kinds t head kept user true) (kindBytesIn distinct having inside kinds t head kept resource false) (kindBytesIn distinct having inside kinds t head kept resource true)
-      ((0x26 ∷ operationsAt t head % 256 ∷ operationsAt t head / 256 % 256 ∷ []) ++ (atomBytesIn kept ++ (partBytesIn permissions operations t head ++ levelBytesIn t head))))
+      ((0x26 ∷ operationsAt t head % 256 ∷ operationsAt t head / 256 % 256 ∷ []) ++ (atomBytesIn kept ++ (partBytesIn permissions operations starts t head ++ levelBytesIn t head))))
 
 -- the line of the operations
 pub operations-line : {ops : ℕ} (t : List ℕ) (head : ℕ) → ops ≡ operationsAt t head → 0x26 ∷ ops % 256 ∷ ops / 256 % 256 ∷ [] ≡ operationBytesIn t head
@@ -203,22 +203,22 @@ atoms-most kept = runs-most 3 (atomBytesAt kept) 36 (λ j. go (bit kept (14 + j)
     go false x y = omega arith
 
 -- those of the parts at most 2048
-parts-most : (permissions : List ℕ) (operations : ℕ) (t : List ℕ) (head : ℕ) → length (partBytesIn permissions operations t head) ≤ 2048
+parts-most : (permissions : List ℕ) (operations : ℕ) (starts t : List ℕ) (head : ℕ) → length (partBytesIn permissions operations starts t head) ≤ 2048
 unfolding partBytesIn roleBytesIn
-parts-most permissions operations t head =
-    runs-most 64 (roleBytesIn permissions operations t head) 32 (λ k.
-    within (length-each (partBytes k) (classesAt permissions operations t head k)) (sum-each 4 (λ n. length (partBytes k n)) (classesAt permissions operations t head k) (λ n m. refl)) (classes-most permissions operations t head k))
+parts-most permissions operations starts t head =
+    runs-most 64 (roleBytesIn permissions operations starts t head) 32 (λ k.
+    within (length-each (partBytes k) (classesAt permissions operations starts t head k)) (sum-each 4 (λ n. length (partBytes k n)) (classesAt permissions operations starts t head k) (λ n m. refl)) (classes-most permissions operations starts t head k))
   where
     within : {x y n : ℕ} → x ≡ y → y ≡ 4 * n → n ≤ rowCells → x ≤ 64
     within e d h = omega arith
 
 -- a rule has at most 12288 bytes, whatever the tables hold
-pub bytes-most : (distinct having inside kinds permissions : List ℕ) (operations : ℕ) (t : List ℕ) (head kept : ℕ) → length (ruleBytesIn distinct having inside kinds permissions operations t head kept) ≤ 12288
+pub bytes-most : (distinct having inside kinds permissions : List ℕ) (operations : ℕ) (starts t : List ℕ) (head kept : ℕ) → length (ruleBytesIn distinct having inside kinds permissions operations starts t head kept) ≤ 12288
 unfolding ruleBytesIn levelBytesIn
-bytes-most distinct having inside kinds permissions operations t head kept =
+bytes-most distinct having inside kinds permissions operations starts t head kept =
     go (kindBytesIn distinct having inside kinds t head kept user false) (kindBytesIn distinct having inside kinds t head kept user true) (kindBytesIn distinct having inside kinds t head kept resource false) (kindBytesIn distinct having inside kinds t head kept resource true)
-    (operationsAt t head % 256) (operationsAt t head / 256 % 256) (atomBytesIn kept) (partBytesIn permissions operations t head) (levelIn (restAt t head))
-    (side-most distinct having inside kinds t head kept user) (side-most distinct having inside kinds t head kept resource) (atoms-most kept) (parts-most permissions operations t head)
+    (operationsAt t head % 256) (operationsAt t head / 256 % 256) (atomBytesIn kept) (partBytesIn permissions operations starts t head) (levelIn (restAt t head))
+    (side-most distinct having inside kinds t head kept user) (side-most distinct having inside kinds t head kept resource) (atoms-most kept) (parts-most permissions operations starts t head)
   where
     go : (a b c d : List ℕ) (x y : ℕ) (e f : List ℕ) (z : ℕ) → length a + length b ≤ 4480 → length c + length d ≤ 4480 → length e ≤ 108 → length f ≤ 2048
         → length (0x21 ∷ (a ++ (b ++ (c ++ (d ++ ((0x26 ∷ x ∷ y ∷ []) ++ (e ++ (f ++ (0x29 ∷ z ∷ []))))))))) ≤ 12288

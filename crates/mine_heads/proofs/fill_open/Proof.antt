@@ -6,11 +6,12 @@ use mathlib.Core.Bool.{_&&_}
 use mathlib.Core.List.{List}
 use mathlib.Core.Path.{_≡_, sym, ap, _∙_}
 use native.Mathlib.Omega.{arith}
-use Rattle.mine_heads.specs.HeadLaws.{open-made}
+use Rattle.mine_heads.specs.HeadLaws.{word-below, marked-below, open-made}
+use Rattle.mine_heads.specs.Heads.{markWords}
 use Rattle.mine_corners.specs.Pairing.{wordsIn, reaches}
 use Rattle.sets.specs.LoopLaws.{store-next}
 use Rattle.sets.specs.Sets.{bit, maskOf}
-use Rattle.mine_seats.specs.Seats.{wordsAt}
+use Rattle.mine_parts.specs.Layout.{wordsAt}
 use Rattle.mine_theory.specs.Words.Words.{Words}
 use Rattle.mine_heads.proofs.fill_open.Statement.{statement}
 use Rattle.mine_heads.proofs.fill_open.Tie as tie
@@ -19,10 +20,10 @@ abbrev reachingOf : List ℕ → List ℕ → Words → ℕ → ℕ
 reachingOf scratch heads W word = maskOf 64 (λ k. bit (getD heads word 0) k && reaches (wordsAt scratch (64 * word + k)) W)
 
 abbrev Inv-loop : tie.InvT-loop
-Inv-loop scratch heads c ready₀ g word₀ ready word = (word ≤ 8) × (length ready ≡ 8) × ((w : ℕ) → w < word → getD ready w 0 ≡ reachingOf scratch heads (wordsIn g) w)
+Inv-loop scratch parts heads c ready₀ g word₀ ready word = (word ≤ markWords) × (length ready ≡ markWords) × ((w : ℕ) → w < word → getD ready w 0 ≡ reachingOf scratch heads (wordsIn g) w)
 
 abbrev μ-loop : tie.MeasureT-loop
-μ-loop scratch heads c ready₀ g word₀ ready word = 8 - word
+μ-loop scratch parts heads c ready₀ g word₀ ready word = markWords - word
 
 loop-holds : tie.Need-loop-holds Inv-loop μ-loop
 loop-holds c = (search needs, search needs, λ w l. absurd (omega arith))
@@ -48,8 +49,13 @@ returns c =
     let group = c .before .before in
     let start = group .before .before .before in
     let a = start .args in
-    open-made (a .heads .now) (l .ready) (a .scratch .now) (a .c) (start .pre .3) (l .inv .1)
+    open-made (a .heads .now) (l .ready) (a .scratch .now) (a .c) (omega (arith, start .pre .1)) (start .pre .3) (l .inv .1)
     (λ w b. l .inv .2 w (omega (arith, c .loop-test .left)) ∙ ap (λ (W : Words). reachingOf (a .scratch .now) (a .heads .now) W w) (group .group-at .ensures))
+
+reaching-requires : tie.Need-reaching-requires Inv-loop μ-loop
+reaching-requires c κs =
+    let start = c .before .before .before .before .before .before in
+    (search needs, λ k l b. word-below (start .args .heads .now) (marked-below (start .pre .3)) (c .before .before .loop .word) k _ (start .pre .1) l b)
 
 pub fill-open-spec : {M : Type 1} → statement M
 fill-open-spec =
@@ -61,7 +67,7 @@ fill-open-spec =
     loop-holds
     (λ c. search needs)
     (λ c. search needs)
-    (λ c κs. search needs)
+    reaching-requires
     (λ c. search needs)
     (λ c. search needs)
     (λ c. search needs)

@@ -6,15 +6,16 @@ use mathlib.Core.Path.{_≡_, sym, _∙_}
 use native.Mathlib.Omega.{arith}
 use Rattle.sets.specs.MaskLaws.{fill-none, fill-with, fill-out, fill-end}
 use Rattle.sets.specs.Sets.{maskOf}
-use Rattle.mine_seats.specs.Seats.{isHeadAt}
+use Rattle.mine_heads.specs.HeadLaws.{word-made}
+use Rattle.mine_parts.specs.Layout.{isHeadAt}
 use Rattle.mine_heads.proofs.heads_in.Statement.{statement}
 use Rattle.mine_heads.proofs.heads_in.Tie as tie
 
 abbrev Inv-loop : tie.InvT-loop
-Inv-loop scratch word m₀ k₀ m k = (k ≤ 64) × (m ≡ maskOf k (λ x. isHeadAt scratch (64 * word + x)))
+Inv-loop scratch parts word end m₀ k₀ m k = (k ≤ end) × (m ≡ maskOf k (λ x. isHeadAt scratch (64 * word + x)))
 
 abbrev μ-loop : tie.MeasureT-loop
-μ-loop scratch word m₀ k₀ m k = 64 - k
+μ-loop scratch parts word end m₀ k₀ m k = end - k
 
 loop-holds : tie.Need-loop-holds Inv-loop μ-loop
 loop-holds c = (search needs, sym (fill-none _))
@@ -23,7 +24,7 @@ loop-again : tie.Need-loop-again Inv-loop μ-loop
 loop-again c =
     let asked = c .before in
     let turn = asked .before .before .loop in
-    let a = asked .before .before .before .before .args in (
+    let a = asked .before .before .before .before .before .args in (
       search needs,
       ⊎-elim
           (λ w. fill-with (turn .k) (turn .m) _ (λ x. isHeadAt (a .scratch .now) (64 * a .word + x)) (omega arith) (turn .inv .1) (sym (asked .is-head .ensures) ∙ w .0 .taken) (w .2 ∙ w .1 .ensures))
@@ -33,8 +34,12 @@ loop-again c =
 
 returns : tie.Need-returns Inv-loop μ-loop
 returns c =
-    let a = c .before .before .before .args in
-    fill-end (c .before .loop .k) 64 (c .before .loop .m) (λ x. isHeadAt (a .scratch .now) (64 * a .word + x)) (c .before .loop .inv .1) (omega arith)
+    let counted = c .before .before in
+    let start = counted .before .before in
+    let a = start .args in
+    let l = c .before .loop in
+    word-made (a .parts) (omega (arith, start .pre .1)) (a .scratch .now) (a .word) (counted .marks-in .ensures)
+    (fill-end (l .k) (counted .marks-in .result) (l .m) (λ x. isHeadAt (a .scratch .now) (64 * a .word + x)) (l .inv .1) (omega arith))
 
 pub heads-in-spec : {M : Type 1} → statement M
 heads-in-spec =
@@ -42,6 +47,7 @@ heads-in-spec =
     (tie.spec
     Inv-loop
     μ-loop
+    (λ c κs. search needs)
     loop-holds
     (λ c. search needs)
     (λ c. search needs)

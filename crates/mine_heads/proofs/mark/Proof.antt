@@ -8,18 +8,18 @@ use native.Mathlib.Omega.{arith}
 use Rattle.mine_heads.specs.HeadLaws.{marks-made}
 use Rattle.sets.specs.LoopLaws.{store-next}
 use Rattle.sets.specs.Sets.{maskOf}
-use Rattle.mine_seats.specs.Seats.{isHeadAt}
+use Rattle.mine_heads.specs.Heads.{markWords, isHeadOf}
 use Rattle.mine_heads.proofs.mark.Statement.{statement}
 use Rattle.mine_heads.proofs.mark.Tie as tie
 
-abbrev headsOf : List ℕ → ℕ → ℕ
-headsOf scratch word = maskOf 64 (λ k. isHeadAt scratch (64 * word + k))
+abbrev headsOf : ℕ → List ℕ → ℕ → ℕ
+headsOf parts scratch word = maskOf 64 (λ k. isHeadOf parts scratch (64 * word + k))
 
 abbrev Inv-loop : tie.InvT-loop
-Inv-loop scratch heads₀ word₀ heads word = (word ≤ 8) × (length heads ≡ 8) × ((w : ℕ) → w < word → getD heads w 0 ≡ headsOf scratch w)
+Inv-loop scratch parts heads₀ word₀ heads word = (word ≤ markWords) × (length heads ≡ markWords) × ((w : ℕ) → w < word → getD heads w 0 ≡ headsOf parts scratch w)
 
 abbrev μ-loop : tie.MeasureT-loop
-μ-loop scratch heads₀ word₀ heads word = 8 - word
+μ-loop scratch parts heads₀ word₀ heads word = markWords - word
 
 loop-holds : tie.Need-loop-holds Inv-loop μ-loop
 loop-holds c = (search needs, search needs, λ w l. absurd (omega arith))
@@ -31,7 +31,7 @@ loop-again c =
     let word = c .heads-in .result in (
       search needs,
       length-set (turn .heads) (turn .word) word ∙ turn .inv .1,
-      store-next (turn .heads) (turn .word) word (headsOf (a .scratch .now)) (turn .inv .2) (c .heads-in .ensures) (omega (arith, turn .inv .1, c .before .loop-test .taken)),
+      store-next (turn .heads) (turn .word) word (headsOf (a .parts) (a .scratch .now)) (turn .inv .2) (c .heads-in .ensures) (omega (arith, turn .inv .1, c .before .loop-test .taken)),
     )
 
 same-length : tie.Need-same-length Inv-loop μ-loop
@@ -40,7 +40,8 @@ same-length c = c .before .loop .inv .1 ∙ sym (c .before .before .before .befo
 returns : tie.Need-returns Inv-loop μ-loop
 returns c =
     let l = c .before .loop in
-    marks-made (l .heads) (c .before .before .before .before .args .scratch .now) (l .inv .1) (λ w b. l .inv .2 w (omega (arith, c .loop-test .left)))
+    let start = c .before .before .before .before in
+    marks-made (start .args .parts) (omega (arith, start .pre .1)) (start .args .scratch .now) (l .heads) (l .inv .1) (λ w b. l .inv .2 w (omega (arith, c .loop-test .left)))
 
 pub mark-spec : {M : Type 1} → statement M
 mark-spec =

@@ -8,10 +8,12 @@ use mathlib.Core.Path.{_≡_, sym, ap, _∙_}
 use native.Mathlib.Omega.{arith}
 use Rattle.mine_words.specs.AtomLaws.{with-low, keeping, keep-in, keep-out, keep-done}
 use Rattle.sets.specs.Sets.{lessOne, bit, maskOf}
-use Rattle.sets.specs.MemberLaws.{least-in, less-less}
+use Rattle.sets.specs.MemberLaws.{least-in, less-less, bit-less}
+use Rattle.sets.specs.TestLaws.{and-l}
+use Rattle.sets.specs.Tests.{Is}
 use Rattle.mine_heads.specs.HeadLaws.{reaching-begin}
 use Rattle.mine_corners.specs.Pairing.{wordsIn, reaches}
-use Rattle.mine_seats.specs.Seats.{wordsAt}
+use Rattle.mine_parts.specs.Layout.{wordsAt}
 use Rattle.mine_theory.specs.Words.Words.{Words}
 use Rattle.mine_heads.proofs.reaching.Statement.{statement}
 use Rattle.mine_heads.proofs.reaching.Tie as tie
@@ -20,14 +22,15 @@ abbrev reachesIt : List ℕ → ℕ → Words → ℕ → Bool
 reachesIt scratch word W k = reaches (wordsAt scratch (64 * word + k)) W
 
 abbrev Inv-loop : tie.InvT-loop
-Inv-loop scratch seats word g m₀ rest₀ m rest =
-    (m < 2 ^ 64) × (rest < 2 ^ 64) × (maskOf 64 (keeping (reachesIt scratch word (wordsIn g)) m rest) ≡ maskOf 64 (λ k. bit seats k && reachesIt scratch word (wordsIn g) k))
+Inv-loop scratch marked word g m₀ rest₀ m rest =
+    (m < 2 ^ 64) × (rest < 2 ^ 64) × (maskOf 64 (keeping (reachesIt scratch word (wordsIn g)) m rest) ≡ maskOf 64 (λ k. bit marked k && reachesIt scratch word (wordsIn g) k))
+    × ((k : ℕ) → Is (bit rest k) → Is (bit marked k))
 
 abbrev μ-loop : tie.MeasureT-loop
-μ-loop scratch seats word g m₀ rest₀ m rest = rest
+μ-loop scratch marked word g m₀ rest₀ m rest = rest
 
 loop-holds : tie.Need-loop-holds Inv-loop μ-loop
-loop-holds c = let a = c .before .args in (search needs, search needs, reaching-begin (reachesIt (a .scratch .now) (a .word) (wordsIn (a .g))) (a .seats))
+loop-holds c = let a = c .before .args in (search needs, search needs, reaching-begin (reachesIt (a .scratch .now) (a .word) (wordsIn (a .g))) (a .marked), λ k b. b)
 
 add-group-at : tie.Need-add-group-at Inv-loop μ-loop
 add-group-at c = let t = least-in (c .before .before .loop .rest) (c .before .before .loop .inv .1) _ (c .least .ensures) (c .before .loop-test .taken) in omega arith
@@ -36,7 +39,7 @@ group-at-requires : tie.Need-group-at-requires Inv-loop μ-loop
 group-at-requires c κs =
     let t = least-in (c .before .before .loop .rest) (c .before .before .loop .inv .1) _ (c .least .ensures) (c .before .loop-test .taken) in
     let p = c .before .before .before .before .pre in
-    (omega (arith, t .0, p .0), p .1)
+    p .1 _ (t .0) (c .before .before .loop .inv .3 _ (t .1))
 
 loop-less : tie.Need-loop-less Inv-loop μ-loop
 loop-less c =
@@ -69,6 +72,7 @@ loop-again c =
           (λ w. keep-out f (turn .m) (turn .rest) (d .least .result) (turn .inv .1) (t .1) _ (told ∙ w .0 .left) (w .1))
           (c .before .if1 .came)
           ∙ turn .inv .2,
+      λ k b. turn .inv .3 k (and-l (bit (turn .rest) k) _ (sym (bit-less (turn .rest) (turn .inv .1) (d .least .result) k) ∙ ap (λ (m : ℕ). bit m k) (sym e) ∙ b)),
     )
 
 returns : tie.Need-returns Inv-loop μ-loop

@@ -5,7 +5,7 @@ use mathlib.Core.Path.{subst}
 use Rattle.mine_matches.specs.Matches.{bothMembers, Met}
 use Rattle.mine_search.specs.SearchMetLaws.{beside-met}
 use Rattle.mine_search.specs.PartnerSearchLaws.{beside-self, beside-other}
-use Rattle.mine_seats.specs.Seats.{usersAt, resourcesAt}
+use Rattle.mine_parts.specs.Layout.{usersAt, resourcesAt}
 use Rattle.mine_search.proofs.level_beside.Statement.{statement}
 use lib.ListN.{drop}
 use Rattle.mine_search.proofs.level_beside.Tie as tie
@@ -19,13 +19,12 @@ level-if-joined-requires c κs =
     let start = told .before .before .before .before .before in
     let a = start .args in
     let p = start .pre in
-    let m = added .widen .ensures (usersAt (a .scratch .now) (a .c)) (resourcesAt (a .scratch .now) (a .c)) (p .6) in (
+    let m = added .widen .ensures (usersAt (a .scratch .now) (a .c)) (resourcesAt (a .scratch .now) (a .c)) (p .5) in (
       p .0,
       p .1,
       p .2,
       search needs,
       search needs,
-      p .5,
       (
         beside-met (a .matches .now) 0 (usersAt (a .scratch .now)) (a .c) (a .k) (added .widen .last .1 .1 .1 .0) (first .lower .ensures) (second .higher .ensures)
             (subst (λ (x : ℕ). Met (a .matches .now) 0 (bothMembers (usersAt (a .scratch .now) (a .c)) x) (added .widen .last .1 .1 .1 .0)) (told .before .users-at .ensures) (m .0)),

@@ -23,8 +23,8 @@ level-of-pair-requires c κs =
       p .2,
       omega arith,
       (
-        subst (λ (m : ℕ). Met (a .matches .now) 0 m (a .met .now)) (sym (ap₂ (λ (W X : Words). bothMembers (W .users) (X .users)) g h)) (p .6 .0),
-        subst (λ (m : ℕ). Met (a .matches .now) 1 m (drop 6 (a .met .now))) (sym (ap₂ (λ (W X : Words). bothMembers (W .resources) (X .resources)) g h)) (p .6 .1),
+        subst (λ (m : ℕ). Met (a .matches .now) 0 m (a .met .now)) (sym (ap₂ (λ (W X : Words). bothMembers (W .users) (X .users)) g h)) (p .5 .0),
+        subst (λ (m : ℕ). Met (a .matches .now) 1 m (drop 6 (a .met .now))) (sym (ap₂ (λ (W X : Words). bothMembers (W .resources) (X .resources)) g h)) (p .5 .1),
       ),
     )
 

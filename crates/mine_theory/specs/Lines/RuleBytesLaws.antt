@@ -28,7 +28,6 @@ use Rattle.sets.specs.Tests.{Is, each, only, from, upTo, sum}
 use Rattle.mine_theory.specs.Words.FlagLaws.{sum-if, conjunct-costs, atom-costs, written-places}
 use Rattle.mine_theory.specs.Words.Flags.{condAt, keptPlaces}
 use Rattle.mine_theory.specs.Words.Words.{Words, Roomy, wordsOf}
-use Rattle.role_record.specs.Cells.{roleCells}
 use Rattle.role_record.specs.Places.{placeSide, placeAttribute}
 
 -- a byte stands for itself, and nothing follows the last operand
@@ -80,13 +79,13 @@ length-cond false l = refl
 pub role-bytes : (k : ℕ) → k < 256 → (ns : List ℕ) → each (encode 2) (map (part k) ns) ≡ each (partBytes k) ns
 role-bytes k l ns = each-map (encode 2) (part k) ns ∙ each-ext (λ n. encode 2 (part k n)) (partBytes k) ns (λ n m. encode-part k n l)
 
--- the lines of a list of seats: role by role, ascending by operation set
-pub parts-bytes : (cls : ℕ → ℕ) (g : List ℕ) → Every (λ i. i < roleCells) g → each (encode 2) (partLinesOf cls g) ≡ each (λ k. each (partBytes k) (sort ltb (map cls (ofRole g k)))) (upTo 32)
-parts-bytes cls g low =
-    ap (each (encode 2)) (part-lines-sorted cls g low)
-    ∙ each-each (encode 2) (λ k. map (part k) (sort ltb (map cls (ofRole g k)))) (upTo 32)
-    ∙ each-ext (λ k. each (encode 2) (map (part k) (sort ltb (map cls (ofRole g k))))) (λ k. each (partBytes k) (sort ltb (map cls (ofRole g k)))) (upTo 32)
-    (λ k m. let l = upTo-out 32 m in role-bytes k (omega arith) (sort ltb (map cls (ofRole g k))))
+-- the lines of a list of parts: role by role, ascending by operation set
+pub parts-bytes : (role cls : ℕ → ℕ) (g : List ℕ) → Every (λ i. role i < 32) g → each (encode 2) (partLinesOf role cls g) ≡ each (λ k. each (partBytes k) (sort ltb (map cls (ofRole role g k)))) (upTo 32)
+parts-bytes role cls g low =
+    ap (each (encode 2)) (part-lines-sorted role cls g low)
+    ∙ each-each (encode 2) (λ k. map (part k) (sort ltb (map cls (ofRole role g k)))) (upTo 32)
+    ∙ each-ext (λ k. each (encode 2) (map (part k) (sort ltb (map cls (ofRole role g k))))) (λ k. each (partBytes k) (sort ltb (map cls (ofRole role g k)))) (upTo 32)
+    (λ k m. let l = upTo-out 32 m in role-bytes k (omega arith) (sort ltb (map cls (ofRole role g k))))
 
 module _ (m : ℕ) where
   -- atom by atom

@@ -13,7 +13,6 @@ use Rattle.sets.specs.Sets.{bit, maskOf}
 use Rattle.sets.specs.Sorted.{sort}
 use Rattle.sets.specs.Tests.{iff, keep, each, only, upTo}
 use Rattle.mine_theory.specs.Words.Words.{Words, membersOf}
-use Rattle.role_record.specs.Cells.{cellRow}
 use Rattle.role_record.specs.Places.{placeSide, placeAttribute}
 
 -- the place of a side's attribute number j, with 255 as number 6
@@ -52,13 +51,13 @@ module _ (P : Setting) where
       ++ (kindLines W m resource true
       ++ (operations (W .ops) ∷ (atomLines m ++ (ps ++ (level l ∷ [])))))))
 
--- the seats of a role
-abbrev pub ofRole : List ℕ → ℕ → List ℕ
-ofRole g k = keep (λ i. eqb (cellRow i) k) g
+-- the parts of a role, by the role that each has
+abbrev pub ofRole : (ℕ → ℕ) → List ℕ → ℕ → List ℕ
+ofRole role g k = keep (λ i. eqb (role i) k) g
 
--- the lines 28 of a list of seats, seat i standing for the role of that cell and the operations that `cls` says
-unfoldable pub partLinesOf : (ℕ → ℕ) → List ℕ → Lines
-partLinesOf cls g = sort precedes (map (λ i. part (cellRow i) (cls i)) g)
+-- the lines 28 of a list of parts, by the role and the operations that each has
+unfoldable pub partLinesOf : (role cls : ℕ → ℕ) → List ℕ → Lines
+partLinesOf role cls g = sort precedes (map (λ i. part (role i) (cls i)) g)
 
 -- ---- one line
 

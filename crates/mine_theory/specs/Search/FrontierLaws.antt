@@ -9,62 +9,62 @@ use mathlib.Core.List.{List, _∷_, map}
 use mathlib.Core.Option.{Option, none, some, Option·map}
 use mathlib.Core.Path.{_≡_, refl, sym, ap, ap₂, _∙_}
 use native.Mathlib.Omega.{arith}
-use Rattle.mine_theory.specs.Search.Frontier.{Seats, groupsIn, joinedAt, okAt, Clean, NoneBefore, NoneBehind}
+use Rattle.mine_theory.specs.Search.Frontier.{Groups, groupsIn, joinedAt, okAt, Clean, NoneBefore, NoneBehind}
 use Rattle.policy.specs.Merging.{absorb, step, mergeAll}
 use Rattle.policy.specs.MergeLaws.{run, merges}
 use Rattle.sets.specs.Tests.{Is, keep, from}
 use Rattle.sets.specs.TestLaws.{and-l, and-r, test}
 
--- ---- the groups of the seats from k on, m of them
+-- ---- the groups of the m numbers from k on
 
 module _ {A : Type 0} where
-  abbrev groupsFrom : Seats A → ℕ → ℕ → List A
+  abbrev groupsFrom : Groups A → ℕ → ℕ → List A
   groupsFrom s k m = map (s .group) (keep (s .alive) (from k m))
 
-  from-alive : (s : Seats A) (k m : ℕ) → Is (s .alive k) → groupsFrom s k (suc m) ≡ s .group k ∷ groupsFrom s (suc k) m
+  from-alive : (s : Groups A) (k m : ℕ) → Is (s .alive k) → groupsFrom s k (suc m) ≡ s .group k ∷ groupsFrom s (suc k) m
   from-alive s k m h = rw h
 
-  from-empty : (s : Seats A) (k m : ℕ) → s .alive k ≡ false → groupsFrom s k (suc m) ≡ groupsFrom s (suc k) m
+  from-empty : (s : Groups A) (k m : ℕ) → s .alive k ≡ false → groupsFrom s k (suc m) ≡ groupsFrom s (suc k) m
   from-empty s k m h = rw h
 
-  -- past a seat that has a group in both, or in neither
-  past : (R : List A → List A → Type 0) (s t : Seats A) (k m : ℕ) → t .alive k ≡ s .alive k → (Is (s .alive k) → R (s .group k ∷ groupsFrom s (suc k) m) (t .group k ∷ groupsFrom t (suc k) m)) → R (groupsFrom s (suc k) m) (groupsFrom t (suc k) m) → R (groupsFrom s k (suc m)) (groupsFrom t k (suc m))
+  -- past a number that is a head in both, or in neither
+  past : (R : List A → List A → Type 0) (s t : Groups A) (k m : ℕ) → t .alive k ≡ s .alive k → (Is (s .alive k) → R (s .group k ∷ groupsFrom s (suc k) m) (t .group k ∷ groupsFrom t (suc k) m)) → R (groupsFrom s (suc k) m) (groupsFrom t (suc k) m) → R (groupsFrom s k (suc m)) (groupsFrom t k (suc m))
   past R s t k m e f g = test (s .alive k) (λ p. rw (e, p) (f p)) (λ p. rw (e, p) g)
 
-  from-same : (s t : Seats A) (k m : ℕ) → ((i : ℕ) → k ≤ i → t .alive i ≡ s .alive i) → ((i : ℕ) → k ≤ i → t .group i ≡ s .group i) → groupsFrom s k m ≡ groupsFrom t k m
+  from-same : (s t : Groups A) (k m : ℕ) → ((i : ℕ) → k ≤ i → t .alive i ≡ s .alive i) → ((i : ℕ) → k ≤ i → t .group i ≡ s .group i) → groupsFrom s k m ≡ groupsFrom t k m
   from-same s t k zero a g = refl
   from-same s t k (suc m) a g =
       let rest = from-same s t (suc k) m (λ i h. a i (omega arith)) (λ i h. g i (omega arith)) in
       past (λ l r. l ≡ r) s t k m (a k (omega arith)) (λ p. ap₂ _∷_ (sym (g k (omega arith))) rest) rest
 
--- ---- two seats joined
+-- ---- two heads joined
 
-module _ {A : Type 0} (join : A → A → A) (s : Seats A) (i j : ℕ) where
-  -- the later seat is empty
+module _ {A : Type 0} (join : A → A → A) (s : Groups A) (i j : ℕ) where
+  -- the later is a head no more
   pub emptied : joinedAt join s i j .alive j ≡ false
   unfolding joinedAt
   emptied = rw (eq-eqb j j refl) (and-false (s .alive j))
 
-  -- every other seat has a group if it had one
+  -- every other number is a head if it was one
   pub alive-kept : (k : ℕ) → (k ≡ j → ⊥) → joinedAt join s i j .alive k ≡ s .alive k
   unfolding joinedAt
   alive-kept k d = rw (ne-eqb k j d) (and-true (s .alive k))
 
-  -- the earlier seat has the joined group
+  -- the earlier head has the joined group
   pub group-joined : joinedAt join s i j .group i ≡ join (s .group i) (s .group j)
   unfolding joinedAt
   group-joined = rw (eq-eqb i i refl)
 
-  -- every other seat has the group that it had
+  -- every other head has the group that it had
   pub group-kept : (k : ℕ) → (k ≡ i → ⊥) → joinedAt join s i j .group k ≡ s .group k
   unfolding joinedAt
   group-kept k d = rw (ne-eqb k i d)
 
-  -- past a seat that is as it was
+  -- past a number that is as it was
   past-kept : (R : List A → List A → Type 0) (k m : ℕ) → (k ≡ i → ⊥) → (k ≡ j → ⊥) → (Is (s .alive k) → R (s .group k ∷ groupsFrom s (suc k) m) (s .group k ∷ groupsFrom (joinedAt join s i j) (suc k) m)) → R (groupsFrom s (suc k) m) (groupsFrom (joinedAt join s i j) (suc k) m) → R (groupsFrom s k (suc m)) (groupsFrom (joinedAt join s i j) k (suc m))
   past-kept R k m ki kj f g = past R s (joinedAt join s i j) k m (alive-kept k kj) (λ p. rw (group-kept k ki) (f p)) g
 
-  -- from the later seat on only that one is missing
+  -- from the later head on only that one is missing
   behind-joined : i < j → (m : ℕ) → groupsFrom s (suc j) m ≡ groupsFrom (joinedAt join s i j) j (suc m)
   behind-joined h m =
       from-same s (joinedAt join s i j) (suc j) m (λ k l. alive-kept k (λ e. omega arith)) (λ k l. group-kept k (λ e. omega arith))
@@ -79,31 +79,31 @@ module _ {A : Type 0} (join : A → A → A) (s : Seats A) (i j : ℕ) where
       let rest = length-from h a d (suc k) m (omega arith) (omega arith) in
       past (λ l r. length l ≡ suc (length r)) s (joinedAt join s i j) k m (alive-kept k (λ q. omega arith)) (λ p. ap suc rest) rest
 
--- ---- pairs of seats
+-- ---- pairs of heads
 
 module _ {A : Type 0} (ok : A → A → Bool) where
   -- both have groups, and these may be joined
-  pub okAt-out : (s : Seats A) (i j : ℕ) → Is (okAt ok s i j) → Is (s .alive i) × Is (s .alive j) × Is (ok (s .group i) (s .group j))
+  pub okAt-out : (s : Groups A) (i j : ℕ) → Is (okAt ok s i j) → Is (s .alive i) × Is (s .alive j) × Is (ok (s .group i) (s .group j))
   unfolding okAt
   okAt-out s i j h =
       let r = and-r (s .alive i) (s .alive j && ok (s .group i) (s .group j)) h in
       (and-l (s .alive i) (s .alive j && ok (s .group i) (s .group j)) h, and-l (s .alive j) (ok (s .group i) (s .group j)) r, and-r (s .alive j) (ok (s .group i) (s .group j)) r)
 
-  -- an empty seat takes nothing in
-  pub empty-left : (s : Seats A) (i j : ℕ) → s .alive i ≡ false → okAt ok s i j ≡ false
+  -- what is no head takes nothing in
+  pub empty-left : (s : Groups A) (i j : ℕ) → s .alive i ≡ false → okAt ok s i j ≡ false
   unfolding okAt
   empty-left s i j h = rw h
 
-  -- an empty seat is not taken in
-  pub empty-right : (s : Seats A) (i j : ℕ) → s .alive j ≡ false → okAt ok s i j ≡ false
+  -- what is no head is not taken in
+  pub empty-right : (s : Groups A) (i j : ℕ) → s .alive j ≡ false → okAt ok s i j ≡ false
   unfolding okAt
   empty-right s i j h = rw h (and-false (s .alive i))
 
-  refused : (s : Seats A) (i j : ℕ) → okAt ok s i j ≡ false → Is (s .alive i) → Is (s .alive j) → ok (s .group i) (s .group j) ≡ false
+  refused : (s : Groups A) (i j : ℕ) → okAt ok s i j ≡ false → Is (s .alive i) → Is (s .alive j) → ok (s .group i) (s .group j) ≡ false
   unfolding okAt
   refused s i j h p q = rw (p, q) at h
 
-  pair-kept : (join : A → A → A) (s : Seats A) (i j a b : ℕ) → (a ≡ i → ⊥) → (b ≡ i → ⊥) → (a ≡ j → ⊥) → (b ≡ j → ⊥) → okAt ok (joinedAt join s i j) a b ≡ okAt ok s a b
+  pair-kept : (join : A → A → A) (s : Groups A) (i j a b : ℕ) → (a ≡ i → ⊥) → (b ≡ i → ⊥) → (a ≡ j → ⊥) → (b ≡ j → ⊥) → okAt ok (joinedAt join s i j) a b ≡ okAt ok s a b
   unfolding okAt
   pair-kept join s i j a b ai bi aj bj = rw (alive-kept join s i j a aj, alive-kept join s i j b bj, group-kept join s i j a ai, group-kept join s i j b bi)
 
@@ -122,7 +122,7 @@ module _ {A : Type 0} (ok : A → A → Bool) (join : A → A → A) where
   step-on : (x : A) (t : List A) → absorb ok join x t ≡ none → step ok join (x ∷ t) ≡ Option·map (λ (u : List A). x ∷ u) (step ok join t)
   step-on x t h = rw (h, step)
 
-  module _ (s : Seats A) where
+  module _ (s : Groups A) where
     absorb-refused : (a : ℕ) → Is (s .alive a) → (k m : ℕ) → ((b : ℕ) → k ≤ b → b < k + m → okAt ok s a b ≡ false) → absorb ok join (s .group a) (groupsFrom s k m) ≡ none
     absorb-refused a p k zero h = refl
     absorb-refused a p k (suc m) h =
@@ -136,7 +136,7 @@ module _ {A : Type 0} (ok : A → A → Bool) (join : A → A → A) where
         past (λ l r. step ok join l ≡ none) s s k m refl (λ q. step-on (s .group k) (groupsFrom s (suc k) m) (absorb-refused k q (suc k) m (λ b p r. h k b (omega arith) (omega arith) (omega arith))) ∙ ap (Option·map (λ (u : List A). s .group k ∷ u)) rest) rest
 
     module _ (i j : ℕ) (order : i < j) (may : Is (okAt ok s i j)) (first : (b : ℕ) → i < b → b < j → okAt ok s i b ≡ false) where
-      abbrev after : Seats A
+      abbrev after : Groups A
       after = joinedAt join s i j
 
       abbrev joined : A
@@ -171,18 +171,18 @@ module _ {A : Type 0} (ok : A → A → Bool) (join : A → A → A) where
           past-kept join s i j (λ l r. step ok join l ≡ some r) k m (λ q. omega arith) (λ q. omega arith) (λ q. step-on (s .group k) (groupsFrom s (suc k) m) (absorb-refused k q (suc k) m (λ b p r. h k b (omega arith) (omega arith) (omega arith))) ∙ ap (Option·map (λ (u : List A). s .group k ∷ u)) rest) rest
 
 module _ {A : Type 0} (ok : A → A → Bool) (join : A → A → A) (n : ℕ) where
-  -- a step joins the first pair that may be joined, by the earlier seat, then by the other
-  pub step-first : (s : Seats A) (i j : ℕ) → i < j → j < n → okAt ok s i j ≡ true → ((a b : ℕ) → a < i → a < b → b < n → okAt ok s a b ≡ false) → ((b : ℕ) → i < b → b < j → okAt ok s i b ≡ false) → step ok join (groupsIn n s) ≡ some (groupsIn n (joinedAt join s i j))
+  -- a step joins the first pair that may be joined, by the earlier head, then by the other
+  pub step-first : (s : Groups A) (i j : ℕ) → i < j → j < n → okAt ok s i j ≡ true → ((a b : ℕ) → a < i → a < b → b < n → okAt ok s a b ≡ false) → ((b : ℕ) → i < b → b < j → okAt ok s i b ≡ false) → step ok join (groupsIn n s) ≡ some (groupsIn n (joinedAt join s i j))
   unfolding groupsIn
   step-first s i j h l may earlier first = step-from ok join s i j h may first i 0 n (omega arith) (omega arith) (λ a b p q r. earlier a b p q (omega arith))
 
   -- where no pair may be joined there is no step
-  pub step-none : (s : Seats A) → ((a b : ℕ) → a < b → b < n → okAt ok s a b ≡ false) → step ok join (groupsIn n s) ≡ none
+  pub step-none : (s : Groups A) → ((a b : ℕ) → a < b → b < n → okAt ok s a b ≡ false) → step ok join (groupsIn n s) ≡ none
   unfolding groupsIn
   step-none s h = none-from ok join s 0 n (λ a b p q r. h a b q (omega arith))
 
   -- a join leaves one group fewer
-  pub joined-length : (s : Seats A) (i j : ℕ) → okAt ok s i j ≡ true → i < j → j < n → length (groupsIn n s) ≡ suc (length (groupsIn n (joinedAt join s i j)))
+  pub joined-length : (s : Groups A) (i j : ℕ) → okAt ok s i j ≡ true → i < j → j < n → length (groupsIn n s) ≡ suc (length (groupsIn n (joinedAt join s i j)))
   unfolding groupsIn
   joined-length s i j may h l = length-from join s i j h (okAt-out ok s i j may .1) j 0 n (omega arith) (omega arith)
 
@@ -190,15 +190,15 @@ module _ {A : Type 0} (ok : A → A → Bool) (join : A → A → A) (n : ℕ) w
 
 module _ {A : Type 0} (ok : A → A → Bool) (n : ℕ) where
   -- the search begins with nothing tested
-  pub begin : (s : Seats A) → Clean ok n s 0 0
+  pub begin : (s : Groups A) → Clean ok n s 0 0
   begin s = record { apart = λ i j h l f. absurd (omega arith) }
 
-  -- with their pairs with c refused too, the seats before x have none
-  refused-before : {s : Seats A} {c front : ℕ} → Clean ok n s c front → c < front → (x : ℕ) → x ≤ c → ((a : ℕ) → a < x → okAt ok s a c ≡ false) → (a b : ℕ) → a < x → a < b → b < n → okAt ok s a b ≡ false
+  -- with their pairs with c refused too, the heads before x have none
+  refused-before : {s : Groups A} {c front : ℕ} → Clean ok n s c front → c < front → (x : ℕ) → x ≤ c → ((a : ℕ) → a < x → okAt ok s a c ≡ false) → (a b : ℕ) → a < x → a < b → b < n → okAt ok s a b ≡ false
   refused-before {c = c} C f x l h a b p q r = test (eqb b c) (λ e. rw (eqb-true b c e) (h a p)) (λ e. C .apart a b q r (omega arith) (λ d. omega arith) (eqb-false b c e))
 
-  -- with all pairs of c refused too, the seats before the front have none
-  all-refused : {s : Seats A} {c front : ℕ} → Clean ok n s c front → NoneBefore ok s c → NoneBehind ok n s c → (a b : ℕ) → a < b → b < n → a < front → okAt ok s a b ≡ false
+  -- with all pairs of c refused too, the heads before the front have none
+  all-refused : {s : Groups A} {c front : ℕ} → Clean ok n s c front → NoneBefore ok s c → NoneBehind ok n s c → (a b : ℕ) → a < b → b < n → a < front → okAt ok s a b ≡ false
   all-refused {s} {c} C before behind a b h l f = test (eqb a c) (λ e. first (eqb-true a c e)) (λ d. test (eqb b c) (λ e. second (eqb-true b c e)) (λ e. C .apart a b h l f (eqb-false a c d) (eqb-false b c e)))
     where
       first : a ≡ c → okAt ok s a b ≡ false
@@ -207,12 +207,12 @@ module _ {A : Type 0} (ok : A → A → Bool) (n : ℕ) where
       second : b ≡ c → okAt ok s a b ≡ false
       second q = rw q (before a (omega arith))
 
-  -- where c has no pair, the search goes on with the seat at the front
-  pub go-on : {s : Seats A} {c front : ℕ} → Clean ok n s c front → c < front → NoneBefore ok s c → NoneBehind ok n s c → front < n → Clean ok n s front (suc front) × NoneBefore ok s front
+  -- where c has no pair, the search goes on with the number at the front
+  pub go-on : {s : Groups A} {c front : ℕ} → Clean ok n s c front → c < front → NoneBefore ok s c → NoneBehind ok n s c → front < n → Clean ok n s front (suc front) × NoneBefore ok s front
   go-on {front = front} C k before behind l = (record { apart = λ a b h u f d e. all-refused C before behind a b h u (omega arith) }, λ a h. all-refused C before behind a front h l h)
 
   module _ (join : A → A → A) where
-    untouched : (s : Seats A) (i j a b : ℕ) → (a ≡ i → ⊥) → (b ≡ i → ⊥) → ((a ≡ j → ⊥) → (b ≡ j → ⊥) → okAt ok s a b ≡ false) → okAt ok (joinedAt join s i j) a b ≡ false
+    untouched : (s : Groups A) (i j a b : ℕ) → (a ≡ i → ⊥) → (b ≡ i → ⊥) → ((a ≡ j → ⊥) → (b ≡ j → ⊥) → okAt ok s a b ≡ false) → okAt ok (joinedAt join s i j) a b ≡ false
     untouched s i j a b ai bi h = test (eqb a j) (λ e. first (eqb-true a j e)) (λ d. test (eqb b j) (λ e. second (eqb-true b j e)) (λ e. neither (eqb-false a j d) (eqb-false b j e)))
       where
         first : a ≡ j → okAt ok (joinedAt join s i j) a b ≡ false
@@ -224,19 +224,19 @@ module _ {A : Type 0} (ok : A → A → Bool) (n : ℕ) where
         neither : (a ≡ j → ⊥) → (b ≡ j → ⊥) → okAt ok (joinedAt join s i j) a b ≡ false
         neither aj bj = pair-kept ok join s i j a b ai bi aj bj ∙ h aj bj
 
-    -- after a join only the pairs of the earlier seat are to be tested again
-    joined-clean : {s : Seats A} {c front : ℕ} (i j : ℕ) → Clean ok n s c front → ((k : ℕ) → (k ≡ i → ⊥) → (k ≡ j → ⊥) → k ≡ c → ⊥) → Clean ok n (joinedAt join s i j) i front
+    -- after a join only the pairs of the earlier head are to be tested again
+    joined-clean : {s : Groups A} {c front : ℕ} (i j : ℕ) → Clean ok n s c front → ((k : ℕ) → (k ≡ i → ⊥) → (k ≡ j → ⊥) → k ≡ c → ⊥) → Clean ok n (joinedAt join s i j) i front
     joined-clean {s} i j C other = record { apart = λ a b h l f ai bi. untouched s i j a b ai bi (λ aj bj. C .apart a b h l f (other a ai aj) (other b bi bj)) }
 
 module _ {A : Type 0} (ok : A → A → Bool) (join : A → A → A) (n : ℕ) where
-  -- the first seat that may take c's group in: a step joins the two, and the search goes on with that seat
-  pub back-found : {s : Seats A} {c front : ℕ} → Clean ok n s c front → c < front → c < n → (i : ℕ) → i < c → okAt ok s i c ≡ true → ((k : ℕ) → k < i → okAt ok s k c ≡ false) → (step ok join (groupsIn n s) ≡ some (groupsIn n (joinedAt join s i c))) × Clean ok n (joinedAt join s i c) i front
+  -- the first head that may take c's group in: a step joins the two, and the search goes on with that head
+  pub back-found : {s : Groups A} {c front : ℕ} → Clean ok n s c front → c < front → c < n → (i : ℕ) → i < c → okAt ok s i c ≡ true → ((k : ℕ) → k < i → okAt ok s k c ≡ false) → (step ok join (groupsIn n s) ≡ some (groupsIn n (joinedAt join s i c))) × Clean ok n (joinedAt join s i c) i front
   back-found {s} {c} C f l i h may earlier =
       let before = refused-before ok n C f i (omega arith) earlier in
       (step-first ok join n s i c h l may before (λ b p q. C .apart i b p (omega arith) (omega arith) (λ d. omega arith) (λ d. omega arith)), joined-clean ok n join i c C (λ k p q. q))
 
-  -- the first seat behind c whose group c's may take in: a step joins the two, and the search stays with c
-  pub behind-found : {s : Seats A} {c front : ℕ} → Clean ok n s c front → c < front → NoneBefore ok s c → (j : ℕ) → c < j → j < n → okAt ok s c j ≡ true → ((k : ℕ) → c < k → k < j → okAt ok s c k ≡ false) → (step ok join (groupsIn n s) ≡ some (groupsIn n (joinedAt join s c j))) × Clean ok n (joinedAt join s c j) c front
+  -- the first head behind c whose group c's may take in: a step joins the two, and the search stays with c
+  pub behind-found : {s : Groups A} {c front : ℕ} → Clean ok n s c front → c < front → NoneBefore ok s c → (j : ℕ) → c < j → j < n → okAt ok s c j ≡ true → ((k : ℕ) → c < k → k < j → okAt ok s c k ≡ false) → (step ok join (groupsIn n s) ≡ some (groupsIn n (joinedAt join s c j))) × Clean ok n (joinedAt join s c j) c front
   behind-found {s} {c} C f before j h l may first = (step-first ok join n s c j h l may (refused-before ok n C f c (omega arith) before) first, joined-clean ok n join c j C (λ k p q. p))
 
 -- ---- from a step to a run

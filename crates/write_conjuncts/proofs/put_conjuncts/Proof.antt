@@ -31,7 +31,7 @@ put-kind-requires c κs =
     let turn = d .before .loop in
     let s = d .before .before .before .before in
     let l = d .loop-test .taken in
-    ((s .pre .0 .0, s .pre .0 .1, omega arith), runs-room (runs s) 4 (now (s .args .out)) (turn .out) (turn .at) (turn .k) (d .loop-test .taken) (turn .inv .1))
+    ((s .pre .0, omega arith), runs-room (runs s) 4 (now (s .args .out)) (turn .out) (turn .at) (turn .k) (d .loop-test .taken) (turn .inv .1))
 
 add-at : tie.Need-add-at Inv-loop μ-loop
 add-at c =

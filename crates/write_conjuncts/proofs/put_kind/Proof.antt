@@ -25,7 +25,7 @@ abbrev runs : tie.Start Inv-loop μ-loop → ℕ → List ℕ
 runs s = let a = s .args in λ j. placeBytesIn (a .distinct .now) (a .having .now) (a .inside .now) (a .kinds .now) (a .scratch .now) (a .rule .head) (a .rule .kept) (placeSide (7 * a .side + j)) (a .set) (7 * a .side + j)
 
 loop-holds : tie.Need-loop-holds Inv-loop μ-loop
-loop-holds c = let s = c .before .before in (search needs, runs-begin (runs s) 7 (now (s .args .out)) (room-as _ _ (length (now (s .args .out))) (kind-places (s .args .distinct .now) (s .args .having .now) (s .args .inside .now) (s .args .kinds .now) (s .args .scratch .now) (s .args .rule .head) (s .args .rule .kept) (s .args .set) (s .args .side) (s .pre .0 .2)) (s .pre .1)))
+loop-holds c = let s = c .before .before in (search needs, runs-begin (runs s) 7 (now (s .args .out)) (room-as _ _ (length (now (s .args .out))) (kind-places (s .args .distinct .now) (s .args .having .now) (s .args .inside .now) (s .args .kinds .now) (s .args .scratch .now) (s .args .rule .head) (s .args .rule .kept) (s .args .set) (s .args .side) (s .pre .0 .1)) (s .pre .1)))
 
 put-place-requires : tie.Need-put-place-requires Inv-loop μ-loop
 put-place-requires c κs =
@@ -33,8 +33,8 @@ put-place-requires c κs =
     let turn = d .before .loop in
     let s = d .before .before .before .before in
     let l = d .loop-test .taken in
-    let m = s .pre .0 .2 in
-    ((s .pre .0 .0, s .pre .0 .1, place-below (s .args .side) (turn .j) m l), runs-room (runs s) 7 (now (s .args .out)) (turn .out) (turn .at) (turn .j) (d .loop-test .taken) (turn .inv .1))
+    let m = s .pre .0 .1 in
+    ((s .pre .0 .0, place-below (s .args .side) (turn .j) m l), runs-room (runs s) 7 (now (s .args .out)) (turn .out) (turn .at) (turn .j) (d .loop-test .taken) (turn .inv .1))
 
 add-at : tie.Need-add-at Inv-loop μ-loop
 add-at c =
@@ -60,7 +60,7 @@ returns : tie.Need-returns Inv-loop μ-loop
 returns c =
     let turn = c .before .loop in
     let s = c .before .before .before .before in
-    written-as _ _ _ (now (s .args .out)) (turn .at) (kind-places (s .args .distinct .now) (s .args .having .now) (s .args .inside .now) (s .args .kinds .now) (s .args .scratch .now) (s .args .rule .head) (s .args .rule .kept) (s .args .set) (s .args .side) (s .pre .0 .2)) (runs-end (runs s) 7 (now (s .args .out)) (turn .out) (turn .at) (turn .j) (omega arith) (turn .inv .1))
+    written-as _ _ _ (now (s .args .out)) (turn .at) (kind-places (s .args .distinct .now) (s .args .having .now) (s .args .inside .now) (s .args .kinds .now) (s .args .scratch .now) (s .args .rule .head) (s .args .rule .kept) (s .args .set) (s .args .side) (s .pre .0 .1)) (runs-end (runs s) 7 (now (s .args .out)) (turn .out) (turn .at) (turn .j) (omega arith) (turn .inv .1))
 
 pub put-kind-spec : {M : Type 1} → statement M
 put-kind-spec =

@@ -4,19 +4,18 @@ use borrow.Author.Count.{below-none}
 use lib.ListN.{length, getD}
 use mathlib.Core.Path.{_≡_}
 use native.Mathlib.Omega.{arith}
-use Rattle.write_kept.specs.KeptLaws.{kept-unique}
 use Rattle.write_kept.specs.Kept.{keptHead}
-use Rattle.role_record.specs.Cells.{roleCells}
+use Rattle.mine_parts.specs.Layout.{mostParts}
 use Rattle.sets.specs.LoopLaws.{store-next}
 use borrow.Author.Needs.{needs}
 use Rattle.write_kept.proofs.fill_kept.Statement.{statement}
 use Rattle.write_kept.proofs.fill_kept.Tie as tie
 
 abbrev Inv-loop : tie.InvT-loop
-Inv-loop links matches known attributes sizes scratch out₀ i₀ out i = (i ≤ roleCells) × (length out ≡ roleCells) × ((j : ℕ) → j < i → getD out j 0 ≡ keptHead links matches known attributes (sizes .users) (sizes .resources) (sizes .operations) scratch j)
+Inv-loop links matches known attributes sizes scratch parts out₀ i₀ out i = (i ≤ parts) × (length out ≡ mostParts) × ((j : ℕ) → j < i → getD out j 0 ≡ keptHead links matches known attributes (sizes .users) (sizes .resources) (sizes .operations) scratch j)
 
 abbrev μ-loop : tie.MeasureT-loop
-μ-loop links matches known attributes sizes scratch out₀ i₀ out i = roleCells - i
+μ-loop links matches known attributes sizes scratch parts out₀ i₀ out i = parts - i
 
 loop-holds : tie.Need-loop-holds Inv-loop μ-loop
 loop-holds c = (search needs, search needs, below-none _)
@@ -31,10 +30,7 @@ loop-again c =
     )
 
 returns : tie.Need-returns Inv-loop μ-loop
-returns c =
-    let a = c .before .before .before .before .args in
-    let turn = c .before .loop in
-    kept-unique (a .links .now) (a .matches .now) (a .knowing .now) (a .attributes .now) (a .sizes .users) (a .sizes .resources) (a .sizes .operations) (a .scratch .now) (turn .out) (turn .inv .1) (λ j l. turn .inv .2 j (omega arith))
+returns c = λ j l. c .before .loop .inv .2 j (omega (arith, c .loop-test .left))
 
 pub fill-kept-spec : {M : Type 1} → statement M
 fill-kept-spec =

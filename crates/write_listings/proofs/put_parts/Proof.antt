@@ -10,19 +10,19 @@ use Rattle.write_theory.specs.RuleTable.{roleBytesIn, partBytesIn}
 use Rattle.write_listings.proofs.put_parts.Tie as tie
 
 abbrev Inv-loop : tie.InvT-loop
-Inv-loop permissions operations scratch rule out₀ at₀ list₀ rest₀ out at list rest = Visits (roleBytesIn permissions operations scratch (rule .head)) 32 out₀ out at rest
+Inv-loop permissions operations starts scratch rule out₀ at₀ list₀ rest₀ out at list rest = Visits (roleBytesIn permissions operations starts scratch (rule .head)) 32 out₀ out at rest
 
 abbrev μ-loop : tie.MeasureT-loop
-μ-loop permissions operations scratch rule out₀ at₀ list₀ rest₀ out at list rest = rest
+μ-loop permissions operations starts scratch rule out₀ at₀ list₀ rest₀ out at list rest = rest
 
 abbrev runs : tie.Start Inv-loop μ-loop → ℕ → List ℕ
-runs s = let a = s .args in roleBytesIn (a .permissions .now) (a .operations) (a .scratch .now) (a .rule .head)
+runs s = let a = s .args in roleBytesIn (a .permissions .now) (a .operations) (a .starts .now) (a .scratch .now) (a .rule .head)
 
 loop-holds : tie.Need-loop-holds Inv-loop μ-loop
 loop-holds c =
     let s = c .before .before in
     let a = s .args in
-    parts-begin (a .permissions .now) (a .operations) (a .scratch .now) (a .rule .head) (a .rule .roles) (now (a .out)) (s .pre .0 .3) (s .pre .1)
+    parts-begin (a .permissions .now) (a .operations) (a .starts .now) (a .scratch .now) (s .pre .0 .1) (a .rule .head) (a .rule .roles) (now (a .out)) (s .pre .0 .3) (s .pre .1)
 
 sub-put-role : tie.Need-sub-put-role Inv-loop μ-loop
 sub-put-role c =

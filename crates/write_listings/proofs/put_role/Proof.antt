@@ -13,9 +13,9 @@ put-classes-requires c κs =
     let l = c .before .before in
     let s = l .before .before .before .before in
     let a = s .args in
-    let m = classes-most (a .permissions .now) (a .operations) (a .scratch .now) (a .head) (a .role) in
+    let m = classes-most (a .permissions .now) (a .operations) (a .starts .now) (a .scratch .now) (a .head) (a .role) in
     let e = l .list-classes .ensures .0 in
-    (omega arith, s .pre .0 .3, room-as _ _ (length (now (a .out))) (role-on (a .permissions .now) (a .operations) (a .scratch .now) (a .head) (a .role) _ _ (l .list-classes .result) e (l .list-classes .ensures .1)) (s .pre .1))
+    (omega arith, s .pre .0 .3, room-as _ _ (length (now (a .out))) (role-on (a .permissions .now) (a .operations) (a .starts .now) (a .scratch .now) (a .head) (a .role) _ _ (l .list-classes .result) e (l .list-classes .ensures .1)) (s .pre .1))
 
 returns : tie.Need-returns
 returns c =
@@ -23,7 +23,7 @@ returns c =
     let l = p .before .before .before in
     let a = l .before .before .before .before .args in
     written-as _ _ _ (now (a .out)) (p .put-classes .result)
-    (role-on (a .permissions .now) (a .operations) (a .scratch .now) (a .head) (a .role) _ _ (l .list-classes .result) (l .list-classes .ensures .0) (l .list-classes .ensures .1)) (p .put-classes .ensures)
+    (role-on (a .permissions .now) (a .operations) (a .starts .now) (a .scratch .now) (a .head) (a .role) _ _ (l .list-classes .result) (l .list-classes .ensures .0) (l .list-classes .ensures .1)) (p .put-classes .ensures)
 
 pub put-role-spec : {M : Type 1} → statement M
 put-role-spec =

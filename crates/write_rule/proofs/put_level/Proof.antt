@@ -12,7 +12,7 @@ put-two-requires c κs =
     let s = c .before .before .before .before in
     let a = s .args in
     let l = level-line (a .scratch .now) (a .head) (c .before .level-at .ensures) in
-    (room-as _ _ (length (now (a .out))) (l .0) (s .pre .2), search needs, l .1)
+    (room-as _ _ (length (now (a .out))) (l .0) (s .pre .1), search needs, l .1)
 
 returns : tie.Need-returns
 returns c =

@@ -12,7 +12,7 @@ put-three-requires c κs =
     let o = c .before in
     let s = o .before .before .before in
     let a = s .args in
-    (room-as _ _ (length (now (a .out))) (operations-line (a .scratch .now) (a .head) (o .operations-at .ensures)) (s .pre .2), search needs, search needs, search needs)
+    (room-as _ _ (length (now (a .out))) (operations-line (a .scratch .now) (a .head) (o .operations-at .ensures)) (s .pre .1), search needs, search needs, search needs)
 
 returns : tie.Need-returns
 returns c =

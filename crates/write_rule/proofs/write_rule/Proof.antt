@@ -15,7 +15,7 @@ use Rattle.write_rule.proofs.write_rule.Tie as tie
 -- ---- the sections of the rule, and what is left behind each
 
 abbrev whole : tie.Start → List ℕ
-whole s = let a = s .args in ruleBytesIn (a .distinct .now) (a .having .now) (a .inside .now) (a .kinds .now) (a .permissions .now) (a .operations) (a .scratch .now) (a .rule .head) (a .rule .kept)
+whole s = let a = s .args in ruleBytesIn (a .distinct .now) (a .having .now) (a .inside .now) (a .kinds .now) (a .permissions .now) (a .operations) (a .starts .now) (a .scratch .now) (a .rule .head) (a .rule .kept)
 
 abbrev conjuncts : tie.Start → List ℕ
 conjuncts s = let a = s .args in conjunctBytesIn (a .distinct .now) (a .having .now) (a .inside .now) (a .kinds .now) (a .scratch .now) (a .rule .head) (a .rule .kept)
@@ -27,7 +27,7 @@ abbrev atoms : tie.Start → List ℕ
 atoms s = atomBytesIn (s .args .rule .kept)
 
 abbrev parts : tie.Start → List ℕ
-parts s = let a = s .args in partBytesIn (a .permissions .now) (a .operations) (a .scratch .now) (a .rule .head)
+parts s = let a = s .args in partBytesIn (a .permissions .now) (a .operations) (a .starts .now) (a .scratch .now) (a .rule .head)
 
 abbrev levels : tie.Start → List ℕ
 levels s = let a = s .args in levelBytesIn (a .scratch .now) (a .rule .head)
@@ -45,7 +45,7 @@ abbrev behind-conjuncts : tie.Start → List ℕ
 behind-conjuncts s = operations s ++ behind-operations s
 
 sections : (s : tie.Start) → whole s ≡ (0x21 ∷ []) ++ (conjuncts s ++ behind-conjuncts s)
-sections s = let a = s .args in rule-sections (a .distinct .now) (a .having .now) (a .inside .now) (a .kinds .now) (a .permissions .now) (a .operations) (a .scratch .now) (a .rule .head) (a .rule .kept)
+sections s = let a = s .args in rule-sections (a .distinct .now) (a .having .now) (a .inside .now) (a .kinds .now) (a .permissions .now) (a .operations) (a .starts .now) (a .scratch .now) (a .rule .head) (a .rule .kept)
 
 -- ---- the start, the output and the place behind what is written, behind each section
 
@@ -95,7 +95,7 @@ abbrev out5 : tie.After-slice-known5 → List ℕ
 out5 c = let b = c .before .before .before .before in backIn (out4 b) (at4 b) (c .before .before .put-atoms .last .1 .0)
 
 abbrev out6 : tie.After-slice-known6 → List ℕ
-out6 c = let b = c .before .before .before .before in backIn (out5 b) (at5 b) (c .before .before .put-parts .last .1 .1 .1 .1 .0)
+out6 c = let b = c .before .before .before .before in backIn (out5 b) (at5 b) (c .before .before .put-parts .last .1 .1 .1 .1 .1 .0)
 
 abbrev out7 : tie.After-slice-known7 → List ℕ
 out7 c = let b = c .before .before .before .before in backIn (out6 b) (at6 b) (c .before .before .put-level .last .1 .1 .0)
@@ -147,7 +147,7 @@ put-conjuncts-requires : tie.Need-put-conjuncts-requires
 put-conjuncts-requires c κs =
     let b = c .before in
     let s = start2 b in
-    ((s .pre .0 .1, s .pre .0 .2), room-for _ _ (out2 b) (behind-conjuncts s) (conjuncts s) 1 (written2 b))
+    (omega (arith, s .pre .0 .1 .room, s .pre .0 .2), room-for _ _ (out2 b) (behind-conjuncts s) (conjuncts s) 1 (written2 b))
 
 add-at : tie.Need-add-at
 add-at c =
@@ -164,7 +164,7 @@ put-operations-requires : tie.Need-put-operations-requires
 put-operations-requires c κs =
     let b = c .before in
     let s = start3 b in
-    (s .pre .0 .1, s .pre .0 .2, room-for _ _ (out3 b) (behind-operations s) (operations s) (at3 b) (written3 b))
+    (omega (arith, s .pre .0 .1 .room, s .pre .0 .2), room-for _ _ (out3 b) (behind-operations s) (operations s) (at3 b) (written3 b))
 
 add-at-2 : tie.Need-add-at-2
 add-at-2 c =
@@ -215,7 +215,7 @@ put-level-requires : tie.Need-put-level-requires
 put-level-requires c κs =
     let b = c .before in
     let s = start6 b in
-    (s .pre .0 .1, s .pre .0 .2, room-for _ _ (out6 b) [] (levels s) (at6 b) (written6 b))
+    (omega (arith, s .pre .0 .1 .room, s .pre .0 .2), room-for _ _ (out6 b) [] (levels s) (at6 b) (written6 b))
 
 add-at-5 : tie.Need-add-at-5
 add-at-5 c =

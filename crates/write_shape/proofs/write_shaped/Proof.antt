@@ -14,7 +14,7 @@ returns c =
     let p = r .before .before .before .before in
     let s = p .before .before .before .before in
     let a = s .args in
-    file-written (shapeIn (a .sizes) (a .attributes .now)) (fileBytes (a .kept .now) (a .distinct .now) (a .having .now) (a .inside .now) (a .kinds .now) (a .permissions .now) (a .sizes .operations) (a .scratch .now)) (now (a .out)) _ refl (s .pre .4) (p .put-shape .ensures) _ (r .write-rules .ensures)
+    file-written (shapeIn (a .sizes) (a .attributes .now)) (fileBytes (a .kept .now) (a .distinct .now) (a .having .now) (a .inside .now) (a .kinds .now) (a .permissions .now) (a .sizes .operations) (a .starts .now) (a .scratch .now)) (now (a .out)) _ refl (s .pre .4) (p .put-shape .ensures) _ (r .write-rules .ensures)
 
 pub write-shaped-spec : {M : Type 1} → statement M
 write-shaped-spec =
