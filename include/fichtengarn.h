@@ -18,7 +18,7 @@
  *   - A refusal gives only its number: after a refusal lent memory holds its former bytes, save the
  *     byte that carries the answer's number of the call that shows one rule. Scratch alone is free.
  *   - It writes to the memory that it is lent without 'const', as said at each call, and to its
- *     own stack. Files, rules and logs are only read.
+ *     own stack. Files, rules, logs and cuts are only read.
  *   - It has no heap, no files and no state between calls: the same input has the same answer, and
  *     calls may run at the same time as long as they are lent different memory to write to.
  *
@@ -113,7 +113,10 @@ enum {
 
     /* of a usage log */
     FICHTENGARN_WRONG_WINDOW = 19, /* a window of no records, or of more than FICHTENGARN_MOST_WINDOW */
-    FICHTENGARN_RAGGED_LOG = 20    /* its length is not divisible by three */
+    FICHTENGARN_RAGGED_LOG = 20,   /* its length is not divisible by three */
+
+    /* of cuts between the roles that are mined */
+    FICHTENGARN_BAD_CUTS = 21 /* they do not ascend strictly, or one is not from 1 to roles - 1 */
 };
 
 /* Sizes of lent memory, and limits of a role file. Output is as long as the caller likes. */
@@ -274,16 +277,24 @@ enum {
     FICHTENGARN_LENGTH = 0, /* bytes of the rule file, the seven of its 20 among them */
     FICHTENGARN_PARTS = 1,  /* parts of the role file: parts = rules + merges */
     FICHTENGARN_RULES = 2,  /* rules written */
-    FICHTENGARN_MERGES = 3, /* merges made */
+    FICHTENGARN_MERGES = 3, /* merges made, those within runs of roles among them */
     FICHTENGARN_COST = 4    /* cost of the rules as written, by the weights of the call */
 };
 
 /*
  * Mining: writes the rules of a role file.
  *
- * Returns 0, or 8, then 1 to 7, then 9. After 0 the first counts[FICHTENGARN_LENGTH] bytes of the
- * output are the rule file, and the others are as they were; all five counts are stored. After a
- * refusal neither is touched, nor is it by 9: the length is known before a byte is written.
+ * Cuts, a byte each, part the roles into runs: cut c stands between role c - 1 and role c. Groups of
+ * parts merge within each run first, until no pair of the run is left, and then over all of them. So
+ * a provider who keeps a region's roles in one run of numbers gets rules found within regions. With a
+ * cut_count of 0 the bytes are those of merging over all at once; with cuts they may be others, and
+ * all that is said below holds of them too.
+ *
+ * Returns 0, or 8, then 1 to 7, then 21 if the cuts do not ascend strictly or one is not from 1 to
+ * roles - 1 (so any cut of a file with no or one role), then 9. After 0 the first
+ * counts[FICHTENGARN_LENGTH] bytes of the output are the rule file, and the others are as they were;
+ * all five counts are stored. After a refusal neither is touched, nor is it by 9: the length is known
+ * before a byte is written.
  *
  * The cost is, over all rules written, weights.users times the values and the elements of sets that
  * the rule's conditions on users list, and weights.resources times those of its conditions on
@@ -300,6 +311,7 @@ enum {
  * Scratch may hold anything before, and holds anything after. Stack: 110 KB.
  */
 size_t fichtengarn_mine(const uint8_t *file, size_t file_length,
+                        const uint8_t *cuts, size_t cut_count,
                         fichtengarn_weights weights,
                         uint64_t *scratch, size_t scratch_words,
                         uint8_t *output, size_t output_length,

@@ -5,11 +5,12 @@
 
 SECOND-MINER is the command of an independent implementation of the paper 01. It takes
 'batch' and then one command a line on standard input (see secondminer.py); here 'gen',
-'damage' and 'mine --out-len BYTES --scratch WORDS ROLES RULES', to which it answers with a
-line 'parts P rules R merges M cost C' and writes the rules, or 'refused N'.
+'damage' and 'mine --out-len BYTES --scratch WORDS --cuts CUTS ROLES RULES', to which it
+answers with a line 'parts P rules R merges M cost C' and writes the rules, or 'refused N'.
 
 A case in stdin is: the length of the role file (two bytes, low byte first), the words of
-scratch to lend (two bytes), the bytes of output to lend (three bytes), and the role file.
+scratch to lend (two bytes), the bytes of output to lend (three bytes), the number of cuts (a
+byte), the cuts (a byte each), and the role file.
 A line of stdout is: what mining answers, and what the memory that was lent for output holds
 afterwards, in hexadecimal or, if it is longer than 48 bytes, by its checksum:
 
@@ -26,6 +27,7 @@ the second miner's random role files, from fixed seeds. Behind the lines of the 
 those of the long files, which the program builds itself (see long_files).
 """
 import functools
+import itertools
 import os
 import sys
 import tempfile
@@ -65,7 +67,8 @@ from secondminer import Folder, told
 
 ENOUGH = 4096
 
-# The program's room for standard input and for output.
+# The program's room for standard input, and for output.
+CORPUS = 344064
 ROOM = 327680
 
 
@@ -77,10 +80,10 @@ EXACT = Beyond(0)
 SHORT = Beyond(-1)
 
 
-def mined(file, *rooms, words=ENOUGH):
+def mined(file, *rooms, words=ENOUGH, cuts=()):
     """The file with each of these lengths of output, or with some bytes more than it needs."""
     for room in rooms or [Beyond(5)]:
-        yield file, words, isinstance(room, Beyond), int(room)
+        yield file, bytes(cuts), words, isinstance(room, Beyond), int(room)
 
 
 # ---- role files
@@ -145,7 +148,7 @@ def pairs(users, resources, *grants):
     return policy(users, resources, [([user], [[resource]]) for user, resource in grants])
 
 
-# ---- the groups: each yields a file, the words of scratch, and the bytes of output
+# ---- the groups: each yields a file, the cuts, the words of scratch, and the bytes of output
 
 
 def examples():
@@ -542,6 +545,71 @@ def seniority():
         yield from mined(joined(file[:-1], file[5:]))
 
 
+# ---- cuts
+
+# The middle role has the user of the first and the resource of the last: it merges with either.
+BETWEEN = pairs(2, 2, (0, 0), (0, 1), (1, 1))
+
+
+def subsets(numbers):
+    """All of them, ascending."""
+    return [subset for count in range(len(numbers) + 1) for subset in itertools.combinations(numbers, count)]
+
+
+def stair_of(*roles):
+    """A role for each list of steps, all of one user: a step is a resource under an operation, the one or the other that of the step before."""
+
+    def permissions(steps):
+        return [[step // 2 for step in steps if (step + 1) // 2 == operation] for operation in range(4)]
+
+    return policy(1, 3, [([0], permissions(steps)) for steps in roles], operations=4)
+
+
+def good_cuts():
+    """Pairs that a cut keeps apart until no pair of a run is left, and runs with few parts or none."""
+    for cuts in [[], [1], [2], [1, 2]]:
+        yield from mined(BETWEEN, SHORT, EXACT, Beyond(3), cuts=cuts)
+        yield from mined(BETWEEN, EXACT, words=ENOUGH - 1, cuts=cuts)
+    yield from mined(EXAMPLE_A, SHORT, EXACT, cuts=[1])
+    # a stair: each step merges with the one before it or with the one behind it, in all ways to cut it
+    stair = [(step // 2, (step + 1) // 2) for step in range(6)]
+    for cuts in subsets(range(1, 6)):
+        yield from mined(pairs(3, 4, *stair), cuts=cuts)
+        yield from mined(pairs(3, 4, *stair[::2], *stair[1::2]), cuts=cuts)
+    for cuts in subsets(range(1, 4)):
+        yield from mined(pairs([(SINGLE, [0, 1, 2])], [(SINGLE, [0, 1, 2])], *stair[3::-1]), cuts=cuts)
+        # the role's number decides, not the part's: roles of several parts, and one of none
+        yield from mined(stair_of([0, 2], [], [1, 3, 4], [5]), cuts=cuts)
+        yield from mined(stair_of([1], [0, 3], [2, 5], [4]), cuts=cuts)
+        # a group that a run leaves takes in others, and so makes an earlier pair possible
+        roles = [([0], [[0, 1, 2], []]), ([0], [[], [0]]), ([0], [[], [1]]), ([0], [[], [2]])]
+        yield from mined(policy(1, 3, roles, operations=2), cuts=cuts)
+    # three regions, with a desk and a watch in each; one user has all the watches
+    users, resources = [(SINGLE, [1, 1, 2, 2, 3, 3, None])], [(SINGLE, [1, 1, 2, 3])]
+    roles = [([6], [[0]]), ([0, 1], [[1]]), ([6], [[2]]), ([2, 3], [[2]]), ([6], [[3]]), ([4, 5], [[3]])]
+    for cuts in [[], [2], [4], [2, 4], [3], [1, 2, 3, 4, 5]]:
+        yield from mined(policy(users, resources, roles), cuts=cuts)
+    # as many roles as there may be, and as many cuts
+    long_stair = pairs(16, 17, *[(step // 2, (step + 1) // 2) for step in range(32)])
+    for cuts in [[31], [8, 16, 24], [5, 20], range(1, 32), range(1, 32, 2), range(2, 32, 2)]:
+        yield from mined(long_stair, cuts=cuts)
+
+
+def bad_cuts():
+    """Cuts out of order or out of range, behind 8 and the file's refusals and before 9."""
+    for cuts in [[0], [3], [4], [254], [255], [1, 1], [2, 1], [0, 1], [1, 3], [1, 2, 3], [1, 2, 2], [2, 1, 2], [1] * 255]:
+        yield from mined(BETWEEN, SHORT, EXACT, cuts=cuts)
+    for cuts in [[0], [2, 1]]:
+        yield from mined(BETWEEN, 0, 24, words=ENOUGH - 1, cuts=cuts)
+        for file in REFUSED:
+            yield from mined(file, 24, cuts=cuts)
+    # the roles that are declared count, whether or not they have a part
+    for roles in [0, 1, 2, 3, 31, 32]:
+        for cuts in [[1], [max(roles - 1, 0)], [roles], [roles + 1]]:
+            yield from mined(joined(sizes(1, 1, 1, roles), END), EXACT, cuts=cuts)
+    yield from mined(policy(8, 4, [([role % 8], [[role // 8]]) for role in range(32)]), cuts=range(1, 33))
+
+
 # ---- files that the second miner makes
 
 # Profiles of the second miner's role files, how many to take of each, and how long a file may be.
@@ -584,8 +652,8 @@ def generated(second_miner, path, wanted):
 
 
 def made(second_miner):
-    """Random role files with just enough output, too little and more, and some of them damaged."""
-    below = random_numbers(23)
+    """Random role files with just enough output, too little and more, some of them cut, and some damaged."""
+    below, cut_below = random_numbers(23), random_numbers(11)
     with tempfile.TemporaryDirectory() as path:
         for profile, count, longest in PROFILES:
             wanted = [(profile, seed) for seed in range(8 * count)]
@@ -595,6 +663,8 @@ def made(second_miner):
                     continue
                 taken += 1
                 yield from mined(file, [EXACT, Beyond(1), Beyond(below(90))][taken % 3])
+                if taken % 7 == 2 and len(file) <= 300:
+                    yield from mined(file, cuts=[cut for cut in range(1, file[4]) if cut_below(3) == 0])
                 if taken % 10 == 3:
                     yield from mined(file, SHORT)
                 if taken % 12 == 5 and len(damaged) <= longest:
@@ -618,6 +688,8 @@ GROUPS = [
     classes,
     merging,
     seniority,
+    good_cuts,
+    bad_cuts,
 ]
 MADE = [made]
 
@@ -627,9 +699,9 @@ def long_files():
     start = joined(sizes(1, 1, 1, 1), assign(0, 0) * 21839, permit(0, 0, 0) * 3, END)
     assert len(start) == 65535
     for file in [bytes(65536), start + b"\0"]:
-        yield file[:-1], ENOUGH, 48, 1
-        yield file, ENOUGH, 48, 2
-        yield file, ENOUGH - 1, 48, 3
+        yield file[:-1], b"", ENOUGH, 48, 1
+        yield file, b"", ENOUGH, 48, 2
+        yield file, b"", ENOUGH - 1, 48, 3
 
 
 # ---- the two files
@@ -651,38 +723,47 @@ def shown(held):
     return f"memory {held.hex()}" if len(held) <= 48 else f"checksum {checksum(held)}"
 
 
+def with_cuts(cuts):
+    """The option of the second miner that gives it the cuts."""
+    return f"--cuts {','.join(map(str, cuts))} " if cuts else ""
+
+
 def rules_of(second_miner, files):
-    """The rule file of each role file, or none if it is refused."""
+    """The rule file of each role file with these cuts, or none if it is refused."""
     with tempfile.TemporaryDirectory() as path:
         folder = Folder(path)
-        names = [folder.file(file) for file in files]
-        told(second_miner, [f"mine --out-len 1000000 {name} {name}.rules" for name in names])
+        names = [os.path.join(path, f"rules-{number}") for number in range(len(files))]
+        commands = [
+            f"mine --out-len 1000000 {with_cuts(cuts)}{folder.file(file)} {name}" for (file, cuts), name in zip(files, names)
+        ]
+        told(second_miner, commands)
         found = {}
-        for file, name in zip(files, names):
-            found[file] = None
-            if os.path.exists(f"{name}.rules"):
-                with open(f"{name}.rules", "rb") as rules:
-                    found[file] = rules.read()
+        for file_and_cuts, name in zip(files, names):
+            found[file_and_cuts] = None
+            if os.path.exists(name):
+                with open(name, "rb") as rules:
+                    found[file_and_cuts] = rules.read()
     return found
 
 
 def lent(all_cases, rules):
     """The cases with the bytes of output counted."""
-    for file, words, beyond, room in all_cases:
+    for file, cuts, words, beyond, room in all_cases:
         if beyond:
-            room = max(0, len(rules[file] or b"") + room)
+            room = max(0, len(rules[file, cuts] or b"") + room)
         assert room <= ROOM
-        yield file, words, room
+        yield file, cuts, words, room
 
 
 def corpus(all_cases):
     """The bytes of the corpus, and the place of each case."""
     whole = b""
     places = []
-    for file, words, room in all_cases:
+    for file, cuts, words, room in all_cases:
         places.append(len(whole))
-        whole += len(file).to_bytes(2, "little") + words.to_bytes(2, "little") + room.to_bytes(3, "little") + file
-    assert len(whole) <= ROOM, "the corpus is longer than the program reads"
+        whole += len(file).to_bytes(2, "little") + words.to_bytes(2, "little") + room.to_bytes(3, "little")
+        whole += bytes([len(cuts)]) + cuts + file
+    assert len(whole) <= CORPUS, "the corpus is longer than the program reads"
     return whole, places
 
 
@@ -691,14 +772,15 @@ def answers(second_miner, rules, all_cases):
     with tempfile.TemporaryDirectory() as path:
         folder = Folder(path)
         commands = [
-            f"mine --out-len {room} --scratch {words} {folder.file(file)} -" for file, words, room, _ in all_cases
+            f"mine --out-len {room} --scratch {words} {with_cuts(cuts)}{folder.file(file)} -"
+            for file, cuts, words, room, _ in all_cases
         ]
         said = told(second_miner, commands)
     lines = []
-    for answer, (file, _, room, seed) in zip(said, all_cases):
+    for answer, (file, cuts, _, room, seed) in zip(said, all_cases):
         held = memory(room, seed)
         if answer.startswith("parts "):
-            written = rules[file]
+            written = rules[file, cuts]
             held = written + held[len(written) :]
             answer = f"length {len(written)} {answer}"
         else:
@@ -715,7 +797,7 @@ def main():
     crate = os.path.join(os.path.dirname(os.path.abspath(__file__)), "..", "crates", "test_mine")
     found = list(each_once(GROUPS + [functools.partial(group, second_miner) for group in MADE]))
     long_ones = list(long_files())
-    files = {file: None for file, *_ in found + long_ones}
+    files = {(file, cuts): None for file, cuts, *_ in found + long_ones}
     rules = rules_of(second_miner, list(files))
     all_cases = list(lent(found, rules))
     whole, places = corpus(all_cases)

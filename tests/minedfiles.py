@@ -4,10 +4,10 @@
     tests/minedfiles.py SECOND-MINER
 
 SECOND-MINER is the command of an independent implementation of the paper 01. Writes samples/NAME.rules for every
-samples/NAME.roles, and the copy beside a program of every sample that it is run on (crates/*/data); bench/judge/mined.xz, the
-mined rules of the judge's benchmark; and what its program and that of denials are run on beside the proofs, example A to be
-judged, and the denials in a log of six records beside it to be counted, a hundred times (crates/bench_judge/stdin,
-crates/bench_denials/stdin).
+samples/NAME.roles, samples/NAME-cut.rules for one that is mined with cuts too, and the copy beside a program of every sample
+that it is run on (crates/*/data); bench/judge/mined.xz, the mined rules of the judge's benchmark; and what its program and that
+of denials are run on beside the proofs, example A to be judged, and the denials in a log of six records beside it to be
+counted, a hundred times (crates/bench_judge/stdin, crates/bench_denials/stdin).
 """
 import lzma
 import os
@@ -38,11 +38,15 @@ def write(path, contents):
         out.write(contents)
 
 
-def mined(second_miner, role_file):
+# Samples that are mined with cuts too.
+CUT = {"three-regions": "2,4"}
+
+
+def mined(second_miner, role_file, options=""):
     with tempfile.TemporaryDirectory() as folder:
         name = os.path.join(folder, "roles")
         write(name, role_file)
-        (said,) = told(second_miner, [f"mine --out-len 1000000 {name} {name}.rules"])
+        (said,) = told(second_miner, [f"mine --out-len 1000000 {options} {name} {name}.rules"])
         assert said.startswith("parts "), said
         return read(f"{name}.rules")
 
@@ -64,6 +68,9 @@ def main():
         start, end = os.path.splitext(os.path.join(SAMPLES, name))
         if end == ".roles":
             write(f"{start}.rules", mined(second_miner, read(f"{start}.roles")))
+    for name, cuts in CUT.items():
+        start = os.path.join(SAMPLES, name)
+        write(f"{start}-cut.rules", mined(second_miner, read(f"{start}.roles"), f"--cuts {cuts}"))
     for sample, copy in make.copies():
         write(copy, read(sample))
     packed = lzma.compress(mined(second_miner, pairs.departments()), preset=9 | lzma.PRESET_EXTREME)

@@ -85,6 +85,7 @@ MEANING = {
     18: "a rule of the rule file tells another level than the lowest that allows its conjuncts",
     19: "the window has no records or more than 64",
     20: "the length of the log is not divisible by three",
+    21: "the cuts do not ascend strictly, or one is not from 1 to the number of roles less one",
 }
 
 # Role files that reading refuses, by the number.
@@ -171,6 +172,45 @@ def longest_rules():
     )
 
 
+def long_between():
+    """A role file that is mined to a long rule file, and with a cut at 17 to one of another length.
+
+    Behind the roles of a long one stand three, of which the middle one has the user of the one before it and the resources of the
+    one behind it, so that it becomes one rule with either.
+    """
+    _, users, resources, operations, roles = long_rules(241, 6070, False)[:5]
+    return joined(
+        sizes(users + 2, resources, operations, roles + 3),
+        long_rules(241, 6070, False)[5:-1],
+        *[assign(roles, users), permit(roles, 0, 0)],
+        *[assign(roles + 1, users), permit(roles + 1, 1, 0), permit(roles + 1, 2, 0)],
+        *[assign(roles + 2, users + 1), permit(roles + 2, 1, 0), permit(roles + 2, 2, 0)],
+        END,
+    )
+
+
+# The same of three roles alone, and what they are mined to: the middle one merges with the first, and with a cut between these
+# two with the last.
+BETWEEN = joined(
+    sizes(2, 2, 1, 3),
+    *[assign(0, 0), assign(1, 0), assign(2, 1), permit(0, 0, 0), permit(1, 1, 0), permit(2, 1, 0)],
+    END,
+)
+BETWEEN_RULES = rules_beside(
+    BETWEEN,
+    "21 23 FF 03 00 00 00 00 00 00 00 26 01 00 28 00 01 00 28 01 01 00 29 01"
+    "21 23 FF 04 00 00 00 00 00 00 00 24 FF 01 00 26 01 00 28 02 01 00 29 03 2F",
+)
+BETWEEN_CUT = rules_beside(
+    BETWEEN,
+    "21 23 FF 03 00 00 00 00 00 00 00 24 FF 00 00 26 01 00 28 00 01 00 29 03"
+    "21 24 FF 01 00 26 01 00 28 01 01 00 28 02 01 00 29 02 2F",
+)
+
+# As many roles as there may be, with as many places between them, each with the one resource: one rule.
+MOST_ROLES = joined(sizes(32, 1, 1, 32), *[assign(role, role) + permit(role, 0, 0) for role in range(32)], END)
+EVERY_CUT = [str(cut) for cut in range(1, 32)]
+
 # A single and a set attribute on each side, and two parts.
 KINDS = joined(
     sizes(2, 2, 3, 2),
@@ -249,6 +289,47 @@ rule 1, level 0: any user may do operation 1 on any resource
   in place of role 3 for operation 1
 """
 
+# Three regions, mined over all roles at once, and with cuts between the regions.
+THREE_REGIONS_TOLD = """\
+rule 0, level 3: any user may do operation 0 on any resource
+  if the user holds all of the roles {0, 2, 4}
+  and the resource is number 0 or number 2 or number 3
+  in place of role 0 for operation 0
+  in place of role 2 for operation 0
+  in place of role 4 for operation 0
+
+rule 1, level 2: any user may do operation 0 on any resource
+  if the resource is number 1 or number 2 or number 3
+  and the user's attribute 0 equals the resource's attribute 0, both of domain 0
+  in place of role 1 for operation 0
+  in place of role 3 for operation 0
+  in place of role 5 for operation 0
+"""
+
+THREE_REGIONS_CUT_TOLD = """\
+rule 0, level 3: any user may do operation 0 on any resource
+  if the user holds all of the roles {0, 2, 4}
+  and the resource is number 0
+  in place of role 0 for operation 0
+
+rule 1, level 2: any user may do operation 0 on any resource
+  if the resource is number 1
+  and the user's attribute 0 equals the resource's attribute 0, both of domain 0
+  in place of role 1 for operation 0
+
+rule 2, level 1: any user may do operation 0 on any resource
+  if the user holds all of the roles {3} or all of the roles {0, 2, 4}
+  and the resource's attribute 0 is 2
+  in place of role 2 for operation 0
+  in place of role 3 for operation 0
+
+rule 3, level 1: any user may do operation 0 on any resource
+  if the user holds all of the roles {0, 2, 4} or all of the roles {5}
+  and the resource's attribute 0 is 3
+  in place of role 4 for operation 0
+  in place of role 5 for operation 0
+"""
+
 # Example A's two parts under rules of their own, of which the second grants both; the same with each rule right, and the
 # second part under both rules; and two equal parts of which one stands under no rule.
 A_FIRST = "21 22 00 05 00 24 00 05 00 26 01 00 28 00 01 00 29 00"
@@ -312,8 +393,8 @@ class Use:
         return f"{' '.join(shown)}{given}, beside {', '.join(sorted(self.files)) or 'nothing'}"
 
 
-def mine(file, **other):
-    return Use("mine", input=file, **other)
+def mine(file, *cuts, **other):
+    return Use("mine", *cuts, input=file, **other)
 
 
 def both(program, roles, rules, **other):
@@ -336,6 +417,7 @@ def mined():
         "hierarchy": "parts 3 rules 3 merges 0 cost 13",
         "provider": "parts 8 rules 4 merges 4 cost 11",
         "regions": "parts 4 rules 2 merges 2 cost 4",
+        "three-regions": "parts 6 rules 2 merges 4 cost 12",
     }
     for name, printed in counts.items():
         rules = sample(name + ".rules")
@@ -346,6 +428,20 @@ def mined():
     # as much output as the program lends, and no byte more
     filled = Checksum(65536, "169fd669b2033474c6b34edbb22cd0884b1dd9650ab17b95b7e9a0e632087f49")
     yield mine(long_rules(241, 6070, False, 2), out="parts 243 rules 241 merges 2 cost 6584\n", after={"rules.out": filled})
+
+
+def mined_with_cuts():
+    """The same with cuts."""
+    told = "parts 3 rules 2 merges 1 cost 6\n"
+    for cuts in [["1"], ["01"], ["0" * 4095 + "1"]]:
+        yield mine(BETWEEN, *cuts, out=told, after={"rules.out": BETWEEN_CUT})
+    # with a cut between all roles, and with one before the last role, the first pair is found as it is without
+    for cuts in [[], ["2"], ["1", "2"]]:
+        yield mine(BETWEEN, *cuts, files={"rules.out": b"former"}, out=told, after={"rules.out": BETWEEN_RULES})
+    regions, cut = sample("three-regions.roles"), {"rules.out": sample("three-regions-cut.rules")}
+    yield mine(regions, "2", "4", out="parts 6 rules 4 merges 2 cost 20\n", after=cut)
+    whole = rules_beside(MOST_ROLES, "21 26 01 00" + "".join(f"28 {role:02X} 01 00" for role in range(32)) + "29 00 2F")
+    yield mine(MOST_ROLES, *EVERY_CUT, out="parts 32 rules 1 merges 31 cost 1\n", after={"rules.out": whole})
 
 
 def lengthy(length):
@@ -370,12 +466,36 @@ def mine_refusals():
             yield mine(file, files=former, out=f"refused {n}\n", err=err)
 
 
+def mine_bad_cuts():
+    """Cuts are refused behind the role file and before short output."""
+    bad = ["0", "3", "2 1", "1 1", "0 1", "1 3", "254", "255", "256", "257", str(2**32 + 1), str(2**64 + 1), "9" * 4096]
+    for cuts in [*map(str.split, bad), ["1", "2"] * 20]:
+        yield mine(BETWEEN, *cuts, files={"rules.out": b"former"}, out="refused 21\n", err=f"mine: {MEANING[21]}\n")
+    # 32 roles have 31 places between them: one cut more, behind or among them, and so many that the program does not hold them
+    for cuts in [[*EVERY_CUT, "32"], [*EVERY_CUT, "31"], ["1", *EVERY_CUT], EVERY_CUT * 100]:
+        yield mine(MOST_ROLES, *cuts, out="refused 21\n", err=f"mine: {MEANING[21]}\n")
+    # where there are no two roles, there is no place between them
+    one = joined(sizes(0, 0, 0, 1), END)
+    for file in [NOBODY, one]:
+        yield mine(file, "1", out="refused 21\n", err=f"mine: {MEANING[21]}\n")
+    for n, file in REFUSED_ROLES.items():
+        yield mine(file, "0", out=f"refused {n}\n", err=f"mine: {MEANING[n]}\n")
+    long = long_between()
+    yield mine(long, "19", out="refused 21\n", err=f"mine: {MEANING[21]}\n")
+    for cuts, length in [([], "65622 bytes"), (["17"], "65612 bytes"), (["18"], "65622 bytes")]:
+        yield mine(long, *cuts, out="refused 9\n", err=lengthy(length))
+
+
 def mine_wrongly():
-    usage = "usage: mine < ROLES, which writes the rules to rules.out in the working directory\n"
-    # with an argument nothing is read, and so nothing waited for from a pipe whose other end stays open
+    usage = (
+        "usage: mine CUT.. < ROLES, which writes the rules to rules.out in the working directory; "
+        "cuts are numbers of roles, and may be left out\n"
+    )
+    # with an argument that is no number nothing is read, and so nothing waited for from a pipe whose other end stays open
     reading, _ = os.pipe()
-    for arguments in [["--help"], ["-h"], [""], ["example-a.roles"], ["example-a.roles", "rules.out"]]:
-        yield Use("mine", *arguments, input=reading, err=usage)
+    for text in ["--help", "-h", "example-a.roles", "1,2", *WRONG_NUMBERS]:
+        for before in [[], ["1"], EVERY_CUT * 2]:
+            yield Use("mine", *before, text, "2", input=reading, err=no_number("mine", text, "CUT") + usage)
     yield mine(os.open(SAMPLES, os.O_RDONLY), err="mine: cannot read standard input: Is a directory\n")
     yield mine(None, err="mine: cannot read standard input: Bad file descriptor\n")
 
@@ -493,8 +613,11 @@ def two_files_wrongly(program):
 
 def judged():
     sound = "verdict 0: roles and rules grant the same, every rule what its parts do, and every part stands under one rule\n"
-    for name in ["branches", "example-a", "hierarchy", "provider", "regions"]:
+    for name in ["branches", "example-a", "hierarchy", "provider", "regions", "three-regions"]:
         yield both("judge", sample(name + ".roles"), sample(name + ".rules"), out=sound)
+    # with cuts the rules are others, and as right
+    yield both("judge", sample("three-regions.roles"), sample("three-regions-cut.rules"), out=sound)
+    yield both("judge", BETWEEN, BETWEEN_CUT, out=sound)
     differ = "verdict 1: user {}, resource {}, operation {} is granted by roles or rules only: {}\n"
     rule_alone, roles_alone = "a rule grants it, the roles do not", "the roles grant it, no rule does"
     yield both("judge", sample("provider.roles"), sample("provider-wide.rules"), out=differ.format(7, 0, 0, rule_alone))
@@ -576,6 +699,8 @@ def explained():
     yield both("explain", sample("branches.roles"), sample("branches.rules"), out=BRANCHES_TOLD)
     yield both("explain", sample("regions.roles"), sample("regions.rules"), out=REGIONS_TOLD)
     yield both("explain", sample("regions.roles"), sample("regions-tied.rules"), out=refused(13))
+    yield both("explain", sample("three-regions.roles"), sample("three-regions.rules"), out=THREE_REGIONS_TOLD)
+    yield both("explain", sample("three-regions.roles"), sample("three-regions-cut.rules"), out=THREE_REGIONS_CUT_TOLD)
     yield both("explain", NOBODY, rules_beside(NOBODY, NO_RULES), out="there is no rule: nobody may do anything\n")
 
 
@@ -891,7 +1016,9 @@ def denials_wrongly():
 
 def uses():
     yield from mined()
+    yield from mined_with_cuts()
     yield from mine_refusals()
+    yield from mine_bad_cuts()
     yield from mine_wrongly()
     yield from mine_saving()
     yield from mine_small()

@@ -15,10 +15,16 @@ use second_miner::mining::{mine, Lent};
 use std::hint::black_box;
 use std::io::Write;
 
-/// Mines once, and adds up the length, the counts, the cost and the turn.
-fn sample(file: &[u8], lent: &Lent, turn: usize) -> u64 {
-    let said = match mine(black_box(file), lent, REV) {
-        Ok(mined) => (mined.bytes.len() + mined.parts + mined.rules + mined.merges) as u64 + mined.cost,
+/// Mines once, and adds up the length, the counts, the cost, the turn and a byte of the output: of what is written, and 0 behind it or if
+/// nothing is.
+fn sample(given: &[u8], turn: usize) -> u64 {
+    let (cuts, file) = given[1..].split_at(given[0].into());
+    let cuts = cuts.iter().copied().map(u64::from).collect();
+    let said = match mine(black_box(file), &Lent { output: 524288, cuts, ..Lent::usual() }, REV) {
+        Ok(mined) => {
+            let byte = mined.bytes.get(turn).copied().unwrap_or(0);
+            (mined.bytes.len() + mined.parts + mined.rules + mined.merges) as u64 + mined.cost + u64::from(byte)
+        }
         Err(number) => number as u64,
     };
     said + turn as u64
@@ -31,6 +37,5 @@ fn main() {
         std::io::stdout().write_all(&file).expect("standard output can be written");
         return;
     }
-    let lent = Lent { output: 524288, ..Lent::usual() };
-    turns::print_checksum(|file, turn| sample(file, &lent, turn));
+    turns::print_checksum(sample);
 }

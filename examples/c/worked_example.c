@@ -2,7 +2,8 @@
  * A worked example of include/fichtengarn.h: reads a role file, mines it, reads the rules back,
  * judges them, shows one, asks a question of both, counts denials in a usage log, reads the rules
  * beside a file that they were not made for, shows the circle of a file that has one, keeps a summary
- * of rights through edits, makes a role file from a seed and mines it, and prints the answers.
+ * of rights through edits, makes a role file from a seed and mines it, mines a file with cuts, and
+ * prints the answers.
  *
  *     worked_example FILE
  *
@@ -26,6 +27,13 @@ static const uint8_t nobody[] = {0x01, 0, 0, 0, 0, 0x0F};
 
 /* Four roles, 1 the junior of 3 and 3 of 1. */
 static const uint8_t circular[] = {0x01, 0, 0, 0, 4, 0x07, 1, 3, 0x07, 3, 1, 0x0F};
+
+/* Three roles: 1 has the user of 0 and the resource of 2, so that it merges with either. */
+static const uint8_t between[] = {0x01, 2, 2, 1, 3, 0x05, 0, 0, 0x05, 1, 0, 0x05, 2, 1,
+                                  0x06, 0, 0, 0, 0x06, 1, 1, 0, 0x06, 2, 1, 0, 0x0F};
+
+/* A cut between roles 0 and 1, and one behind the last role. */
+static const uint8_t cuts[] = {1, 3};
 
 /* Three records of a usage log: user, resource, operation. */
 static const uint8_t usage[] = {0, 0, 0, 0, 1, 0, 1, 0, 0};
@@ -64,10 +72,10 @@ static void print_verdict(const size_t verdict[4])
 }
 
 /* Prints the bytes of one rule, as they stand among the rules. */
-static void show(size_t file_length, size_t rules_length, size_t rule)
+static void show(const uint8_t *roles, size_t roles_length, size_t rules_length, size_t rule)
 {
     uint8_t answer;
-    fichtengarn_part part = fichtengarn_show(file, file_length, rules, rules_length, rule, &answer);
+    fichtengarn_part part = fichtengarn_show(roles, roles_length, rules, rules_length, rule, &answer);
     size_t place;
 
     if (!told("show", answer))
@@ -141,10 +149,29 @@ static void denials(size_t file_length, size_t rules_length, const uint8_t *log,
         printf("most %zu start %zu\n", denied[FICHTENGARN_MOST], denied[FICHTENGARN_START]);
 }
 
-/* Mines with the memory set aside for it. */
+/* Mines with so many of the cuts, and with the memory set aside for it. */
+static size_t mine_cut(const uint8_t *roles, size_t roles_length, size_t cut_count, fichtengarn_weights weights,
+                       uint64_t counts[5])
+{
+    return fichtengarn_mine(roles, roles_length, cuts, cut_count, weights, scratch, FICHTENGARN_SCRATCH_WORDS,
+                            rules, sizeof rules, counts);
+}
+
+/* The same without a cut, of the role file that was read. */
 static size_t mine(size_t file_length, fichtengarn_weights weights, uint64_t counts[5])
 {
-    return fichtengarn_mine(file, file_length, weights, scratch, FICHTENGARN_SCRATCH_WORDS, rules, sizeof rules, counts);
+    return mine_cut(file, file_length, 0, weights, counts);
+}
+
+/* Mines with so many of the cuts, and prints the first rule. */
+static void mine_regions(size_t cut_count)
+{
+    uint64_t counts[5];
+
+    if (!told("mine with cuts", mine_cut(between, sizeof between, cut_count, ones, counts)))
+        return;
+    printf("rules %" PRIu64 " merges %" PRIu64 "\n", counts[FICHTENGARN_RULES], counts[FICHTENGARN_MERGES]);
+    show(between, sizeof between, counts[FICHTENGARN_LENGTH], 0);
 }
 
 /* Makes a role file from a seed, in the place of the one that was read, and mines it. */
@@ -181,8 +208,8 @@ static void work(size_t file_length)
     printf("rules %zu\n", count);
     if (told("judge", fichtengarn_judge(file, file_length, rules, rules_length, verdict)))
         print_verdict(verdict);
-    show(file_length, rules_length, 0);
-    show(file_length, rules_length, count);
+    show(file, file_length, rules_length, 0);
+    show(file, file_length, rules_length, count);
     ask(file_length, rules_length, 0, 0, 0);
     ask(file_length, rules_length, 0, 1, 0);
     ask(file_length, rules_length, 0, 0, 1);
@@ -193,6 +220,9 @@ static void work(size_t file_length)
     keep(file_length);
     load(0);
     load(1);
+    mine_regions(0);
+    mine_regions(1);
+    mine_regions(2);
 }
 
 int main(int count, char **words)

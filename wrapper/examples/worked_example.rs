@@ -2,7 +2,7 @@
 //! file, mines it, reads the rules back, judges them, shows one, asks a question of both, counts
 //! denials in a usage log, reads the rules beside a file that they were not made for, shows the circle
 //! of a file that has one, keeps a summary of rights through edits, makes a role file from a seed and
-//! mines it, and prints the answers.
+//! mines it, mines a file with cuts, and prints the answers.
 //!
 //!     cargo run --example worked_example FILE
 
@@ -16,6 +16,15 @@ const NOBODY: [u8; 6] = [0x01, 0, 0, 0, 0, 0x0F];
 
 /// Four roles, 1 the junior of 3 and 3 of 1.
 const CIRCULAR: [u8; 12] = [0x01, 0, 0, 0, 4, 0x07, 1, 3, 0x07, 3, 1, 0x0F];
+
+/// Three roles: 1 has the user of 0 and the resource of 2, so that it merges with either.
+const BETWEEN: [u8; 27] = [
+    0x01, 2, 2, 1, 3, 0x05, 0, 0, 0x05, 1, 0, 0x05, 2, 1, 0x06, 0, 0, 0, 0x06, 1, 1, 0, 0x06, 2, 1,
+    0, 0x0F,
+];
+
+/// A cut between roles 0 and 1, and one behind the last role.
+const CUTS: [u8; 2] = [1, 3];
 
 /// Three records of a usage log: user, resource, operation.
 const USAGE: [u8; 9] = [0, 0, 0, 0, 1, 0, 1, 0, 0];
@@ -88,8 +97,19 @@ fn load(seed: u32) -> Option<()> {
     println!("length {length}");
     let mut scratch = [0; fichtengarn::SCRATCH_WORDS];
     let mut output = [0; 65536];
-    let mined = fichtengarn::mine(&file[..length], Weights::ONES, &mut scratch, &mut output);
+    let mined = fichtengarn::mine(&file[..length], &[], Weights::ONES, &mut scratch, &mut output);
     println!("rules {}", told("mine", mined)?.rules);
+    Some(())
+}
+
+/// Mines with cuts, and prints the first rule.
+fn mine_regions(cuts: &[u8]) -> Option<()> {
+    let mut scratch = [0; fichtengarn::SCRATCH_WORDS];
+    let mut output = [0; 65536];
+    let mined = fichtengarn::mine(&BETWEEN, cuts, Weights::ONES, &mut scratch, &mut output);
+    let mined = told("mine with cuts", mined)?;
+    println!("rules {} merges {}", mined.rules, mined.merges);
+    show(&BETWEEN, &output[..mined.length], 0);
     Some(())
 }
 
@@ -126,12 +146,13 @@ fn work(file: &[u8]) -> Option<()> {
     let mut scratch = [0; fichtengarn::SCRATCH_WORDS];
     let mut output = [0; 65536];
     told("read roles", fichtengarn::read_roles(file))?;
-    let mined = told("mine", fichtengarn::mine(file, Weights::ONES, &mut scratch, &mut output))?;
+    let mined =
+        told("mine", fichtengarn::mine(file, &[], Weights::ONES, &mut scratch, &mut output))?;
     println!(
         "length {} parts {} rules {} merges {} cost {}",
         mined.length, mined.parts, mined.rules, mined.merges, mined.cost
     );
-    let weighed = told("mine", fichtengarn::mine(file, WEIGHTS, &mut scratch, &mut output))?;
+    let weighed = told("mine", fichtengarn::mine(file, &[], WEIGHTS, &mut scratch, &mut output))?;
     println!("cost {}", weighed.cost);
     let rules = &output[..mined.length];
     let count = told("read rules", fichtengarn::read_rules(file, rules))?;
@@ -149,6 +170,9 @@ fn work(file: &[u8]) -> Option<()> {
     keep(file)?;
     load(0);
     load(1);
+    mine_regions(&CUTS[..0]);
+    mine_regions(&CUTS[..1]);
+    mine_regions(&CUTS);
     Some(())
 }
 

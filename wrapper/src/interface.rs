@@ -136,6 +136,8 @@ unsafe extern "C" {
     pub fn fichtengarn_mine(
         file: *const u8,
         file_length: usize,
+        cuts: *const u8,
+        cut_count: usize,
         weights: Weights,
         scratch: *mut u64,
         scratch_words: usize,

@@ -85,10 +85,12 @@ pub enum Refusal {
     WrongWindow = 19,
     /// A usage log whose length is not divisible by three.
     RaggedLog = 20,
+    /// Cuts that do not ascend strictly, or one that is not from 1 to roles - 1.
+    BadCuts = 21,
 }
 
 impl Refusal {
-    const ALL: [Refusal; 20] = [
+    const ALL: [Refusal; 21] = [
         Refusal::TooLong,
         Refusal::CutOff,
         Refusal::UnknownCommand,
@@ -109,6 +111,7 @@ impl Refusal {
         Refusal::WrongLevel,
         Refusal::WrongWindow,
         Refusal::RaggedLog,
+        Refusal::BadCuts,
     ];
 
     /// 01's number.
@@ -165,6 +168,7 @@ pub struct Mined {
     /// Parts of the role file: as many as rules and merges together.
     pub parts: usize,
     pub rules: usize,
+    /// Merges within runs of roles and over all.
     pub merges: usize,
     /// What the rules cost by the weights of the call. It never wraps.
     pub cost: u64,
@@ -334,8 +338,12 @@ pub fn denials(file: &[u8], rules: &[u8], log: &[u8], window: usize) -> Result<D
 /// Writes the rules of a role file to the front of the output, and says what they cost by these
 /// weights; nothing else depends on them. A refusal leaves the output as it was. Scratch may hold
 /// anything before and after.
+///
+/// A cut stands between the role before it and the role of its number. Groups merge within each run of
+/// roles that the cuts make first, and then over all; without a cut there is but one run.
 pub fn mine(
     file: &[u8],
+    cuts: &[u8],
     weights: Weights,
     scratch: &mut [u64],
     output: &mut [u8],
@@ -345,6 +353,8 @@ pub fn mine(
         interface::fichtengarn_mine(
             file.as_ptr(),
             file.len(),
+            cuts.as_ptr(),
+            cuts.len(),
             weights,
             scratch.as_mut_ptr(),
             scratch.len(),

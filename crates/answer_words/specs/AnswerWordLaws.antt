@@ -7,7 +7,7 @@ use mathlib.Core.List.{List}
 use mathlib.Core.Path.{_≡_, refl, sym, _∙_, subst}
 use native.Mathlib.Numerals.{add-one}
 use native.Mathlib.Omega.{arith}
-use Rattle.files.specs.Answer.{Refusal, numberOf, tooLong, cutOff, unknownCommand, outOfPlace, beyond, wrongKind, ownSenior, smallScratch, shortOutput, rulesCutOff, rulesUnknown, rulesOrder, rulesOperand, noSuchRule, zeroSeed, wrongShape, wrongTable, wrongLevel, wrongWindow, raggedLog}
+use Rattle.files.specs.Answer.{Refusal, numberOf, tooLong, cutOff, unknownCommand, outOfPlace, beyond, wrongKind, ownSenior, smallScratch, shortOutput, rulesCutOff, rulesUnknown, rulesOrder, rulesOperand, noSuchRule, zeroSeed, wrongShape, wrongTable, wrongLevel, wrongWindow, raggedLog, badCuts}
 use Rattle.files.specs.Calls.{Verdict, verdictNumber, differ, strayRule, strayPart, sound}
 use Rattle.answer_words.specs.AnswerWords.{bytesOf, Holds, refusalTable, refusalWords, verdictTable, verdictWords, causeWords, findingWords}
 
@@ -27,7 +27,7 @@ pub above : {n : ℕ} (k : ℕ) → k ≤ n → (n ≡ k → ⊥) → suc k ≤ 
 above k h e = omega arith
 
 -- a number beyond a table has the words of none
-pub past-refusals : (n : ℕ) → ((n ≡ 0 → ⊥) → 21 ≤ n) → bytesOf "no refusal has this number" ≡ refusalWords n
+pub past-refusals : (n : ℕ) → ((n ≡ 0 → ⊥) → 22 ≤ n) → bytesOf "no refusal has this number" ≡ refusalWords n
 unfolding refusalWords refusalTable
 past-refusals zero h = refl
 past-refusals (suc n) h = rw (List·getD-eq-default refusalTable "no refusal has this number" (h (λ e. omega arith))) refl
@@ -59,6 +59,7 @@ refusal-words wrongTable = refl
 refusal-words wrongLevel = refl
 refusal-words wrongWindow = refl
 refusal-words raggedLog = refl
+refusal-words badCuts = refl
 
 -- these are the words of the verdict that has the number
 pub verdict-words : (v : Verdict) → verdictWords (verdictNumber v) ≡ bytesOf (findingWords v)

@@ -7,7 +7,7 @@ use lib.ListN.{length, getD, take}
 use mathlib.Core.Bool.{Bool, true, false}
 use mathlib.Core.List.{List, [], _∷_}
 use mathlib.Core.Path.{_≡_}
-use Rattle.files.specs.Answer.{Refusal, tooLong, cutOff, unknownCommand, outOfPlace, beyond, wrongKind, ownSenior, smallScratch, shortOutput, rulesCutOff, rulesUnknown, rulesOrder, rulesOperand, noSuchRule, zeroSeed, wrongShape, wrongTable, wrongLevel, wrongWindow, raggedLog}
+use Rattle.files.specs.Answer.{Refusal, tooLong, cutOff, unknownCommand, outOfPlace, beyond, wrongKind, ownSenior, smallScratch, shortOutput, rulesCutOff, rulesUnknown, rulesOrder, rulesOperand, noSuchRule, zeroSeed, wrongShape, wrongTable, wrongLevel, wrongWindow, raggedLog, badCuts}
 use Rattle.files.specs.Calls.{Verdict, differ, strayRule, strayPart, sound}
 
 -- a text as bytes
@@ -44,12 +44,14 @@ causeWords wrongTable = "the table has other than 1,024 words"
 causeWords wrongLevel = "a rule of the rule file tells another level than the lowest that allows its conjuncts"
 causeWords wrongWindow = "the window has no records or more than 64"
 causeWords raggedLog = "the length of the log is not divisible by three"
+causeWords badCuts = "the cuts do not ascend strictly, or one is not from 1 to the number of roles less one"
 
 unfoldable pub refusalTable : List String
 refusalTable =
     "no refusal has this number" ∷ causeWords tooLong ∷ causeWords cutOff ∷ causeWords unknownCommand ∷ causeWords outOfPlace ∷ causeWords beyond ∷ causeWords wrongKind ∷ causeWords ownSenior
     ∷ causeWords smallScratch ∷ causeWords shortOutput ∷ causeWords rulesCutOff ∷ causeWords rulesUnknown ∷ causeWords rulesOrder ∷ causeWords rulesOperand ∷ causeWords noSuchRule
-    ∷ causeWords zeroSeed ∷ causeWords wrongShape ∷ causeWords wrongTable ∷ causeWords wrongLevel ∷ causeWords wrongWindow ∷ causeWords raggedLog ∷ []
+    ∷ causeWords zeroSeed ∷ causeWords wrongShape ∷ causeWords wrongTable ∷ causeWords wrongLevel ∷ causeWords wrongWindow ∷ causeWords raggedLog
+    ∷ causeWords badCuts ∷ []
 
 -- the words of a refusal by its number
 unfoldable pub refusalWords : ℕ → List ℕ

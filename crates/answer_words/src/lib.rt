@@ -65,6 +65,10 @@ pub fn refusal_words(n: usize, out: &mut [u8]) -> usize
         ),
         refusal::WRONG_WINDOW => put(b"the window has no records or more than 64", out),
         refusal::RAGGED_LOG => put(b"the length of the log is not divisible by three", out),
+        refusal::BAD_CUTS => put(
+            b"the cuts do not ascend strictly, or one is not from 1 to the number of roles less one",
+            out,
+        ),
         _ => put(b"no refusal has this number", out),
     }
 }

@@ -1,7 +1,8 @@
--- The checksum of what mining answers.
+-- The checksum of what mining answers and writes.
 -- Assumes nothing.
 use Prim.Native.Nat.{ℕ, zero, suc, _+_, _%_, _^_}
 use mathlib.Core.List.{List, [], _∷_}
+use Rattle.file_bytes.specs.Numbers.{numberAt}
 use Rattle.sets.specs.Tests.{sum}
 
 abbrev pub plus : ℕ → ℕ → ℕ
@@ -13,8 +14,14 @@ weightOf [] = 0
 weightOf (n ∷ []) = n
 weightOf (n ∷ v ∷ vs) = sum (λ x. x) (v ∷ vs) % 2 ^ 64
 
-abbrev pub sampleOf : List ℕ → ℕ → ℕ
-sampleOf numbers t = plus (weightOf numbers) t
+-- what a turn comes to: its numbers, which turn it is, and the byte at the turn's place in the output memory
+abbrev pub sampleOf : List ℕ → List ℕ → ℕ → ℕ
+sampleOf numbers memory t = plus (plus (weightOf numbers) t) (numberAt 1 memory t)
+
+-- the output memory after so many turns, each of which changes it
+abbrev pub memoryAfter : (List ℕ → List ℕ) → List ℕ → ℕ → List ℕ
+memoryAfter turned memory zero = memory
+memoryAfter turned memory (suc n) = turned (memoryAfter turned memory n)
 
 -- the sum over the turns below n
 abbrev pub total : (ℕ → ℕ) → ℕ → ℕ

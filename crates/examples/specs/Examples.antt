@@ -50,15 +50,22 @@ memory (suc n) = 0xAA ∷ memory n
 
 -- mining a file with so many words of scratch and bytes of output: length, parts, rules, merges, cost by four ones
 abbrev pub mining : List ℕ → ℕ → ℕ → List ℕ
-mining file scratch room = told countValues (mineAnswer 2 file fourOnes scratch room)
+mining file scratch room = told countValues (mineAnswer 2 file [] fourOnes scratch room)
 
 -- the same by the weights w1 to w4, with scratch enough
 abbrev pub weighing : (w1 w2 w3 w4 : ℕ) → List ℕ → ℕ → List ℕ
-weighing w1 w2 w3 w4 file room = told countValues (mineAnswer 2 file (record { users = w1; resources = w2; operations = w3; atoms = w4 }) 4096 room)
+weighing w1 w2 w3 w4 file room = told countValues (mineAnswer 2 file [] (record { users = w1; resources = w2; operations = w3; atoms = w4 }) 4096 room)
 
 -- the bytes of the output memory after that, with scratch enough
 abbrev pub output : List ℕ → ℕ → List ℕ
-output file room = mineOutput 2 file 4096 (memory room)
+output file room = mineOutput 2 file [] 4096 (memory room)
+
+-- mining with cuts: the same counts, and the same bytes
+abbrev pub cutting : List ℕ → List ℕ → ℕ → ℕ → List ℕ
+cutting file cuts scratch room = told countValues (mineAnswer 2 file cuts fourOnes scratch room)
+
+abbrev pub cutOutput : List ℕ → List ℕ → ℕ → List ℕ
+cutOutput file cuts room = mineOutput 2 file cuts 4096 (memory room)
 
 -- reading a role file: users, resources, operations, roles
 abbrev pub reading : List ℕ → List ℕ
@@ -625,6 +632,28 @@ threeSizes = hex "01 02 03 04 01 05 00 01 06 00 02 03 0F"
 abbrev pub oneTriple : List ℕ
 oneTriple = hex "20 02 03 04 01 00 00 21 23 FF 01 00 00 00 00 00 00 00 24 FF 02 00 26 08 00 28 00 08 00 29 03 2F"
 
+-- ---- mining with cuts (request 11)
+
+-- three roles of a part each: user 0 has roles 0 and 1, user 1 role 2; role 0 has resource 0, the others resource 1.
+-- Roles 0 and 1 make one rule at level 1, roles 1 and 2 one at level 2, and the three none
+abbrev pub eitherPair : List ℕ
+eitherPair = hex "01 02 02 01 03 05 00 00 05 01 00 05 02 01 06 00 00 00 06 01 01 00 06 02 01 00 0F"
+
+abbrev pub forEitherPair : List ℕ
+forEitherPair = hex "20 02 02 01 03 00 00"
+
+-- the ordinary file: roles 0 and 1 under one rule, and role 2 alone
+abbrev pub firstTwo : List ℕ
+firstTwo = forEitherPair ++ hex "21 23 FF 03 00 00 00 00 00 00 00 26 01 00 28 00 01 00 28 01 01 00 29 01 21 23 FF 04 00 00 00 00 00 00 00 24 FF 01 00 26 01 00 28 02 01 00 29 03 2F"
+
+-- role 0 alone, and roles 1 and 2 under one rule
+abbrev pub lastTwo : List ℕ
+lastTwo = forEitherPair ++ hex "21 23 FF 03 00 00 00 00 00 00 00 24 FF 00 00 26 01 00 28 00 01 00 29 03 21 24 FF 01 00 26 01 00 28 01 01 00 28 02 01 00 29 02 2F"
+
+-- three roles that grant the same, so that all make one rule
+abbrev pub threeAlike : List ℕ
+threeAlike = hex "01 01 01 01 03 05 00 00 05 01 00 05 02 00 06 00 00 00 06 01 00 00 06 02 00 00 0F"
+
 -- ---- the table
 
 abbrev pub table : List Row
@@ -1162,6 +1191,32 @@ table =
     ∷ row "log: 16 before 19" (denying fileA (forNobody ++ noRules) (hex "00") 0) (16 ∷ [])
     ∷ row "log: 18 before 19" (denying fileA (forA ++ hex "21 26 01 00 28 00 01 00 29 01 2F") (hex "00") 0) (18 ∷ [])
     ∷ row "log: 7 before 10" (denying roleTwice [] (hex "00") 0) (7 ∷ [])
+    -- ---- request 11: "Groups merge within each run until no pair is left; then merging goes on over all groups"
+    ∷ row "cuts: none" (cutOutput eitherPair [] 56) firstTwo
+    ∷ row "cuts: 1" (cutOutput eitherPair (1 ∷ []) 50) lastTwo
+    ∷ row "cuts: 2" (cutOutput eitherPair (2 ∷ []) 56) firstTwo
+    ∷ row "cuts: 1 and 2" (cutOutput eitherPair (1 ∷ 2 ∷ []) 56) firstTwo
+    -- "merges counted, over both stages": in the first alone, in the second alone, and one in each
+    ∷ row "cuts: a merge of the first stage" (cutting eitherPair (1 ∷ []) 4096 50) (0 ∷ 50 ∷ 3 ∷ 2 ∷ 1 ∷ 6 ∷ [])
+    ∷ row "cuts: a merge of the second stage" (cutting eitherPair (1 ∷ 2 ∷ []) 4096 56) (0 ∷ 56 ∷ 3 ∷ 2 ∷ 1 ∷ 6 ∷ [])
+    ∷ row "cuts: a merge of each stage" (cutting threeAlike (1 ∷ []) 4096 26) (0 ∷ 26 ∷ 3 ∷ 1 ∷ 2 ∷ 1 ∷ [])
+    -- "no such file may break anything said of mined files"
+    ∷ row "cuts: the judge" (judging eitherPair lastTwo) (0 ∷ 0 ∷ [])
+    -- "21 for cuts that do not ascend strictly or are out of range": "each from 1 to roles − 1"
+    ∷ row "cuts: 0" (cutting eitherPair (0 ∷ []) 4096 56) (21 ∷ [])
+    ∷ row "cuts: 3 of 3 roles" (cutting eitherPair (3 ∷ []) 4096 56) (21 ∷ [])
+    ∷ row "cuts: 1 and then 3" (cutting eitherPair (1 ∷ 3 ∷ []) 4096 56) (21 ∷ [])
+    ∷ row "cuts: 2 and then 1" (cutting eitherPair (2 ∷ 1 ∷ []) 4096 56) (21 ∷ [])
+    ∷ row "cuts: 1 twice" (cutting eitherPair (1 ∷ 1 ∷ []) 4096 56) (21 ∷ [])
+    ∷ row "cuts: 1 of one role" (cutting (hex "01 01 01 01 01 0F") (1 ∷ []) 4096 56) (21 ∷ [])
+    ∷ row "cuts: 1 of no role" (cutting (hex "01 01 01 01 00 0F") (1 ∷ []) 4096 56) (21 ∷ [])
+    -- "after 1 to 7 and before 9"; 8 stands before all
+    ∷ row "cuts: 8 before 21" (cutting eitherPair (3 ∷ []) 4095 56) (8 ∷ [])
+    ∷ row "cuts: 2 before 21" (cutting (hex "01 02 02 01 03") (3 ∷ []) 4096 56) (2 ∷ [])
+    ∷ row "cuts: 7 before 21" (cutting roleTwice (255 ∷ []) 4096 56) (7 ∷ [])
+    ∷ row "cuts: 21 before 9" (cutting eitherPair (3 ∷ []) 4096 0) (21 ∷ [])
+    ∷ row "cuts: 9, a byte too short" (cutting eitherPair (1 ∷ []) 4096 49) (9 ∷ [])
+    ∷ row "cuts: 21 leaves the output" (cutOutput eitherPair (3 ∷ []) 56) (memory 56)
     -- ---- the bytes of these rows: what is no digit, half a byte, and two bytes without a blank are no bytes
     ∷ row "hex: digits" (hex "00 09 0A 0F 10 F0 FF") (0 ∷ 9 ∷ 10 ∷ 15 ∷ 16 ∷ 240 ∷ 255 ∷ [])
     ∷ row "hex: no digit" (spelt "0G 0a") (noByte ∷ noByte ∷ [])

@@ -206,10 +206,12 @@ pub extern "C" fn fichtengarn_denials(
     answers::store_denials(log_denials::denials(file, rules, log, window), denials)
 }
 
-// Mining: the rule file in the memory for output, and length, parts, rules, merges and the cost by these weights.
+// Mining, within the runs of roles that the cuts make first: the rule file in the memory for output, and length, parts, rules, merges and the
+// cost by these weights.
 #[no_mangle]
 pub extern "C" fn fichtengarn_mine(
     file: &[u8],
+    cuts: &[u8],
     weights: Weights,
     scratch: &mut [u64],
     out: &mut [u8],
@@ -219,22 +221,26 @@ pub extern "C" fn fichtengarn_mine(
         (r
         ≡ returned
         (told countValues
-        (mineAnswer 2 (now (file .entry)) weights (length (now (scratch .entry))) (length (now (out .entry))))))
+        (mineAnswer 2 (now (file .entry)) (now (cuts .entry)) weights (length (now (scratch .entry)))
+        (length (now (out .entry))))))
         × (now (counts .exit)
         ≡ stored
         (told countValues
-        (mineAnswer 2 (now (file .entry)) weights (length (now (scratch .entry)))
+        (mineAnswer 2 (now (file .entry)) (now (cuts .entry)) weights (length (now (scratch .entry)))
         (length (now (out .entry)))))
         (now (counts .entry)))
-        × (now (out .exit) ≡ mineOutput 2 (now (file .entry)) (length (now (scratch .entry))) (now (out .entry)))
+        × (now (out .exit)
+        ≡ mineOutput 2 (now (file .entry)) (now (cuts .entry)) (length (now (scratch .entry)))
+        (now (out .entry)))
         × ((c : Counts)
-        → mineAnswer 2 (now (file .entry)) weights (length (now (scratch .entry))) (length (now (out .entry)))
+        → mineAnswer 2 (now (file .entry)) (now (cuts .entry)) weights (length (now (scratch .entry)))
+        (length (now (out .entry)))
         ≡ accepted c
         → (F : Policy)
         × (readRoles 2 (now (file .entry)) ≡ accepted F)
-        × Demand3 2 weights (besideOf F) (take (c .size) (now (out .exit))) c) ⌝ }
+        × Demand3 2 (now (cuts .entry)) weights (besideOf F) (take (c .size) (now (out .exit))) c) ⌝ }
 {
-    answers::store_mined(mining::mine(file, weights, scratch, out), counts)
+    answers::store_mined(mining::mine(file, cuts, weights, scratch, out), counts)
 }
 
 // A role file read into a record, which the caller keeps: 0 and the record, or 1 to 7 and the empty one.

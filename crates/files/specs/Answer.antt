@@ -46,6 +46,8 @@ pub data Refusal : Type 0 where
   wrongWindow : Refusal
   -- request 10: "then 20 for a length not divisible by three"
   raggedLog : Refusal
+  -- request 11: "21 for cuts that do not ascend strictly or are out of range"
+  badCuts : Refusal
 
 -- 01's number of each
 abbrev pub numberOf : Refusal → ℕ
@@ -69,6 +71,7 @@ numberOf wrongTable = 17
 numberOf wrongLevel = 18
 numberOf wrongWindow = 19
 numberOf raggedLog = 20
+numberOf badCuts = 21
 
 -- "Every refusal here and below returns only its number."
 pub data Answer (A : Type 0) : Type 0 where

@@ -12,10 +12,10 @@ use mathlib.Core.Logic.{_⊎_, inl, inr}
 use mathlib.Core.Option.{Option, none, some}
 use mathlib.Core.Path.{_≡_, refl, sym, ap, _∙_}
 use native.Mathlib.Omega.{arith}
-use Rattle.files.specs.Answer.{Refusal, Answer, told, unless, andThen, smallScratch, shortOutput, refused, accepted}
+use Rattle.files.specs.Answer.{Refusal, Answer, told, unless, andThen, smallScratch, shortOutput, badCuts, refused, accepted}
 use Rattle.files.specs.Beside.{Beside, besideOf}
 use Rattle.files.specs.BytesLaws.{Bytes, carried}
-use Rattle.files.specs.Calls.{Counts, Verdict, countValues, decided, first, triples, isTriple, rulesGrant, partsGrant, firstDifference, firstStrayRule, firstStrayPart, verdict, minedBytes, minedCounts, mayMine, mineAnswer, mineOutput, roleQuestion, readBoth, ruleQuestion, judge, differ, strayRule, strayPart, sound}
+use Rattle.files.specs.Calls.{Counts, Verdict, countValues, decided, first, triples, isTriple, rulesGrant, partsGrant, firstDifference, firstStrayRule, firstStrayPart, verdict, cutsOk, minedBytes, minedCounts, mayMine, mineAnswer, mineOutput, roleQuestion, readBoth, ruleQuestion, judge, differ, strayRule, strayPart, sound}
 use Rattle.files.specs.Demand3.{Demand3}
 use Rattle.files.specs.DemandLaws.{demand-3}
 use Rattle.files.specs.RoleFile.{readRoles}
@@ -61,43 +61,46 @@ first-ext f g (x ∷ xs) h = rw (h x (List·Memᴰ·head refl), first-ext f g xs
 
 module _ (W : ℕ) where
   -- what an acceptance says
-  pub record Mining (file : List ℕ) (scratch room : ℕ) (F : Policy) : Type 0 where
+  pub record Mining (file cuts : List ℕ) (scratch room : ℕ) (F : Policy) : Type 0 where
     pub enough : 4096 ≤ scratch
     pub reading : readRoles W file ≡ accepted F
-    pub room-left : length (minedBytes W F) ≤ room
+    pub legal-cuts : Is (cutsOk cuts (F .roles))
+    pub room-left : length (minedBytes W F cuts) ≤ room
 
-  mined-out : (file : List ℕ) (scratch room : ℕ) (F : Policy) → mayMine W file scratch room ≡ accepted F → Mining file scratch room F
+  mined-out : (file cuts : List ℕ) (scratch room : ℕ) (F : Policy) → mayMine W file cuts scratch room ≡ accepted F → Mining file cuts scratch room F
   unfolding mayMine
-  mined-out file scratch room F h =
-      let s = unless-out (leb 4096 scratch) smallScratch (andThen (readRoles W file) (λ F. unless (leb (length (minedBytes W F)) room) shortOutput (accepted F))) h in
-      let t = then-out (readRoles W file) (λ F. unless (leb (length (minedBytes W F)) room) shortOutput (accepted F)) (s .1) in
-      let k = unless-out (leb (length (minedBytes W (t .0))) room) shortOutput (accepted (t .0)) (t .2) in
+  mined-out file cuts scratch room F h =
+      let s = unless-out (leb 4096 scratch) smallScratch (andThen (readRoles W file) (λ F. unless (cutsOk cuts (F .roles)) badCuts (unless (leb (length (minedBytes W F cuts)) room) shortOutput (accepted F)))) h in
+      let t = then-out (readRoles W file) (λ F. unless (cutsOk cuts (F .roles)) badCuts (unless (leb (length (minedBytes W F cuts)) room) shortOutput (accepted F))) (s .1) in
+      let c = unless-out (cutsOk cuts (t .0 .roles)) badCuts (unless (leb (length (minedBytes W (t .0) cuts)) room) shortOutput (accepted (t .0))) (t .2) in
+      let k = unless-out (leb (length (minedBytes W (t .0) cuts)) room) shortOutput (accepted (t .0)) (c .1) in
       let e : t .0 ≡ F = cc in
       record {
         enough = leb-true 4096 scratch (s .0);
         reading = rw e at (t .1);
-        room-left = leb-true (length (minedBytes W F)) room (rw e at (k .0));
+        legal-cuts = rw e at (c .0);
+        room-left = leb-true (length (minedBytes W F cuts)) room (rw e at (k .0));
       }
 
-  answer-out : (file : List ℕ) (weights : Weights) (scratch room : ℕ) (c : Counts) → mineAnswer W file weights scratch room ≡ accepted c
-      → (F : Policy) × (mayMine W file scratch room ≡ accepted F) × (c ≡ minedCounts W F weights)
+  answer-out : (file cuts : List ℕ) (weights : Weights) (scratch room : ℕ) (c : Counts) → mineAnswer W file cuts weights scratch room ≡ accepted c
+      → (F : Policy) × (mayMine W file cuts scratch room ≡ accepted F) × (c ≡ minedCounts W F cuts weights)
   unfolding mineAnswer
-  answer-out file weights scratch room c h =
-      let t = then-out (mayMine W file scratch room) (λ F. accepted (minedCounts W F weights)) h in
-      let e : c ≡ minedCounts W (t .0) weights = cc in
+  answer-out file cuts weights scratch room c h =
+      let t = then-out (mayMine W file cuts scratch room) (λ F. accepted (minedCounts W F cuts weights)) h in
+      let e : c ≡ minedCounts W (t .0) cuts weights = cc in
       (t .0, t .1, e)
 
-  output-of : (file : List ℕ) (scratch : ℕ) (former : List ℕ) (F : Policy) → mayMine W file scratch (length former) ≡ accepted F
-      → mineOutput W file scratch former ≡ minedBytes W F ++ drop (length (minedBytes W F)) former
+  output-of : (file cuts : List ℕ) (scratch : ℕ) (former : List ℕ) (F : Policy) → mayMine W file cuts scratch (length former) ≡ accepted F
+      → mineOutput W file cuts scratch former ≡ minedBytes W F cuts ++ drop (length (minedBytes W F cuts)) former
   unfolding mineOutput
-  output-of file scratch former F h = ap (λ (r : Answer Policy). elim r as (λ _. List ℕ) [ refused e ↦ former | accepted F ↦ minedBytes W F ++ drop (length (minedBytes W F)) former ]) h
+  output-of file cuts scratch former F h = ap (λ (r : Answer Policy). elim r as (λ _. List ℕ) [ refused e ↦ former | accepted F ↦ minedBytes W F cuts ++ drop (length (minedBytes W F cuts)) former ]) h
 
   -- "Output is untouched": after a refusal it holds its former bytes
-  pub refused-output : (file : List ℕ) (weights : Weights) (scratch : ℕ) (former : List ℕ) (e : Refusal) → mineAnswer W file weights scratch (length former) ≡ refused e → mineOutput W file scratch former ≡ former
+  pub refused-output : (file cuts : List ℕ) (weights : Weights) (scratch : ℕ) (former : List ℕ) (e : Refusal) → mineAnswer W file cuts weights scratch (length former) ≡ refused e → mineOutput W file cuts scratch former ≡ former
   unfolding mineAnswer mineOutput
-  refused-output file weights scratch former e h = go (mayMine W file scratch (length former)) h
+  refused-output file cuts weights scratch former e h = go (mayMine W file cuts scratch (length former)) h
     where
-      go : (r : Answer Policy) → andThen r (λ F. accepted (minedCounts W F weights)) ≡ refused e → (elim r as (λ _. List ℕ) [ refused e ↦ former | accepted F ↦ minedBytes W F ++ drop (length (minedBytes W F)) former ]) ≡ former
+      go : (r : Answer Policy) → andThen r (λ F. accepted (minedCounts W F cuts weights)) ≡ refused e → (elim r as (λ _. List ℕ) [ refused e ↦ former | accepted F ↦ minedBytes W F cuts ++ drop (length (minedBytes W F cuts)) former ]) ≡ former
       go (refused d) k = refl
       go (accepted F) k = absurd (false≢true (ap isAccepted (sym k)))
 
@@ -107,13 +110,13 @@ module _ (W : ℕ) where
     pub inside : c .size ≤ length former
     pub kept : drop (c .size) after ≡ drop (c .size) former
 
-  pub accepted-output : (file : List ℕ) (weights : Weights) (scratch : ℕ) (former : List ℕ) (c : Counts) → mineAnswer W file weights scratch (length former) ≡ accepted c → Behind former (mineOutput W file scratch former) c
+  pub accepted-output : (file cuts : List ℕ) (weights : Weights) (scratch : ℕ) (former : List ℕ) (c : Counts) → mineAnswer W file cuts weights scratch (length former) ≡ accepted c → Behind former (mineOutput W file cuts scratch former) c
   unfolding minedCounts
-  accepted-output file weights scratch former c h =
-      let t = answer-out file weights scratch (length former) c h in
-      let m = mined-out file scratch (length former) (t .0) (t .1) in
-      let bytes = minedBytes W (t .0) in
-      let o = output-of file scratch former (t .0) (t .1) in
+  accepted-output file cuts weights scratch former c h =
+      let t = answer-out file cuts weights scratch (length former) c h in
+      let m = mined-out file cuts scratch (length former) (t .0) (t .1) in
+      let bytes = minedBytes W (t .0) cuts in
+      let o = output-of file cuts scratch former (t .0) (t .1) in
       let room = m .room-left in
       rw (t .2, o) (record {
         as-long = let a = length-append bytes (drop (length bytes) former) in let b = length-drop (length bytes) former in omega arith;
@@ -122,59 +125,59 @@ module _ (W : ℕ) where
       })
 
   -- the amount of scratch changes nothing, once it is enough
-  pub scratch-free : (file : List ℕ) (weights : Weights) (m n room : ℕ) → 4096 ≤ m → 4096 ≤ n → mineAnswer W file weights m room ≡ mineAnswer W file weights n room
+  pub scratch-free : (file cuts : List ℕ) (weights : Weights) (m n room : ℕ) → 4096 ≤ m → 4096 ≤ n → mineAnswer W file cuts weights m room ≡ mineAnswer W file cuts weights n room
   unfolding mineAnswer mayMine
-  scratch-free file weights m n room p q = rw (le-leb 4096 m p, le-leb 4096 n q) refl
+  scratch-free file cuts weights m n room p q = rw (le-leb 4096 m p, le-leb 4096 n q) refl
 
-  pub scratch-free-output : (file : List ℕ) (m n : ℕ) (former : List ℕ) → 4096 ≤ m → 4096 ≤ n → mineOutput W file m former ≡ mineOutput W file n former
+  pub scratch-free-output : (file cuts : List ℕ) (m n : ℕ) (former : List ℕ) → 4096 ≤ m → 4096 ≤ n → mineOutput W file cuts m former ≡ mineOutput W file cuts n former
   unfolding mineOutput mayMine
-  scratch-free-output file m n former p q =
-      ap (λ (r : Answer Policy). elim r as (λ _. List ℕ) [ refused e ↦ former | accepted F ↦ minedBytes W F ++ drop (length (minedBytes W F)) former ]) (enough-scratch m p ∙ sym (enough-scratch n q))
+  scratch-free-output file cuts m n former p q =
+      ap (λ (r : Answer Policy). elim r as (λ _. List ℕ) [ refused e ↦ former | accepted F ↦ minedBytes W F cuts ++ drop (length (minedBytes W F cuts)) former ]) (enough-scratch m p ∙ sym (enough-scratch n q))
     where
-      enough-scratch : (m : ℕ) → 4096 ≤ m → mayMine W file m (length former) ≡ andThen (readRoles W file) (λ F. unless (leb (length (minedBytes W F)) (length former)) shortOutput (accepted F))
+      enough-scratch : (m : ℕ) → 4096 ≤ m → mayMine W file cuts m (length former) ≡ andThen (readRoles W file) (λ F. unless (cutsOk cuts (F .roles)) badCuts (unless (leb (length (minedBytes W F cuts)) (length former)) shortOutput (accepted F)))
       enough-scratch m p = rw (le-leb 4096 m p) refl
 
   -- and of the output memory only its length counts: the answer's bytes are the same whatever it held
-  pub former-free : (file : List ℕ) (weights : Weights) (scratch : ℕ) (former other : List ℕ) (c : Counts) → length former ≡ length other → mineAnswer W file weights scratch (length former) ≡ accepted c
-      → take (c .size) (mineOutput W file scratch former) ≡ take (c .size) (mineOutput W file scratch other)
+  pub former-free : (file cuts : List ℕ) (weights : Weights) (scratch : ℕ) (former other : List ℕ) (c : Counts) → length former ≡ length other → mineAnswer W file cuts weights scratch (length former) ≡ accepted c
+      → take (c .size) (mineOutput W file cuts scratch former) ≡ take (c .size) (mineOutput W file cuts scratch other)
   unfolding minedCounts
-  former-free file weights scratch former other c e h = let t = answer-out file weights scratch (length former) c h in go (t .0) c (t .1) (t .2)
+  former-free file cuts weights scratch former other c e h = let t = answer-out file cuts weights scratch (length former) c h in go (t .0) c (t .1) (t .2)
     where
-      go : (F : Policy) (c : Counts) → mayMine W file scratch (length former) ≡ accepted F → c ≡ minedCounts W F weights → take (c .size) (mineOutput W file scratch former) ≡ take (c .size) (mineOutput W file scratch other)
+      go : (F : Policy) (c : Counts) → mayMine W file cuts scratch (length former) ≡ accepted F → c ≡ minedCounts W F cuts weights → take (c .size) (mineOutput W file cuts scratch former) ≡ take (c .size) (mineOutput W file cuts scratch other)
       go F c m k =
-          let front : (l : List ℕ) → mayMine W file scratch (length l) ≡ accepted F → take (length (minedBytes W F)) (mineOutput W file scratch l) ≡ minedBytes W F =
-          λ l n. ap (take (length (minedBytes W F))) (output-of file scratch l F n) ∙ take-append-seam (minedBytes W F) (drop (length (minedBytes W F)) l) in
+          let front : (l : List ℕ) → mayMine W file cuts scratch (length l) ≡ accepted F → take (length (minedBytes W F cuts)) (mineOutput W file cuts scratch l) ≡ minedBytes W F cuts =
+          λ l n. ap (take (length (minedBytes W F cuts))) (output-of file cuts scratch l F n) ∙ take-append-seam (minedBytes W F cuts) (drop (length (minedBytes W F cuts)) l) in
           rw k (front former m ∙ sym (front other (rw e at m)))
 
   -- "Mining chooses nothing by cost": with any two weights it is refused for the same cause, or the answers differ at most in the cost, their last
   -- number. The output has no weights to differ by (`mineOutput`)
-  pub weights-free : (file : List ℕ) (weights others : Weights) (scratch room : ℕ)
-      → take 5 (told countValues (mineAnswer W file weights scratch room)) ≡ take 5 (told countValues (mineAnswer W file others scratch room))
+  pub weights-free : (file cuts : List ℕ) (weights others : Weights) (scratch room : ℕ)
+      → take 5 (told countValues (mineAnswer W file cuts weights scratch room)) ≡ take 5 (told countValues (mineAnswer W file cuts others scratch room))
   unfolding mineAnswer minedCounts
-  weights-free file weights others scratch room = go (mayMine W file scratch room)
+  weights-free file cuts weights others scratch room = go (mayMine W file cuts scratch room)
     where
       go : (r : Answer Policy)
-          → take 5 (told countValues (andThen r (λ F. accepted (minedCounts W F weights)))) ≡ take 5 (told countValues (andThen r (λ F. accepted (minedCounts W F others))))
+          → take 5 (told countValues (andThen r (λ F. accepted (minedCounts W F cuts weights)))) ≡ take 5 (told countValues (andThen r (λ F. accepted (minedCounts W F cuts others))))
       go (refused e) = refl
       go (accepted F) = refl
 
   -- the demand, of the policy of any accepted role file
-  pub policy-demand : (file : List ℕ) → Bytes file → (weights : Weights) (F : Policy) → readRoles W file ≡ accepted F → Demand3 W weights (besideOf F) (minedBytes W F) (minedCounts W F weights)
+  pub policy-demand : (file : List ℕ) → Bytes file → (cuts : List ℕ) (weights : Weights) (F : Policy) → readRoles W file ≡ accepted F → Demand3 W cuts weights (besideOf F) (minedBytes W F cuts) (minedCounts W F cuts weights)
   unfolding minedBytes minedCounts
-  policy-demand file b weights F h =
-      demand-3 W (besideOf F) (lawful F) (mined-of F) (encodable W F (carried (Sound W) (readRoles W file) (read-sound W file b) h)) refl weights (minedCounts W F weights) refl refl refl refl refl
+  policy-demand file b cuts weights F h =
+      demand-3 W cuts (besideOf F) (lawful F) (mined-of F cuts) (encodable W F (carried (Sound W) (readRoles W file) (read-sound W file b) h)) refl weights (minedCounts W F cuts weights) refl refl refl refl refl
 
   -- THE THIRD DEMAND: of "the output's first bytes up to the length returned", whatever scratch and output held
-  pub third-demand : (file : List ℕ) → Bytes file → (weights : Weights) (scratch : ℕ) (former : List ℕ) (c : Counts) → mineAnswer W file weights scratch (length former) ≡ accepted c
-      → (F : Policy) × (readRoles W file ≡ accepted F) × Demand3 W weights (besideOf F) (take (c .size) (mineOutput W file scratch former)) c
+  pub third-demand : (file : List ℕ) → Bytes file → (cuts : List ℕ) (weights : Weights) (scratch : ℕ) (former : List ℕ) (c : Counts) → mineAnswer W file cuts weights scratch (length former) ≡ accepted c
+      → (F : Policy) × (readRoles W file ≡ accepted F) × Demand3 W cuts weights (besideOf F) (take (c .size) (mineOutput W file cuts scratch former)) c
   unfolding minedCounts
-  third-demand file b weights scratch former c h = let t = answer-out file weights scratch (length former) c h in go (t .0) c (t .1) (t .2)
+  third-demand file b cuts weights scratch former c h = let t = answer-out file cuts weights scratch (length former) c h in go (t .0) c (t .1) (t .2)
     where
-      go : (F : Policy) (c : Counts) → mayMine W file scratch (length former) ≡ accepted F → c ≡ minedCounts W F weights → (F : Policy) × (readRoles W file ≡ accepted F) × Demand3 W weights (besideOf F) (take (c .size) (mineOutput W file scratch former)) c
+      go : (F : Policy) (c : Counts) → mayMine W file cuts scratch (length former) ≡ accepted F → c ≡ minedCounts W F cuts weights → (F : Policy) × (readRoles W file ≡ accepted F) × Demand3 W cuts weights (besideOf F) (take (c .size) (mineOutput W file cuts scratch former)) c
       go F c m k =
-          let r = mined-out file scratch (length former) F m .reading in
-          let e : take (length (minedBytes W F)) (mineOutput W file scratch former) ≡ minedBytes W F = ap (take (length (minedBytes W F))) (output-of file scratch former F m) ∙ take-append-seam (minedBytes W F) (drop (length (minedBytes W F)) former) in
-          (F, r, rw (k, e) (policy-demand file b weights F r))
+          let r = mined-out file cuts scratch (length former) F m .reading in
+          let e : take (length (minedBytes W F cuts)) (mineOutput W file cuts scratch former) ≡ minedBytes W F cuts = ap (take (length (minedBytes W F cuts))) (output-of file cuts scratch former F m) ∙ take-append-seam (minedBytes W F cuts) (drop (length (minedBytes W F cuts)) former) in
+          (F, r, rw (k, e) (policy-demand file b cuts weights F r))
 
 -- ---- the questions and the judge, of mined bytes
 
@@ -250,9 +253,9 @@ sound-means P R rules h = record {
     nothing-found = none-of (firstDifference P R rules) (firstStrayRule P R rules) (firstStrayPart P R rules) h
 
 -- rules of which the demand holds are sound
-demand-sound : (W : ℕ) (weights : Weights) (B : Beside) (bytes : List ℕ) (c : Counts) (D : Demand3 W weights B bytes c) → verdict (B .setting) (B .roles) (D .rules) ≡ sound
+demand-sound : (W : ℕ) (cuts : List ℕ) (weights : Weights) (B : Beside) (bytes : List ℕ) (c : Counts) (D : Demand3 W cuts weights B bytes c) → verdict (B .setting) (B .roles) (D .rules) ≡ sound
 unfolding verdict firstDifference firstStrayRule firstStrayPart
-demand-sound W weights B bytes c D =
+demand-sound W cuts weights B bytes c D =
     let P = B .setting in
     let R = B .roles in
     rw (
@@ -265,27 +268,29 @@ demand-sound W weights B bytes c D =
     ) refl
 
 module _ (W : ℕ) (file : List ℕ) (b : Bytes file) (F : Policy) (h : readRoles W file ≡ accepted F) where
-  -- the demand by some weights: what it says of the bytes holds by any
-  demanded : Demand3 W fourOnes (besideOf F) (minedBytes W F) (minedCounts W F fourOnes)
-  demanded = policy-demand W file b fourOnes F h
+  -- with any list of cuts
+  module _ (cuts : List ℕ) where
+    -- the demand by some weights: what it says of the bytes holds by any
+    demanded : Demand3 W cuts fourOnes (besideOf F) (minedBytes W F cuts) (minedCounts W F cuts fourOnes)
+    demanded = policy-demand W file b cuts fourOnes F h
 
-  both-read : readBoth W file (minedBytes W F) ≡ accepted (F, demanded .rules)
-  unfolding readBoth
-  both-read = rw (h, demanded .taken) refl
+    both-read : readBoth W file (minedBytes W F cuts) ≡ accepted (F, demanded .rules)
+    unfolding readBoth
+    both-read = rw (h, demanded .taken) refl
 
-  -- the judge finds nothing amiss in mined bytes
-  pub mined-judged : judge W file (minedBytes W F) ≡ accepted sound
-  unfolding judge
-  mined-judged = rw (both-read, demand-sound W fourOnes (besideOf F) (minedBytes W F) (minedCounts W F fourOnes) demanded) refl
+    -- the judge finds nothing amiss in mined bytes
+    pub mined-judged : judge W file (minedBytes W F cuts) ≡ accepted sound
+    unfolding judge
+    mined-judged = rw (both-read, demand-sound W cuts fourOnes (besideOf F) (minedBytes W F cuts) (minedCounts W F cuts fourOnes) demanded) refl
 
-  -- and the rules answer every question as the roles do
-  pub mined-questions : (u r o : ℕ) → ruleQuestion W file (minedBytes W F) u r o ≡ roleQuestion W file u r o
-  unfolding ruleQuestion roleQuestion
-  mined-questions u r o =
-      rw (both-read, h)
-      (test (isTriple (settingOf F) u r o)
-      (λ k. rw (k, demanded .same u r o (triple-of (settingOf F) u r o k)) refl)
-      (λ k. rw k refl))
+    -- and the rules answer every question as the roles do
+    pub mined-questions : (u r o : ℕ) → ruleQuestion W file (minedBytes W F cuts) u r o ≡ roleQuestion W file u r o
+    unfolding ruleQuestion roleQuestion
+    mined-questions u r o =
+        rw (both-read, h)
+        (test (isTriple (settingOf F) u r o)
+        (λ k. rw (k, demanded .same u r o (triple-of (settingOf F) u r o k)) refl)
+        (λ k. rw k refl))
 
   -- seniors are the roles reached by one or more lines 07
   pub seniors-reached : (k s : ℕ) → Senior (F .line) k s → Is (senior F k s)

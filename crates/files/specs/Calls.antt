@@ -3,10 +3,10 @@
 use Prim.Native.Nat.{ℕ, suc, _-_}
 use lib.Dec.{eqb, ltb, leb}
 use lib.ListN.{length, getD, take, drop}
-use mathlib.Core.Bool.{Bool, cond, _&&_, not}
+use mathlib.Core.Bool.{Bool, true, cond, _&&_, not}
 use mathlib.Core.List.{List, [], _∷_, _++_, map}
 use mathlib.Core.Option.{Option, none, some}
-use Rattle.files.specs.Answer.{Answer, numberOf, unless, andThen, beyond, smallScratch, shortOutput, noSuchRule, refused, accepted}
+use Rattle.files.specs.Answer.{Answer, numberOf, unless, andThen, beyond, smallScratch, shortOutput, noSuchRule, badCuts, refused, accepted}
 use Rattle.files.specs.Beside.{shapeOf, besideOf}
 use Rattle.files.specs.RoleFile.{readRoles, readCommands}
 use Rattle.files.specs.RuleFile.{Lines, ruleIn, partsIn, listings, linesOf, encodeFile, readRules}
@@ -19,7 +19,7 @@ use Rattle.policy.specs.Policy.{Policy, settingOf, rolesIn}
 use Rattle.policy.specs.Roles.{Roles, rolesGrant}
 use Rattle.policy.specs.Rules.{Setting, Block, grants, sameBlock, user, resource}
 use Rattle.policy.specs.declared.Weights.{Weights}
-use Rattle.sets.specs.Tests.{iff, any, each, upTo, sum}
+use Rattle.sets.specs.Tests.{iff, all, any, each, upTo, sum}
 
 -- "The result carries length (bytes of the rule file), parts ..., rules ..., merges ... and total cost"; size is 01's length
 pub record Counts : Type 0 where
@@ -105,42 +105,55 @@ module _ (P : Setting) where
     unfoldable pub verdict : List Lines → Verdict
     verdict rules = decided (firstDifference rules) (firstStrayRule rules) (firstStrayPart rules)
 
-    -- the mined rules' lines: "Mined rules stand in group order"
-    unfoldable pub minedLines : List Lines
-    minedLines = map (λ g. linesOf P R (ruleOf P R g) g) (minedGroups P R)
+    -- the lines of the rules mined with these cuts: "Mined rules stand in group order"
+    unfoldable pub minedLines : List ℕ → List Lines
+    minedLines cuts = map (λ g. linesOf P R (ruleOf P R g) g) (minedGroups P R cuts)
+
+-- ---- request 11: "a list of cuts, each from 1 to roles − 1"
+
+-- numbers that "ascend strictly": each is below all that follow
+abbrev pub ascend : List ℕ → Bool
+ascend [] = true
+ascend (c ∷ cs) = all (ltb c) cs && ascend cs
+
+unfoldable pub cutsOk : List ℕ → ℕ → Bool
+cutsOk cuts roles = all (λ c. leb 1 c && ltb c roles) cuts && ascend cuts
 
 -- an operation set is W bytes wide: 2 for 16 operations
 module _ (W : ℕ) where
-  module _ (F : Policy) where
-    -- the rule file that a policy is mined to, and the counts that go with it
+  module _ (F : Policy) (cuts : List ℕ) where
+    -- the rule file that a policy is mined to with these cuts, and the counts that go with it
     unfoldable pub minedBytes : List ℕ
-    minedBytes = encodeFile W (shapeOf F) (minedLines (settingOf F) (rolesIn F))
+    minedBytes = encodeFile W (shapeOf F) (minedLines (settingOf F) (rolesIn F) cuts)
 
     -- the cost is by the weights handed in, over the rules as written: 000, "WSC(Rules) = Σ WSC(ρ)"
     unfoldable pub minedCounts : Weights → Counts
     minedCounts weights = record {
       size = length minedBytes;
       parts = partCount (settingOf F) (rolesIn F);
-      rules = length (minedGroups (settingOf F) (rolesIn F));
-      merges = mergeCount (settingOf F) (rolesIn F);
-      cost = sum (λ g. ruleCost (settingOf F) weights (ruleOf (settingOf F) (rolesIn F) g)) (minedGroups (settingOf F) (rolesIn F));
+      rules = length (minedGroups (settingOf F) (rolesIn F) cuts);
+      merges = mergeCount (settingOf F) (rolesIn F) cuts;
+      cost = sum (λ g. ruleCost (settingOf F) weights (ruleOf (settingOf F) (rolesIn F) g)) (minedGroups (settingOf F) (rolesIn F) cuts);
     }
 
-  -- "8 scratch below 4,096 words of 64 bits; then 1 to 7; then 9 output shorter than the rule file"
-  unfoldable pub mayMine : List ℕ → ℕ → ℕ → Answer Policy
-  mayMine file scratch room =
+  -- "8 scratch below 4,096 words of 64 bits; then 1 to 7; then 9 output shorter than the rule file"; request 11: "21 for
+  -- cuts that do not ascend strictly or are out of range, after 1 to 7 and before 9"
+  unfoldable pub mayMine : List ℕ → List ℕ → ℕ → ℕ → Answer Policy
+  mayMine file cuts scratch room =
       unless (leb 4096 scratch) smallScratch
-      (andThen (readRoles W file) (λ F. unless (leb (length (minedBytes F)) room) shortOutput (accepted F)))
+      (andThen (readRoles W file)
+      (λ F. unless (cutsOk cuts (F .roles)) badCuts (unless (leb (length (minedBytes F cuts)) room) shortOutput (accepted F))))
 
-  -- mining: the counts, from the file, the weights, the words of scratch and the bytes of output. "Mining chooses nothing by cost": whether it is
-  -- refused and what it writes do not look at the weights
-  unfoldable pub mineAnswer : List ℕ → Weights → ℕ → ℕ → Answer Counts
-  mineAnswer file weights scratch room = andThen (mayMine file scratch room) (λ F. accepted (minedCounts F weights))
+  -- mining: the counts, from the file, the cuts, the weights, the words of scratch and the bytes of output. "Mining chooses
+  -- nothing by cost": whether it is refused and what it writes do not look at the weights
+  unfoldable pub mineAnswer : List ℕ → List ℕ → Weights → ℕ → ℕ → Answer Counts
+  mineAnswer file cuts weights scratch room = andThen (mayMine file cuts scratch room) (λ F. accepted (minedCounts F cuts weights))
 
   -- the output memory after mining: "Output is untouched" by a refusal; else the rule file, and behind it the former bytes
-  unfoldable pub mineOutput : List ℕ → ℕ → List ℕ → List ℕ
-  mineOutput file scratch former =
-      elim (mayMine file scratch (length former)) [ refused e ↦ former | accepted F ↦ minedBytes F ++ drop (length (minedBytes F)) former ]
+  unfoldable pub mineOutput : List ℕ → List ℕ → ℕ → List ℕ → List ℕ
+  mineOutput file cuts scratch former =
+      elim (mayMine file cuts scratch (length former))
+      [ refused e ↦ former | accepted F ↦ minedBytes F cuts ++ drop (length (minedBytes F cuts)) former ]
 
   -- "whether the roles grant a given triple, yes or no: 1 to 7, then 5 for a number beyond the sizes"
   unfoldable pub roleQuestion : List ℕ → ℕ → ℕ → ℕ → Answer Bool

@@ -20,8 +20,9 @@ use Rattle.policy.specs.declared.Weights.{Weights}
 use Rattle.sets.specs.Sorted.{Ascending}
 use Rattle.sets.specs.Tests.{Is, _isIn_, sum}
 
--- W bytes for a set of operations; the cost is by these weights; B is what the role file states
-module _ (W : ℕ) (weights : Weights) (B : Beside) where
+-- W bytes for a set of operations; merging is with these cuts, over both stages (request 11); the cost is by these
+-- weights; B is what the role file states
+module _ (W : ℕ) (cuts : List ℕ) (weights : Weights) (B : Beside) where
   abbrev pub P : Setting
   P = B .setting
 
@@ -57,13 +58,13 @@ module _ (W : ℕ) (weights : Weights) (B : Beside) where
     -- request 9: and it is the level written in the rule, "exactly once"
     pub stated : (ls : Lines) → ls isIn rules → levelsIn ls ≡ ruleLevel P (ruleIn P ls) ∷ []
     -- the rules are those of the groups that merging leaves, in their order, and list the groups' parts
-    pub grouped : rules ≡ map (λ g. linesOf P R (ruleOf P R g) g) (minedGroups P R)
-    pub ordered : Ascending (lowPart (partCount P R)) (minedGroups P R)
+    pub grouped : rules ≡ map (λ g. linesOf P R (ruleOf P R g) g) (minedGroups P R cuts)
+    pub ordered : Ascending (lowPart (partCount P R)) (minedGroups P R cuts)
     -- parts = rules + merges
     pub counted : c .parts ≡ c .rules + c .merges
     -- and what is counted: bytes, parts of the role file, rules and merges made, the cost of the rules as written
     pub sized : c .size ≡ length bytes
     pub parted : c .parts ≡ partCount P R
     pub ruled : c .rules ≡ length rules
-    pub merged : c .merges ≡ mergeCount P R
+    pub merged : c .merges ≡ mergeCount P R cuts
     pub costed : c .cost ≡ sum (λ ls. ruleCost P weights (ruleIn P ls)) rules

@@ -45,7 +45,7 @@ section-at : (P : Setting) (ρ : Rule) → Is (ofSection P ρ) → Is (at P 3 ρ
 unfolding ofSection
 section-at P ρ h = and-l (at P 3 ρ) (all (wellFormed P) (ρ .conds)) h
 
-module _ (W : ℕ) (B : Beside) (L : Lawful (B .setting)) (M : MinedRules (B .setting) (B .roles)) (E : Encodable W (B .setting) (B .roles)) where
+module _ (W : ℕ) (cuts : List ℕ) (B : Beside) (L : Lawful (B .setting)) (M : MinedRules (B .setting) (B .roles) cuts) (E : Encodable W (B .setting) (B .roles)) where
   abbrev P : Setting
   P = B .setting
 
@@ -53,7 +53,7 @@ module _ (W : ℕ) (B : Beside) (L : Lawful (B .setting)) (M : MinedRules (B .se
   R = B .roles
 
   -- what a writer asks holds of every group's rule
-  sayable : (g : List ℕ) → g isIn minedGroups P R → Sayable P R (ruleOf P R g) g
+  sayable : (g : List ℕ) → g isIn minedGroups P R cuts → Sayable P R (ruleOf P R g) g
   unfolding ruleOf groupBlock union
   sayable g m = record {
     ascending = written-asc P (attr-numbered W B E) (groupBlock P R g);
@@ -67,46 +67,46 @@ module _ (W : ℕ) (B : Beside) (L : Lawful (B .setting)) (M : MinedRules (B .se
     some-part = let s = M .filled g m in let t = any-out (λ p. partBlock P R p (s .u) (s .r) (s .o)) g (s .inside) in (t .0, t .1);
   }
 
-  mined-taken : length (B .shape) ≡ 6 → readRules W B (encodeFile W (B .shape) (minedLines P R)) ≡ accepted (minedLines P R)
+  mined-taken : length (B .shape) ≡ 6 → readRules W B (encodeFile W (B .shape) (minedLines P R cuts)) ≡ accepted (minedLines P R cuts)
   unfolding minedLines
-  mined-taken six = read-back W B six (map (λ g. linesOf P R (ruleOf P R g) g) (minedGroups P R)) λ ls m.
-      let t = map-out (λ g. linesOf P R (ruleOf P R g) g) (minedGroups P R) m in
+  mined-taken six = read-back W B six (map (λ g. linesOf P R (ruleOf P R g) g) (minedGroups P R cuts)) λ ls m.
+      let t = map-out (λ g. linesOf P R (ruleOf P R g) g) (minedGroups P R cuts) m in
       subst (Writable W B) (sym (t .2)) (writable W B E (ruleOf P R (t .0)) (t .0) (sayable (t .0) (t .1)))
 
   -- a group's lines say its rule, and its parts
-  says-rule : (g : List ℕ) → g isIn minedGroups P R → ruleIn P (linesOf P R (ruleOf P R g) g) ≡ ruleOf P R g
+  says-rule : (g : List ℕ) → g isIn minedGroups P R cuts → ruleIn P (linesOf P R (ruleOf P R g) g) ≡ ruleOf P R g
   says-rule g m = rule-back P R (ruleOf P R g) g (sayable g m) (attr-numbered W B E)
 
-  says-parts : (g : List ℕ) → g isIn minedGroups P R → partsGrant P R (linesOf P R (ruleOf P R g) g) ≡ groupBlock P R g
+  says-parts : (g : List ℕ) → g isIn minedGroups P R cuts → partsGrant P R (linesOf P R (ruleOf P R g) g) ≡ groupBlock P R g
   says-parts g m = parts-back P R (ruleOf P R g) g (M .members g m)
 
   -- what holds of each group's lines holds of all lines mined
-  each-mined : (Q : Lines → Type 0) → ((g : List ℕ) → g isIn minedGroups P R → Q (linesOf P R (ruleOf P R g) g)) → Every Q (minedLines P R)
+  each-mined : (Q : Lines → Type 0) → ((g : List ℕ) → g isIn minedGroups P R cuts → Q (linesOf P R (ruleOf P R g) g)) → Every Q (minedLines P R cuts)
   unfolding minedLines
-  each-mined Q h ls m = let t = map-out (λ g. linesOf P R (ruleOf P R g) g) (minedGroups P R) m in subst Q (sym (t .2)) (h (t .0) (t .1))
+  each-mined Q h ls m = let t = map-out (λ g. linesOf P R (ruleOf P R g) g) (minedGroups P R cuts) m in subst Q (sym (t .2)) (h (t .0) (t .1))
 
-  mined-count : length (minedLines P R) ≡ length (minedGroups P R)
+  mined-count : length (minedLines P R cuts) ≡ length (minedGroups P R cuts)
   unfolding minedLines
-  mined-count = length-map (minedGroups P R) (λ g. linesOf P R (ruleOf P R g) g)
+  mined-count = length-map (minedGroups P R cuts) (λ g. linesOf P R (ruleOf P R g) g)
 
   -- the rule of line list number i
-  rule-at : (i : ℕ) → i < length (minedGroups P R) → ruleIn P (getD (minedLines P R) i []) ≡ ruleOf P R (getD (minedGroups P R) i [])
+  rule-at : (i : ℕ) → i < length (minedGroups P R cuts) → ruleIn P (getD (minedLines P R cuts) i []) ≡ ruleOf P R (getD (minedGroups P R cuts) i [])
   unfolding minedLines
-  rule-at i h = ap (ruleIn P) (getD-map (λ g. linesOf P R (ruleOf P R g) g) (minedGroups P R) [] [] i h) ∙ says-rule (getD (minedGroups P R) i []) (getD-in (minedGroups P R) [] i h)
+  rule-at i h = ap (ruleIn P) (getD-map (λ g. linesOf P R (ruleOf P R g) g) (minedGroups P R cuts) [] [] i h) ∙ says-rule (getD (minedGroups P R cuts) i []) (getD-in (minedGroups P R cuts) [] i h)
 
-  mined-same : (u r o : ℕ) → Triple P u r o → rulesGrant P (minedLines P R) u r o ≡ rolesGrant P R u r o
+  mined-same : (u r o : ℕ) → Triple P u r o → rulesGrant P (minedLines P R cuts) u r o ≡ rolesGrant P R u r o
   unfolding rulesGrant minedLines
   mined-same u r o t =
-      any-map (λ g. linesOf P R (ruleOf P R g) g) (λ ls. grants P (ruleIn P ls) u r o) (minedGroups P R)
-      ∙ any-ext (λ g. grants P (ruleIn P (linesOf P R (ruleOf P R g) g)) u r o) (λ g. grants P (ruleOf P R g) u r o) (minedGroups P R) (λ g m. ap (λ (ρ : Rule). grants P ρ u r o) (says-rule g m))
+      any-map (λ g. linesOf P R (ruleOf P R g) g) (λ ls. grants P (ruleIn P ls) u r o) (minedGroups P R cuts)
+      ∙ any-ext (λ g. grants P (ruleIn P (linesOf P R (ruleOf P R g) g)) u r o) (λ g. grants P (ruleOf P R g) u r o) (minedGroups P R cuts) (λ g m. ap (λ (ρ : Rule). grants P ρ u r o) (says-rule g m))
       ∙ M .triples u r o t
 
   -- THE THEOREM, of any policy whose rules can be written
-  pub demand-3 : length (B .shape) ≡ 6 → (weights : Weights) (c : Counts) → c .size ≡ length (encodeFile W (B .shape) (minedLines P R)) → c .parts ≡ partCount P R → c .rules ≡ length (minedGroups P R) → c .merges ≡ mergeCount P R
-      → c .cost ≡ sum (λ g. ruleCost P weights (ruleOf P R g)) (minedGroups P R) → Demand3 W weights B (encodeFile W (B .shape) (minedLines P R)) c
+  pub demand-3 : length (B .shape) ≡ 6 → (weights : Weights) (c : Counts) → c .size ≡ length (encodeFile W (B .shape) (minedLines P R cuts)) → c .parts ≡ partCount P R → c .rules ≡ length (minedGroups P R cuts) → c .merges ≡ mergeCount P R cuts
+      → c .cost ≡ sum (λ g. ruleCost P weights (ruleOf P R g)) (minedGroups P R cuts) → Demand3 W cuts weights B (encodeFile W (B .shape) (minedLines P R cuts)) c
   unfolding minedLines ruleOf
   demand-3 six weights c size parts rules merges cost = record {
-    rules = minedLines P R;
+    rules = minedLines P R cuts;
     taken = mined-taken six;
     same = mined-same;
     once = λ p l. listed-once p l;
@@ -131,14 +131,14 @@ module _ (W : ℕ) (B : Beside) (L : Lawful (B .setting)) (M : MinedRules (B .se
     costed = cost ∙ sym costs-so;
   }
     where
-      listed-once : (p : ℕ) → p < partCount P R → listings P R (minedLines P R) p ≡ 1
-      listed-once p l = listings-times P R (ruleOf P R) (minedGroups P R) (M .members) p l (M .once p l)
+      listed-once : (p : ℕ) → p < partCount P R → listings P R (minedLines P R cuts) p ≡ 1
+      listed-once p l = listings-times P R (ruleOf P R) (minedGroups P R cuts) (M .members) p l (M .once p l)
 
-      of-section : (g : List ℕ) → g isIn minedGroups P R → Is (ofSection P (ruleOf P R g))
+      of-section : (g : List ℕ) → g isIn minedGroups P R cuts → Is (ofSection P (ruleOf P R g))
       of-section g m = written-of-section P L (groupBlock P R g) (M .fitting g m) (M .filled g m)
 
-      grouped-so : minedLines P R ≡ map (λ g. linesOf P R (ruleOf P R g) g) (minedGroups P R)
+      grouped-so : minedLines P R cuts ≡ map (λ g. linesOf P R (ruleOf P R g) g) (minedGroups P R cuts)
       grouped-so = refl
 
-      costs-so : sum (λ ls. ruleCost P weights (ruleIn P ls)) (minedLines P R) ≡ sum (λ g. ruleCost P weights (ruleOf P R g)) (minedGroups P R)
-      costs-so = sum-map-same (λ g. linesOf P R (ruleOf P R g) g) (λ ls. ruleCost P weights (ruleIn P ls)) (λ g. ruleCost P weights (ruleOf P R g)) (minedGroups P R) (λ g m. ap (ruleCost P weights) (says-rule g m))
+      costs-so : sum (λ ls. ruleCost P weights (ruleIn P ls)) (minedLines P R cuts) ≡ sum (λ g. ruleCost P weights (ruleOf P R g)) (minedGroups P R cuts)
+      costs-so = sum-map-same (λ g. linesOf P R (ruleOf P R g) g) (λ ls. ruleCost P weights (ruleIn P ls)) (λ g. ruleCost P weights (ruleOf P R g)) (minedGroups P R cuts) (λ g m. ap (ruleCost P weights) (says-rule g m))

@@ -35,10 +35,10 @@ module _ (P : Setting) (G H : Block) (same : (u r o : ℕ) → Triple P u r o �
       (λ k. ap accepted (worst-ext (deniedBy G log) (deniedBy H log) (recordCount log) w (λ i l. ap not (same _ _ _ (triple-of P _ _ _ (all-out (ofRecord (isTriple P) log) k (upTo-in l))))))))
 
 -- "For a mined file beside its own role file it is also the count by the roles": of the bytes that mining wrote, whatever memory it was lent
-pub mined-denials : (W : ℕ) (file : List ℕ) → Bytes file → (weights : Weights) (scratch : ℕ) (former : List ℕ) (c : Counts) → mineAnswer W file weights scratch (length former) ≡ accepted c
-    → (log : List ℕ) (w : ℕ) → denialAnswer W file (take (c .size) (mineOutput W file scratch former)) log w ≡ roleDenials W file log w
+pub mined-denials : (W : ℕ) (file : List ℕ) → Bytes file → (cuts : List ℕ) (weights : Weights) (scratch : ℕ) (former : List ℕ) (c : Counts) → mineAnswer W file cuts weights scratch (length former) ≡ accepted c
+    → (log : List ℕ) (w : ℕ) → denialAnswer W file (take (c .size) (mineOutput W file cuts scratch former)) log w ≡ roleDenials W file log w
 unfolding denialAnswer roleDenials readBoth
-mined-denials W file b weights scratch former c h log w =
-    let t = third-demand W file b weights scratch former c h in
+mined-denials W file b cuts weights scratch former c h log w =
+    let t = third-demand W file b cuts weights scratch former c h in
     rw (t .1, t .2 .taken)
     (log-same (settingOf (t .0)) (rulesGrant (settingOf (t .0)) (t .2 .rules)) (rolesGrant (settingOf (t .0)) (rolesIn (t .0))) (t .2 .same) log w)

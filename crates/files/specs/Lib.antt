@@ -5,6 +5,7 @@ pub mod Beside
 pub mod RuleFile
 pub mod RulePart
 pub mod Calls
+pub mod Ordinary
 pub mod Windows
 pub mod Denials
 pub mod Load
@@ -18,6 +19,8 @@ pub mod SoundLaws
 pub mod Demand3
 pub mod DemandLaws
 pub mod CallLaws
+pub mod OrdinaryLaws
+pub mod CutLaws
 pub mod CircleCallLaws
 pub mod RulePartLaws
 pub mod LoadLaws

@@ -38,3 +38,5 @@ pub const WRONG_LEVEL: usize = 18;
 pub const WRONG_WINDOW: usize = 19;
 
 pub const RAGGED_LOG: usize = 20;
+
+pub const BAD_CUTS: usize = 21;

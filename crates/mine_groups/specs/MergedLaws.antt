@@ -27,22 +27,22 @@ sum-map f g h (x ∷ l) e = ap₂ _+_ (e x (List·Memᴰ·head refl)) (sum-map f
 abbrev pub headsIn : ℕ → List ℕ → List ℕ
 headsIn parts t = keep (isHeadAt t) (upTo parts)
 
-module _ (F : Policy) (parts : ℕ) (t : List ℕ) (M : Merged F parts t) where
+module _ (F : Policy) (cuts : List ℕ) (parts : ℕ) (t : List ℕ) (M : Merged F cuts parts t) where
   heads-alive : headsIn parts t ≡ keep (M .groups .alive) (upTo parts)
   heads-alive = keep-ext (isHeadAt t) (M .groups .alive) (upTo parts) (λ i m. M .shown .heads i (upTo-out parts m))
 
-  groups-listed : map (M .groups .group) (keep (M .groups .alive) (upTo parts)) ≡ minedGroups (settingOf F) (rolesIn F)
+  groups-listed : map (M .groups .group) (keep (M .groups .alive) (upTo parts)) ≡ minedGroups (settingOf F) (rolesIn F) cuts
   unfolding groupsIn
   groups-listed = M .left
 
   -- what is listed head by head
-  pub heads-each : {C : Type 0} (f : List ℕ → List C) (h : ℕ → List C) → ((i : ℕ) → i < parts → Is (M .groups .alive i) → h i ≡ f (M .groups .group i)) → each h (headsIn parts t) ≡ each f (minedGroups (settingOf F) (rolesIn F))
+  pub heads-each : {C : Type 0} (f : List ℕ → List C) (h : ℕ → List C) → ((i : ℕ) → i < parts → Is (M .groups .alive i) → h i ≡ f (M .groups .group i)) → each h (headsIn parts t) ≡ each f (minedGroups (settingOf F) (rolesIn F) cuts)
   heads-each f h e = ap (each h) heads-alive ∙ each-map f (M .groups .group) h (keep (M .groups .alive) (upTo parts)) (λ i m. let k = keep-out (M .groups .alive) (upTo parts) m in e i (upTo-out parts (k .0)) (k .1)) ∙ ap (each f) groups-listed
 
   -- what is added up
-  pub heads-sum : (f : List ℕ → ℕ) (h : ℕ → ℕ) → ((i : ℕ) → i < parts → Is (M .groups .alive i) → h i ≡ f (M .groups .group i)) → sum h (headsIn parts t) ≡ sum f (minedGroups (settingOf F) (rolesIn F))
+  pub heads-sum : (f : List ℕ → ℕ) (h : ℕ → ℕ) → ((i : ℕ) → i < parts → Is (M .groups .alive i) → h i ≡ f (M .groups .group i)) → sum h (headsIn parts t) ≡ sum f (minedGroups (settingOf F) (rolesIn F) cuts)
   heads-sum f h e = ap (sum h) heads-alive ∙ sum-map f (M .groups .group) h (keep (M .groups .alive) (upTo parts)) (λ i m. let k = keep-out (M .groups .alive) (upTo parts) m in e i (upTo-out parts (k .0)) (k .1)) ∙ ap (sum f) groups-listed
 
   -- and how many there are
-  pub heads-count : length (headsIn parts t) ≡ length (minedGroups (settingOf F) (rolesIn F))
+  pub heads-count : length (headsIn parts t) ≡ length (minedGroups (settingOf F) (rolesIn F) cuts)
   heads-count = ap length heads-alive ∙ sym (length-map (keep (M .groups .alive) (upTo parts)) (M .groups .group)) ∙ ap length groups-listed

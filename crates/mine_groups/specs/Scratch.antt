@@ -32,16 +32,17 @@ module _ (F : Policy) where
     pub members : (i k : ℕ) → i < parts → k < parts → Is (s .alive i) → elem k (s .group i) ≡ eqb (headIn (restAt t k)) i
     pub low : (i k : ℕ) → i < parts → Is (s .alive i) → Is (elem k (s .group i)) → k < parts
 
-  -- scratch shows the groups that merging leaves
-  pub record Merged (parts : ℕ) (t : List ℕ) : Type 0 where
+  -- scratch shows the groups that merging with these cuts leaves
+  pub record Merged (cuts : List ℕ) (parts : ℕ) (t : List ℕ) : Type 0 where
     pub groups : Groups (List ℕ)
     pub shown : ShowsGroups parts t groups
-    pub left : groupsIn parts groups ≡ minedGroups (settingOf F) (rolesIn F)
+    pub left : groupsIn parts groups ≡ minedGroups (settingOf F) (rolesIn F) cuts
 
--- of so many parts those that are named after role k are those from start k on and before start k + 1
+-- of so many parts those that are named after role k are those from start k on and before start k + 1; a later role starts no earlier
 pub record Started (parts : ℕ) (t starts : List ℕ) : Type 0 where
   pub between : (i k : ℕ) → k < 32 → getD starts k 0 ≤ i → i < getD starts (k + 1) 0 → (i < parts) × (roleAt t i ≡ k)
   pub within : (i : ℕ) → i < parts → (getD starts (roleAt t i) 0 ≤ i) × (i < getD starts (roleAt t i + 1) 0)
+  pub rises : (j k : ℕ) → j ≤ k → k ≤ 32 → getD starts j 0 ≤ getD starts k 0
 
 -- how many parts there are: behind the last role stand all of them
 abbrev pub allParts : List ℕ → ℕ

@@ -1,7 +1,7 @@
 -- The marks of heads in scratch memory: a bit for each part, 64 in a word.
 -- Assumes nothing.
 use Prim.Native.Nat.{ℕ, _/_, _%_, _<_}
-use lib.Dec.{eqb, ltb}
+use lib.Dec.{eqb, ltb, leb}
 use lib.ListN.{length, getD, set}
 use mathlib.Core.Bool.{Bool, false, _&&_, not}
 use mathlib.Core.List.{List}
@@ -23,21 +23,25 @@ isMarked marks k = bit (getD marks (k / 64) 0) (k % 64)
 abbrev pub unmarked : List ℕ → ℕ → List ℕ
 unmarked marks j = set marks (j / 64) (maskOf 64 (λ k. bit (getD marks (j / 64) 0) k && not (eqb k (j % 64))))
 
--- one of so many parts is the head of a group
-abbrev pub isHeadOf : ℕ → List ℕ → ℕ → Bool
-isHeadOf parts t k = ltb k parts && isHeadAt t k
+-- part k is in the window: from `first` on and before `end`
+abbrev pub inWindow : ℕ → ℕ → ℕ → Bool
+inWindow first end k = leb first k && ltb k end
 
--- the heads are marked, and nothing else
-pub record Marked (parts : ℕ) (marks t : List ℕ) : Type 0 where
+-- it is the head of a group as well
+abbrev pub isHeadOf : ℕ → ℕ → List ℕ → ℕ → Bool
+isHeadOf first end t k = inWindow first end k && isHeadAt t k
+
+-- the heads in the window are marked, and nothing else
+pub record Marked (first end : ℕ) (marks t : List ℕ) : Type 0 where
   pub long : length marks ≡ markWords
-  pub right : (k : ℕ) → isMarked marks k ≡ isHeadOf parts t k
+  pub right : (k : ℕ) → isMarked marks k ≡ isHeadOf first end t k
 
--- only parts are marked
+-- no part from `end` on is marked
 abbrev pub MarkedBelow : ℕ → List ℕ → Type 0
-MarkedBelow parts marks = (k : ℕ) → Is (isMarked marks k) → k < parts
+MarkedBelow end marks = (k : ℕ) → Is (isMarked marks k) → k < end
 
--- heads are marked, and among them all that reach the group of part c
-pub record Open (parts : ℕ) (marks t : List ℕ) (c : ℕ) : Type 0 where
+-- heads in the window are marked, and among them all that reach the group of part c
+pub record Open (first end : ℕ) (marks t : List ℕ) (c : ℕ) : Type 0 where
   pub long : length marks ≡ markWords
-  pub heads : (k : ℕ) → Is (isMarked marks k) → Is (isHeadOf parts t k)
-  pub far : (k : ℕ) → (k ≡ c → ⊥) → Is (isHeadOf parts t k) → isMarked marks k ≡ false → reaches (wordsAt t k) (wordsAt t c) ≡ false
+  pub heads : (k : ℕ) → Is (isMarked marks k) → Is (isHeadOf first end t k)
+  pub far : (k : ℕ) → (k ≡ c → ⊥) → Is (isHeadOf first end t k) → isMarked marks k ≡ false → reaches (wordsAt t k) (wordsAt t c) ≡ false

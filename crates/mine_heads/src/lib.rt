@@ -1,12 +1,13 @@
 // The marks of the heads in scratch memory, and which heads are open: those that could be joined with a group. A bit for each part, bit
 // k % 64 of word k / 64.
+ghost use lib.Dec.{ltb};
 ghost use lib.ListN.{length};
 ghost use mathlib.Core.Bool.{_&&_};
 ghost use mathlib.Core.Path.{_≡_};
 ghost use Prim.Native.Nat.{ℕ, _+_, _*_, _-_, _≤_, _<_, min};
-ghost use Rattle.mine_heads.specs.Heads.{markWords, isHeadOf, isMarked, Marked, Open, unmarked};
+ghost use Rattle.mine_heads.specs.Heads.{markWords, isMarked, Marked, Open, unmarked};
 ghost use Rattle.mine_corners.specs.Pairing.{wordsIn, reaches};
-ghost use Rattle.mine_parts.specs.Layout.{mostParts, roomIn, wordsAt};
+ghost use Rattle.mine_parts.specs.Layout.{mostParts, roomIn, wordsAt, isHeadAt};
 ghost use Rattle.sets.specs.Sets.{bit, maskOf};
 ghost use Rattle.sets.specs.Tests.{Is};
 use mine_corners::Group;
@@ -15,6 +16,12 @@ use mine_corners::Group;
 pub type Marks = [u64; WORDS];
 
 pub const WORDS: usize = mine_parts::MOST / 64;
+
+// The parts from one number on and before another: those among which groups are merged.
+pub struct Window {
+    pub first: usize,
+    pub end: usize,
+}
 
 // How many of so many parts have their mark in a word.
 fn marks_in(parts: usize, word: usize) -> usize
@@ -30,10 +37,10 @@ fn marks_in(parts: usize, word: usize) -> usize
     parts - 64 * word
 }
 
-// The heads among the parts of a word of marks.
+// The heads among so many parts whose marks are in a word.
 fn heads_in(scratch: &[u64], parts: usize, word: usize) -> u64
     requires { ⌜ (word < markWords) × (parts ≤ roomIn (now scratch)) ⌝ }
-    ensures { λ m. ⌜ m ≡ maskOf 64 (λ k. isHeadOf parts (now (scratch .entry)) (64 * word + k)) ⌝ }
+    ensures { λ m. ⌜ m ≡ maskOf 64 (λ k. ltb (64 * word + k) parts && isHeadAt (now (scratch .entry)) (64 * word + k)) ⌝ }
 {
     let end = marks_in(parts, word);
     let mut m: u64 = 0;
@@ -45,13 +52,14 @@ fn heads_in(scratch: &[u64], parts: usize, word: usize) -> u64
     m
 }
 
-// Marks every head, whatever the table held: bit k % 64 of word k / 64. A slice, since only a slice tells its length to a proof.
-pub fn mark(scratch: &[u64], parts: usize, heads: &mut [u64])
-    requires { ⌜ (length (now heads) ≡ markWords) × (parts ≤ roomIn (now scratch)) ⌝ }
-    ensures { λ _. ⌜ Marked parts (now (heads .exit)) (now (scratch .entry)) ⌝ }
+// Marks every head of a window, whatever the table held: bit k % 64 of word k / 64. A slice, since only a slice tells its length to a proof.
+pub fn mark(scratch: &[u64], window: Window, heads: &mut [u64])
+    requires { ⌜ (length (now heads) ≡ markWords) × (window .end ≤ roomIn (now scratch)) ⌝ }
+    ensures { λ _. ⌜ Marked (window .first) (window .end) (now (heads .exit)) (now (scratch .entry)) ⌝ }
 {
     for word in 0..WORDS {
-        heads[word] = heads_in(scratch, parts, word);
+        let passed = sets::below(marks_in(window.first, word));
+        heads[word] = sets::without(heads_in(scratch, window.end, word), passed);
     }
 }
 
@@ -91,11 +99,11 @@ fn reaching(scratch: &[u64], marked: u64, word: usize, g: Group) -> u64
 }
 
 // Into a slice, since only a slice tells its length to a proof.
-fn fill_open(scratch: &[u64], parts: usize, heads: &Marks, c: usize, ready: &mut [u64])
+fn fill_open(scratch: &[u64], window: Window, heads: &Marks, c: usize, ready: &mut [u64])
     requires { ⌜
-        (c < parts) × (parts ≤ roomIn (now scratch)) × (length (now ready) ≡ markWords)
-        × Marked parts (now heads) (now scratch) ⌝ }
-    ensures { λ _. ⌜ Open parts (now (ready .exit)) (now (scratch .entry)) c ⌝ }
+        (c < window .end) × (window .end ≤ roomIn (now scratch)) × (length (now ready) ≡ markWords)
+        × Marked (window .first) (window .end) (now heads) (now scratch) ⌝ }
+    ensures { λ _. ⌜ Open (window .first) (window .end) (now (ready .exit)) (now (scratch .entry)) c ⌝ }
 {
     let g = mine_parts::group_at(scratch, c);
     for word in 0..WORDS {
@@ -103,10 +111,13 @@ fn fill_open(scratch: &[u64], parts: usize, heads: &Marks, c: usize, ready: &mut
     }
 }
 
-// Marks the heads that reach part c's group, whatever the table held: no other can be joined with it.
-pub fn mark_open(scratch: &[u64], parts: usize, heads: &Marks, c: usize, ready: &mut Marks)
-    requires { ⌜ (c < parts) × (parts ≤ roomIn (now scratch)) × Marked parts (now heads) (now scratch) ⌝ }
-    ensures { λ _. ⌜ Open parts (now (ready .exit)) (now (scratch .entry)) c ⌝ }
+// Marks the heads of a window that reach part c's group, whatever the table held: no other of them can be joined with it.
+pub fn mark_open(scratch: &[u64], window: Window, heads: &Marks, c: usize, ready: &mut Marks)
+    requires { ⌜
+        (c < window .end)
+        × (window .end ≤ roomIn (now scratch))
+        × Marked (window .first) (window .end) (now heads) (now scratch) ⌝ }
+    ensures { λ _. ⌜ Open (window .first) (window .end) (now (ready .exit)) (now (scratch .entry)) c ⌝ }
 {
-    fill_open(scratch, parts, heads, c, ready);
+    fill_open(scratch, window, heads, c, ready);
 }

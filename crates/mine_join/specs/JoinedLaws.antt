@@ -12,7 +12,7 @@ use mathlib.Core.Path.{_≡_, refl, sym, ap, _∙_, ap₂, subst}
 use native.Mathlib.Omega.{arith}
 use Rattle.mine_matches.specs.Matches.{Met, bothMembers, SidesMet}
 use Rattle.mine_heads.specs.HeadLaws.{unmarked-at}
-use Rattle.mine_heads.specs.Heads.{isMarked, unmarked, Marked, Open}
+use Rattle.mine_heads.specs.Heads.{inWindow, isMarked, unmarked, Marked, Open}
 use Rattle.mine_join.specs.Joins.{TakenIn, Joined, Joinable, Resolved}
 use Rattle.mine_search.specs.SearchMetLaws.{beside-met, group-begun}
 use Rattle.mine_search.specs.PartnerSearch.{GroupMet}
@@ -111,10 +111,10 @@ module _ {t u : List ℕ} {i j level : ℕ} (order : i < j) (J : Joined t u i j 
       other di dj = ap (λ (y : ℕ). eqb (headIn y) k) (J .others k di dj) ∙ sym (ap (λ (b : Bool). isHeadAt t k && not b) (ne-eqb k j dj) ∙ and-true (isHeadAt t k))
 
 -- a join takes the mark of j away
-pub marks-joined : {parts : ℕ} {t u marks new : List ℕ} {i j level : ℕ} → i < j → j < mostParts → Joined t u i j level → Is (isHeadAt t i) → Marked parts marks t → new ≡ unmarked marks j → Marked parts new u
-marks-joined {parts} {t} {u} {marks} {new} {i} {j} order l J a M e = rw e (record {
+pub marks-joined : {first end : ℕ} {t u marks new : List ℕ} {i j level : ℕ} → i < j → j < mostParts → Joined t u i j level → Is (isHeadAt t i) → Marked first end marks t → new ≡ unmarked marks j → Marked first end new u
+marks-joined {first} {end} {t} {u} {marks} {new} {i} {j} order l J a M e = rw e (record {
   long = length-set marks (j / 64) (maskOf 64 (λ x. bit (getD marks (j / 64) 0) x && not (eqb x (j % 64)))) ∙ M .long;
-  right = λ k. unmarked-at marks j k (M .long) l ∙ ap (λ (b : Bool). b && not (eqb k j)) (M .right k) ∙ and-assoc (ltb k parts) (isHeadAt t k) (not (eqb k j)) ∙ ap (λ (b : Bool). ltb k parts && b) (sym (joined-head order J a k));
+  right = λ k. unmarked-at marks j k (M .long) l ∙ ap (λ (b : Bool). b && not (eqb k j)) (M .right k) ∙ and-assoc (inWindow first end k) (isHeadAt t k) (not (eqb k j)) ∙ ap (λ (b : Bool). inWindow first end k && b) (sym (joined-head order J a k));
 })
 
 -- ---- which heads are open then
@@ -156,21 +156,21 @@ module _ {t u : List ℕ} {i j level : ℕ} (order : i < j) (l : j < mostParts) 
       (λ e. rw e (second-within (resourcesAt t i) (resourcesAt t j) (subst (λ (x : ℕ). resourcesAt t x < 2 ^ 64) e h))) one)
 
   -- a join that adds no operations leaves the heads open that were, but for j
-  pub open-joined : {parts : ℕ} (marks new : List ℕ) → usersAt t c < 2 ^ 64 → resourcesAt t c < 2 ^ 64 → operationsAt u i ≡ operationsAt t c → new ≡ unmarked marks j → Open parts marks t c → Open parts new u i
-  open-joined {parts} marks new hu hr same e O = rw e (record {
+  pub open-joined : {first end : ℕ} (marks new : List ℕ) → usersAt t c < 2 ^ 64 → resourcesAt t c < 2 ^ 64 → operationsAt u i ≡ operationsAt t c → new ≡ unmarked marks j → Open first end marks t c → Open first end new u i
+  open-joined {first} {end} marks new hu hr same e O = rw e (record {
     long = length-set marks (j / 64) (maskOf 64 (λ x. bit (getD marks (j / 64) 0) x && not (eqb x (j % 64)))) ∙ O .long;
     heads = λ k m.
         let b = sym (unmarked-at marks j k (O .long) l) ∙ m in
         let o = O .heads k (and-l (isMarked marks k) _ b) in
-        and-in (and-l (ltb k parts) (isHeadAt t k) o) (joined-head order J a k ∙ and-in (and-r (ltb k parts) (isHeadAt t k) o) (and-r (isMarked marks k) _ b));
+        and-in (and-l (inWindow first end k) (isHeadAt t k) o) (joined-head order J a k ∙ and-in (and-r (inWindow first end k) (isHeadAt t k) o) (and-r (isMarked marks k) _ b));
     far = λ k d b m.
-        let w = sym (joined-head order J a k) ∙ and-r (ltb k parts) (isHeadAt u k) b in
+        let w = sym (joined-head order J a k) ∙ and-r (inWindow first end k) (isHeadAt u k) b in
         let dj = eqb-false k j (not-true (eqb k j) (and-r (isHeadAt t k) _ w)) in
         let closed : isMarked marks k ≡ false = sym (ap (λ (x : Bool). isMarked marks k && not x) (ne-eqb k j dj) ∙ and-true (isMarked marks k)) ∙ sym (unmarked-at marks j k (O .long) l) ∙ m in
         let K = J .kept k d in
         let r = J .others k d dj in
         ap (λ (X : Words). reaches X (wordsAt u i)) (alike K r)
-        ∙ reach-grows (wordsAt t k) (wordsAt t c) (wordsAt u i) same (users-grow hu) (resources-grow hr) (O .far k (λ z. ⊎-elim (λ q. d (z ∙ q)) (λ q. dj (z ∙ q)) one) (and-in (and-l (ltb k parts) (isHeadAt u k) b) (and-l (isHeadAt t k) _ w)) closed);
+        ∙ reach-grows (wordsAt t k) (wordsAt t c) (wordsAt u i) same (users-grow hu) (resources-grow hr) (O .far k (λ z. ⊎-elim (λ q. d (z ∙ q)) (λ q. dj (z ∙ q)) one) (and-in (and-l (inWindow first end k) (isHeadAt u k) b) (and-l (isHeadAt t k) _ w)) closed);
   })
     where
       alike : {k : ℕ} → Kept t u k → restAt u k ≡ restAt t k → wordsAt u k ≡ wordsAt t k
@@ -194,8 +194,8 @@ module _ (matches : List ℕ) where
 
 -- ---- two heads in order
 
-pub in-order : {parts : ℕ} {t : List ℕ} {c k level i j : ℕ} → Joinable parts t c k level → i ≡ min c k → j ≡ max c k → (i < j) × (j < parts) × Is (isHeadAt t i)
-in-order {parts} {t} J e f = let o = J .order in let b = J .below in (omega arith, omega arith, subst (λ (x : ℕ). Is (isHeadAt t x)) (sym e) (J .head))
+pub in-order : {end : ℕ} {t : List ℕ} {c k level i j : ℕ} → Joinable end t c k level → i ≡ min c k → j ≡ max c k → (i < j) × (j < end) × Is (isHeadAt t i)
+in-order {end} {t} J e f = let o = J .order in let b = J .below in (omega arith, omega arith, subst (λ (x : ℕ). Is (isHeadAt t x)) (sym e) (J .head))
 
 pub joined-same : {t u : List ℕ} {i j y level : ℕ} → j ≡ y → Joined t u i j level → Joined t u i y level
 joined-same {t} {u} {i} {j} {y} {level} f J = subst (λ (k : ℕ). Joined t u i k level) f J

@@ -39,14 +39,14 @@ pub record Resolved (parts : ℕ) (t u : List ℕ) : Type 0 where
   pub named : (k : ℕ) → k < parts → headIn (restAt t k) < k → headIn (restAt u k) ≡ headIn (restAt u (headIn (restAt t k)))
 
 -- c and k, which may be joined: in order they are the head of a group and a later part
-pub record Joinable (parts : ℕ) (t : List ℕ) (c k level : ℕ) : Type 0 where
+pub record Joinable (end : ℕ) (t : List ℕ) (c k level : ℕ) : Type 0 where
   pub order : min c k < max c k
-  pub below : max c k < parts
+  pub below : max c k < end
   pub low : level < 4
   pub head : Is (isHeadAt t (min c k))
 
--- the marks and the table are those of the group of c
-pub record Prepared (parts : ℕ) (matches t heads ready met : List ℕ) (c : ℕ) : Type 0 where
-  pub marks : Marked parts heads t
+-- the marks, of the heads in a window, and the table are those of the group of c
+pub record Prepared (first end : ℕ) (matches t heads ready met : List ℕ) (c : ℕ) : Type 0 where
+  pub marks : Marked first end heads t
   pub group : GroupMet matches t c met
-  pub reach : Open parts ready t c
+  pub reach : Open first end ready t c

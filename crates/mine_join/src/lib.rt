@@ -12,6 +12,7 @@ ghost use Rattle.mine_parts.specs.Layout.{roomIn, wordsAt, isHeadAt};
 ghost use Rattle.sets.specs.Tests.{Is};
 use mine_corners::Group;
 use mine_heads::Marks;
+use mine_heads::Window;
 use mine_parts::PartWords;
 use mine_search::Found;
 use role_record::ByAttribute;
@@ -44,11 +45,12 @@ fn join(scratch: &mut [u64], i: usize, j: usize, level: usize)
     mine_parts::take_head(scratch, j, i);
 }
 
-// Marks the heads that reach the group of head i after that of head j was joined to it, where those of one of the two are marked. Its words were
-// g. With more users and resources, but no more operations, it is not reached by a group that did not reach it before: then only j goes.
+// Marks the heads of a window that reach the group of head i after that of head j was joined to it, where those of one of the two are marked.
+// Its words were g. With more users and resources, but no more operations, it is not reached by a group that did not reach it before: then
+// only j goes.
 fn mark_again(
     scratch: &[u64],
-    parts: usize,
+    window: Window,
     heads: &Marks,
     g: Group,
     i: usize,
@@ -56,27 +58,30 @@ fn mark_again(
     ready: &mut Marks,
 )
     requires { ⌜
-        (i < j) × (j < parts) × (parts ≤ roomIn (now scratch)) × Marked parts (now heads) (now scratch) ⌝ }
+        (i < j)
+        × (j < window .end)
+        × (window .end ≤ roomIn (now scratch))
+        × Marked (window .first) (window .end) (now heads) (now scratch) ⌝ }
     ensures { λ _. ⌜
         ((t : List ℕ) (c level : ℕ)
         → Joined t (now (scratch .entry)) i j level
         → Is (isHeadAt t i)
         → (c ≡ i) ⊎ (c ≡ j)
         → wordsIn g ≡ wordsAt t c
-        → Open parts (now (ready .entry)) t c
-        → Open parts (now (ready .exit)) (now (scratch .entry)) i) ⌝ }
+        → Open (window .first) (window .end) (now (ready .entry)) t c
+        → Open (window .first) (window .end) (now (ready .exit)) (now (scratch .entry)) i) ⌝ }
 {
     if mine_parts::operations_at(scratch, i) == g.operations {
         mine_heads::unmark(ready, j);
         return;
     }
-    mine_heads::mark_open(scratch, parts, heads, i, ready);
+    mine_heads::mark_open(scratch, window, heads, i, ready);
 }
 
 // Makes the marks and the table those of part c's group, whatever the marks were, and where the table is that of nobody.
 pub fn prepare(
     scratch: &[u64],
-    parts: usize,
+    window: Window,
     heads: &Marks,
     ready: &mut Marks,
     met: &mut ByAttribute,
@@ -84,25 +89,25 @@ pub fn prepare(
     c: usize,
 )
     requires { ⌜
-        (c < parts)
-        × (parts ≤ roomIn (now scratch))
-        × Marked parts (now heads) (now scratch)
+        (c < window .end)
+        × (window .end ≤ roomIn (now scratch))
+        × Marked (window .first) (window .end) (now heads) (now scratch)
         × SidesMet (now matches) 0 0 (now met) ⌝ }
     ensures { λ _. ⌜
-        Prepared parts (now (matches .entry)) (now (scratch .entry)) (now (heads .entry)) (now (ready .exit))
-        (now (met .exit)) c ⌝ }
+        Prepared (window .first) (window .end) (now (matches .entry)) (now (scratch .entry)) (now (heads .entry))
+        (now (ready .exit)) (now (met .exit)) c ⌝ }
 {
     let users = mine_parts::users_at(scratch, c);
     let resources = mine_parts::resources_at(scratch, c);
     mine_widen::widen(matches, users, resources, met);
-    mine_heads::mark_open(scratch, parts, heads, c, ready);
+    mine_heads::mark_open(scratch, window, heads, c, ready);
 }
 
 // Joins the group of head c and that of the head found, and makes the marks and the table those of the group that comes of it: its
 // head.
 pub fn join_found(
     scratch: &mut [u64],
-    parts: usize,
+    window: Window,
     heads: &mut Marks,
     ready: &mut Marks,
     met: &mut ByAttribute,
@@ -111,16 +116,16 @@ pub fn join_found(
     found: Found,
 ) -> usize
     requires { ⌜
-        (c < parts)
-        × (found .head < parts)
-        × (parts ≤ roomIn (now scratch))
-        × Joinable parts (now scratch) c (found .head) (found .level)
-        × Prepared parts (now matches) (now scratch) (now heads) (now ready) (now met) c ⌝ }
+        (c < window .end)
+        × (found .head < window .end)
+        × (window .end ≤ roomIn (now scratch))
+        × Joinable (window .end) (now scratch) c (found .head) (found .level)
+        × Prepared (window .first) (window .end) (now matches) (now scratch) (now heads) (now ready) (now met) c ⌝ }
     ensures { λ i. ⌜
         (i ≡ min c (found .head))
         × Joined (now (scratch .entry)) (now (scratch .exit)) i (max c (found .head)) (found .level)
-        × Prepared parts (now (matches .entry)) (now (scratch .exit)) (now (heads .exit)) (now (ready .exit))
-        (now (met .exit)) i ⌝ }
+        × Prepared (window .first) (window .end) (now (matches .entry)) (now (scratch .exit)) (now (heads .exit))
+        (now (ready .exit)) (now (met .exit)) i ⌝ }
 {
     let users = mine_parts::users_at(scratch, found.head);
     let resources = mine_parts::resources_at(scratch, found.head);
@@ -130,7 +135,7 @@ pub fn join_found(
     let g = mine_parts::group_at(scratch, c);
     join(scratch, i, j, found.level);
     mine_heads::unmark(heads, j);
-    mark_again(scratch, parts, heads, g, i, j, ready);
+    mark_again(scratch, window, heads, g, i, j, ready);
     i
 }
 

@@ -16,7 +16,7 @@ use Rattle.mine_groups.specs.Scratch.{blocksOf}
 use Rattle.mine_merge.specs.FilledLaws.{count-tabled, part-tabled}
 use Rattle.mine_merge.specs.PairLaws.{level-most}
 use Rattle.mine_merge.specs.Steps.{Tables}
-use Rattle.mine_merge.specs.Traced.{Traced}
+use Rattle.mine_merge.specs.Traced.{Traced, alone}
 use Rattle.mine_pairs.specs.PairLevelLaws.{group-means}
 use Rattle.mine_pairs.specs.PairLevels.{groupLevel}
 use Rattle.mine_parts.specs.Layout.{usersAt, resourcesAt, operationsAt, restAt, atomsIn, levelIn, nameIn, headIn, restOf, nameOf, wordsAt}
@@ -35,10 +35,6 @@ use Rattle.policy.specs.Rules.{Block, Some}
 use Rattle.role_record.specs.Record.{Sized, recordOf}
 use Rattle.sets.specs.MaskLaws.{mask-lt}
 use Rattle.sets.specs.Tests.{Is, _isIn_, elem}
-
--- every part alone
-unfoldable pub alone : Groups (List ℕ)
-alone = record { alive = λ i. true; group = λ i. i ∷ [] }
 
 -- the words of a part
 part-words : (F : Policy) → Sized F → (k : ℕ) → k < partCount (settingOf F) (rolesIn F)

@@ -157,15 +157,26 @@ module _ (links matches known attributes holders permissions : List ℕ) (users 
       let z = inside i j h (omega arith) (omega arith) .1 in
       subst (λ (m : ℕ). (getD starts m 0 ≤ i) × (i < getD starts (m + 1) 0)) (sym z) (omega arith, omega arith)
 
+  -- a later role starts no earlier
+  rise : (j k : ℕ) → j ≤ k → k ≤ 32 → getD starts j 0 ≤ getD starts k 0
+  rise j k a b =
+      let x = s j (omega arith) in
+      let y = s k (omega arith) in
+      let r = starts-rise holders permissions operations j (k - j) in
+      let z : j + (k - j) ≡ k = omega arith in
+      let e = ap count z in
+      omega arith
+
   -- THE LAW of the starts
   pub starts-filled : Started n t starts
-  starts-filled = record { between = inside; within = λ i h. there i (found holders permissions operations i 32 (omega arith)) }
+  starts-filled = record { between = inside; within = λ i h. there i (found holders permissions operations i 32 (omega arith)); rises = rise }
 
 -- they stay where every part keeps its name
 pub started-kept : {n : ℕ} {t u starts : List ℕ} → Started n t starts → ((i : ℕ) → i < n → nameIn (restAt u i) ≡ nameIn (restAt t i)) → Started n u starts
 started-kept {n} {t} {u} {starts} S k = record {
   between = λ i r h a b. let o = S .between i r h a b in (o .0, role-kept i (o .0) ∙ o .1);
   within = λ i h. subst (λ (m : ℕ). (getD starts m 0 ≤ i) × (i < getD starts (m + 1) 0)) (sym (role-kept i h)) (S .within i h);
+  rises = S .rises;
 }
   where
     role-kept : (i : ℕ) → i < n → roleAt u i ≡ roleAt t i

@@ -1,6 +1,6 @@
 -- How many heads there are: a join leaves fewer.
 -- Assumes nothing.
-use Prim.Native.Nat.{ℕ, _+_, _≤_, _<_, suc}
+use Prim.Native.Nat.{ℕ, _≤_, _<_, suc}
 use borrow.Author.Tests.{eq-eqb}
 use lib.Dec.{eqb}
 use lib.ListN.{length}
@@ -12,7 +12,7 @@ use native.Mathlib.Omega.{arith}
 use Rattle.mine_merge.specs.Steps.{headCount}
 use Rattle.mine_join.specs.JoinedLaws.{joined-head}
 use Rattle.mine_join.specs.Joins.{Joined}
-use Rattle.mine_parts.specs.Layout.{isHeadAt}
+use Rattle.mine_parts.specs.Layout.{mostParts, isHeadAt}
 use Rattle.sets.specs.ListLaws.{keep-most, from-length}
 use Rattle.sets.specs.TestLaws.{never, and-l, upTo-in}
 use Rattle.sets.specs.Tests.{Is, keep, upTo, _isIn_}
@@ -42,19 +42,18 @@ keep-fewer f g (x ∷ xs) j m h p q = here (List·Memᴰ·cases-cons m) (λ k. k
     here (inl e) r = let most = keep-within f g xs (λ k m. h k (List·Memᴰ·tail m)) in rw (← e, p, q) (omega arith)
     here (inr k) r = go (f x) (g x) (h x (List·Memᴰ·head refl)) (r k)
 
--- at most as many as there are parts
-pub heads-most : (parts : ℕ) (t : List ℕ) → headCount parts t ≤ parts
-unfolding headCount
-heads-most parts t = let m = keep-most (isHeadAt t) (upTo parts) in let n = from-length 0 parts in omega (arith, m, n)
+-- at most as many as there may be parts
+among-most : (f : ℕ → Bool) (n : ℕ) → length (keep f (upTo n)) ≤ n
+among-most f n = let m = keep-most f (upTo n) in let e = from-length 0 n in omega (arith, m, e)
 
--- with none merged yet
-pub heads-first : (parts : ℕ) (t : List ℕ) → 0 + headCount parts t ≤ parts
-heads-first parts t = let m = heads-most parts t in omega arith
+pub heads-most : (t : List ℕ) → headCount t ≤ mostParts
+unfolding headCount
+heads-most t = among-most (isHeadAt t) mostParts
 
 -- a join leaves fewer heads
-pub heads-fewer : {t u : List ℕ} {parts i j level : ℕ} → i < j → Joined t u i j level → Is (isHeadAt t i) → j < parts → Is (isHeadAt t j) → suc (headCount parts u) ≤ headCount parts t
+pub heads-fewer : {t u : List ℕ} {i j level : ℕ} → i < j → Joined t u i j level → Is (isHeadAt t i) → j < mostParts → Is (isHeadAt t j) → suc (headCount u) ≤ headCount t
 unfolding headCount
-heads-fewer {t} {u} {parts} {i} {j} order J a l b =
-    keep-fewer (isHeadAt t) (isHeadAt u) (upTo parts) j (upTo-in l)
+heads-fewer {t} {u} {i} {j} order J a l b =
+    keep-fewer (isHeadAt t) (isHeadAt u) (upTo mostParts) j (upTo-in l)
     (λ k m p. and-l (isHeadAt t k) (not (eqb k j)) (sym (joined-head order J a k) ∙ p)) b
     (joined-head order J a j ∙ ap (λ (b : Bool). isHeadAt t j && not b) (eq-eqb j j refl) ∙ and-false (isHeadAt t j))

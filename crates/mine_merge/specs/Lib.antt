@@ -8,3 +8,4 @@ pub mod FilledLaws
 pub mod AloneLaws
 pub mod ResolveLaws
 pub mod ProgressLaws
+pub mod RunLaws

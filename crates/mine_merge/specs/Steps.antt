@@ -1,4 +1,4 @@
--- The tables by which groups are merged, and how many groups there are.
+-- The tables by which groups are merged, and how many heads there are.
 -- Assumes nothing.
 use Prim.Native.Nat.{ℕ}
 use lib.ListN.{length}
@@ -8,7 +8,7 @@ use Rattle.grant_grids.specs.Links.{linksOf}
 use Rattle.role_record.specs.Record.{recordOf}
 use Rattle.mine_matches.specs.Matches.{knownIn, matchesIn}
 use Rattle.policy.specs.Policy.{Policy}
-use Rattle.mine_parts.specs.Layout.{isHeadAt}
+use Rattle.mine_parts.specs.Layout.{mostParts, isHeadAt}
 use Rattle.sets.specs.Tests.{keep, upTo}
 
 -- the tables by which pairs are tested are those of the policy
@@ -34,6 +34,6 @@ pub record Tables (F : Policy) (links matches known attributes holders permissio
   pub of-operations : operations ≡ recordOf F .operations
   pub of-roles : roles ≡ recordOf F .roles
 
--- how many groups of so many parts there are
-unfoldable pub headCount : ℕ → List ℕ → ℕ
-headCount parts t = length (keep (isHeadAt t) (upTo parts))
+-- how many parts name themselves, of as many as there may be
+unfoldable pub headCount : List ℕ → ℕ
+headCount t = length (keep (isHeadAt t) (upTo mostParts))

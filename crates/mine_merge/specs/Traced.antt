@@ -3,8 +3,8 @@
 -- Assumes nothing.
 use Prim.Native.Nat.{ℕ, _≤_, _<_}
 use lib.Dec.{eqb}
-use mathlib.Core.Bool.{Bool, cond}
-use mathlib.Core.List.{List}
+use mathlib.Core.Bool.{Bool, true, cond}
+use mathlib.Core.List.{List, [], _∷_}
 use mathlib.Core.Path.{_≡_}
 use Rattle.mine_theory.specs.Search.Frontier.{Groups}
 use Rattle.policy.specs.Covering.{fits, levelOf}
@@ -33,3 +33,7 @@ module _ (F : Policy) where
     pub earlier : (k : ℕ) → k < parts → headIn (restAt t k) ≤ k
     pub members : (i k : ℕ) → i < parts → k < parts → Is (s .alive i) → elem k (s .group i) ≡ tracedTo t (s .group i) i k
     pub low : (i k : ℕ) → i < parts → Is (s .alive i) → Is (elem k (s .group i)) → k < parts
+
+-- every part alone
+unfoldable pub alone : Groups (List ℕ)
+alone = record { alive = λ i. true; group = λ i. i ∷ [] }

@@ -4,11 +4,12 @@ ghost use lib.ListN.{length, getD};
 ghost use mathlib.Core.Path.{_≡_};
 ghost use Rattle.mine_parts.specs.Layout.{mostParts, roomIn};
 ghost use Rattle.role_record.specs.Record.{Sized, WithinLimits};
-ghost use Rattle.files.specs.Calls.{minedBytes};
+ghost use Rattle.files.specs.Calls.{cutsOk, minedBytes};
 ghost use Rattle.policy.specs.Mined.{mergeCount};
 ghost use Rattle.policy.specs.Policy.{Policy, settingOf, rolesIn};
 ghost use Rattle.write_answer.specs.Stages.{OfRecord, Result, KeptFor, MergedBy};
 ghost use Rattle.mine_groups.specs.Scratch.{Merged, allParts, Stands};
+ghost use Rattle.sets.specs.Tests.{Is};
 use role_record::ByAttribute;
 use role_record::ByPlaceMember;
 use role_record::ByRole;
@@ -30,6 +31,7 @@ fn merge_parts<'a>(
     holders: &'a ByRole,
     permissions: &'a ByRoleOperation,
     sizes: Sizes,
+    cuts: &[u8],
     distinct: &'a ByPlaceMember,
     having: &'a ByPlaceMember,
     scratch: &mut [u64],
@@ -38,7 +40,8 @@ fn merge_parts<'a>(
         WithinLimits sizes
         × (getD (now attributes) 0 0 ≤ 6)
         × (getD (now attributes) 1 0 ≤ 6)
-        × (mostParts ≤ roomIn (now scratch)) ⌝ }
+        × (mostParts ≤ roomIn (now scratch))
+        × Is (cutsOk (now cuts) (sizes .roles)) ⌝ }
     ensures { λ r. ⌜
         (length (now (scratch .exit)) ≡ length (now (scratch .entry)))
         × Stands (now (scratch .exit)) (r .starts)
@@ -47,8 +50,8 @@ fn merge_parts<'a>(
         → MergedBy F (now (known .entry)) (now (kinds .entry)) (now (domains .entry)) (now (attributes .entry))
         (now (holders .entry)) (now (permissions .entry)) (now (distinct .entry)) (now (having .entry))
         (sizes .users) (sizes .resources) (sizes .operations) (sizes .roles)
-        → (r .made ≡ mergeCount (settingOf F) (rolesIn F))
-        × Merged F (allParts (r .starts)) (now (scratch .exit))
+        → (r .made ≡ mergeCount (settingOf F) (rolesIn F) (now (cuts .entry)))
+        × Merged F (now (cuts .entry)) (allParts (r .starts)) (now (scratch .exit))
         × KeptFor F (r .starts) (now (scratch .exit)) (r .kept)) ⌝ }
 {
     let mut places = [0u64; RoleFile::PLACES];
@@ -68,6 +71,7 @@ fn merge_parts<'a>(
     let merges = mine_merge::merge(
         scratch,
         &mut starts,
+        cuts,
         &links,
         &matches,
         &places,
@@ -104,6 +108,7 @@ pub fn mine_record<'a>(
     holders: &'a ByRole,
     permissions: &'a ByRoleOperation,
     sizes: Sizes,
+    cuts: &[u8],
     scratch: &mut [u64],
     out: &mut [u8],
 ) -> Attempt
@@ -111,14 +116,16 @@ pub fn mine_record<'a>(
         WithinLimits sizes
         × (getD (now attributes) 0 0 ≤ 6)
         × (getD (now attributes) 1 0 ≤ 6)
-        × (mostParts ≤ roomIn (now scratch)) ⌝ }
+        × (mostParts ≤ roomIn (now scratch))
+        × Is (cutsOk (now cuts) (sizes .roles)) ⌝ }
     ensures { λ r. ⌜
         ((F : Policy)
         → Sized F
         → OfRecord F (now (known .entry)) (now (values .entry)) (now (kinds .entry)) (now (domains .entry))
         (now (attributes .entry)) (now (holders .entry)) (now (permissions .entry)) (sizes .users)
         (sizes .resources) (sizes .operations) (sizes .roles)
-        → Result F (now (out .entry)) (r .wrote) (now (out .exit)) × (r .bytes ≡ length (minedBytes 2 F))) ⌝ }
+        → Result F (now (cuts .entry)) (now (out .entry)) (r .wrote) (now (out .exit))
+        × (r .bytes ≡ length (minedBytes 2 F (now (cuts .entry))))) ⌝ }
 {
     let mut distinct = [0u64; RoleFile::PLACES * RoleFile::MEMBERS];
     let mut having = [0u64; RoleFile::PLACES * RoleFile::MEMBERS];
@@ -142,6 +149,7 @@ pub fn mine_record<'a>(
         holders,
         permissions,
         sizes,
+        cuts,
         &distinct,
         &having,
         scratch,

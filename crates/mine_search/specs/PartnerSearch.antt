@@ -36,25 +36,25 @@ module _ (links matches known attributes : List ℕ) (users resources operations
 abbrev pub GroupMet : (matches t : List ℕ) (c : ℕ) (met : List ℕ) → Type 0
 GroupMet matches t c met = SidesMet matches (usersAt t c) (resourcesAt t c) met
 
--- none from a on below b passes; r is the first that does, or past the last part
+-- none from a on below b passes; r is the first that does, or `end`
 abbrev pub NoneIn : (ℕ → Bool) → ℕ → ℕ → Type 0
 NoneIn f a b = (k : ℕ) → a ≤ k → k < b → f k ≡ false
 
 abbrev pub FirstIn : ℕ → (ℕ → Bool) → ℕ → ℕ → ℕ → Type 0
-FirstIn parts f a b r = ((r ≡ parts) × NoneIn f a b) ⊎ ((a ≤ r) × (r < b) × (f r ≡ true) × NoneIn f a r)
+FirstIn end f a b r = ((r ≡ end) × NoneIn f a b) ⊎ ((a ≤ r) × (r < b) × (f r ≡ true) × NoneIn f a r)
 
--- the first head to be joined with c: one before it, or else one behind it; past the last part if there is none
-abbrev pub Partner : ℕ → (ℕ → ℕ → Bool) → ℕ → ℕ → Type 0
-Partner parts pair c r =
-    ((r ≡ parts) × NoneIn (λ i. pair i c) 0 c × NoneIn (pair c) (c + 1) parts)
-    ⊎ (((r < c) × (pair r c ≡ true) × NoneIn (λ i. pair i c) 0 r)
-    ⊎ ((c < r) × (r < parts) × (pair c r ≡ true) × NoneIn (λ i. pair i c) 0 c × NoneIn (pair c) (c + 1) r))
+-- the first head of a window to be joined with c: one before it, or else one behind it; the end if there is none
+abbrev pub Partner : ℕ → ℕ → (ℕ → ℕ → Bool) → ℕ → ℕ → Type 0
+Partner first end pair c r =
+    ((r ≡ end) × NoneIn (λ i. pair i c) first c × NoneIn (pair c) (c + 1) end)
+    ⊎ (((first ≤ r) × (r < c) × (pair r c ≡ true) × NoneIn (λ i. pair i c) first r)
+    ⊎ ((c < r) × (r < end) × (pair c r ≡ true) × NoneIn (λ i. pair i c) first c × NoneIn (pair c) (c + 1) r))
 
-module _ (parts : ℕ) (links matches known attributes : List ℕ) (users resources operations : ℕ) where
-  -- the head is the first from `from` on to be joined with c, or past the last part, and the level is that of both
+module _ (end : ℕ) (links matches known attributes : List ℕ) (users resources operations : ℕ) where
+  -- the head is the first from `from` on and before `end` to be joined with c, or `end`, and the level is that of both
   pub record Finds (t : List ℕ) (c from head level : ℕ) : Type 0 where
-    pub first : FirstIn parts (partnerAt links matches known attributes users resources operations t c) from parts head
-    pub leveled : head < parts → level ≡ partnerLevel links matches known attributes users resources operations t c head
+    pub first : FirstIn end (partnerAt links matches known attributes users resources operations t c) from end head
+    pub leveled : head < end → level ≡ partnerLevel links matches known attributes users resources operations t c head
 
 -- the words of part k say nothing plain against a join with these
 abbrev pub nearAt : List ℕ → Words → ℕ → Bool

@@ -12,8 +12,8 @@ use mathlib.Core.Path.{_≡_, refl, sym, ap, ap₂, _∙_}
 use native.Mathlib.Omega.{arith}
 use Rattle.sets.specs.Sets.{lessOne, bit, maskOf}
 use Rattle.sets.specs.MemberLaws.{least-in, bit-less}
-use Rattle.mine_heads.specs.HeadLaws.{word-below}
-use Rattle.mine_heads.specs.Heads.{isMarked, MarkedBelow, Open}
+use Rattle.mine_heads.specs.HeadLaws.{window-in, word-below}
+use Rattle.mine_heads.specs.Heads.{inWindow, isMarked, MarkedBelow, Open}
 use Rattle.mine_search.specs.PartnerSearch.{joinedLevel, pairAt, partnerLevel, partnerAt, NoneIn, FirstIn, Partner, Finds, nearAt, nearHead}
 use Rattle.mine_pairs.specs.PairLevels.{pairLevel}
 use Rattle.mine_corners.specs.Pairing.{reaches, mayJoin}
@@ -122,11 +122,11 @@ module _ (links matches known attributes : List ℕ) (users resources operations
           let q : max c k ≡ k = omega arith in
           ap₂ joinedBy p q ∙ far-level links matches known attributes users resources operations t c k e
 
-  -- the first of all parts is the partner
-  pub partner-first : {parts r : ℕ} → FirstIn parts (partnerAt links matches known attributes users resources operations t c) 0 parts r → c < parts → Partner parts (pairAt links matches known attributes users resources operations t) c r
-  partner-first {parts} {r} (inl (e, h)) l = inl (e, (λ k a b. sym (partner-before b) ∙ h k a (omega arith)), λ k a b. sym (partner-after (omega arith)) ∙ h k (omega arith) b)
-  partner-first {parts} {r} (inr (p, q, e, h)) l = test (ltb r c)
-      (λ z. let b = ltb-true r c z in inr (inl (b, sym (partner-before b) ∙ e, λ k a d. sym (partner-before (omega arith)) ∙ h k a d)))
+  -- the first of the window is the partner
+  pub partner-first : {first end r : ℕ} → FirstIn end (partnerAt links matches known attributes users resources operations t c) first end r → first ≤ c → c < end → Partner first end (pairAt links matches known attributes users resources operations t) c r
+  partner-first {first} {end} {r} (inl (e, h)) f l = inl (e, (λ k a b. sym (partner-before b) ∙ h k a (omega arith)), λ k a b. sym (partner-after (omega arith)) ∙ h k (omega arith) b)
+  partner-first {first} {end} {r} (inr (p, q, e, h)) f l = test (ltb r c)
+      (λ z. let b = ltb-true r c z in inr (inl (p, b, sym (partner-before b) ∙ e, λ k a d. sym (partner-before (omega arith)) ∙ h k a d)))
       (λ z. test (eqb r c)
       (λ y. never e (ap (partnerAt links matches known attributes users resources operations t c) (eqb-true r c y) ∙ partner-self))
       (λ y. let d = eqb-false r c y in
@@ -135,7 +135,7 @@ module _ (links matches known attributes : List ℕ) (users resources operations
       inr (inr (b, q, sym (partner-after b) ∙ e, (λ k x y. sym (partner-before y) ∙ h k x (omega arith)), λ k x y. sym (partner-after (omega arith)) ∙ h k (omega arith) y))))
 
   -- the first behind c
-  pub partner-later : {parts r : ℕ} → FirstIn parts (partnerAt links matches known attributes users resources operations t c) (c + 1) parts r → FirstIn parts (pairAt links matches known attributes users resources operations t c) (c + 1) parts r
+  pub partner-later : {end r : ℕ} → FirstIn end (partnerAt links matches known attributes users resources operations t c) (c + 1) end r → FirstIn end (pairAt links matches known attributes users resources operations t c) (c + 1) end r
   partner-later (inl (e, h)) = inl (e, λ k a b. sym (partner-after (omega arith)) ∙ h k a b)
   partner-later (inr (p, q, e, h)) = inr (p, q, sym (partner-after (omega arith)) ∙ e, λ k a b. sym (partner-after (omega arith)) ∙ h k a b)
 
@@ -146,36 +146,36 @@ pub none-on : (f : ℕ → Bool) (a n : ℕ) → NoneIn f a n → f n ≡ false 
 none-on f a n h e k p l = test (eqb k n) (λ q. ap f (eqb-true k n q) ∙ e) (λ q. let d = eqb-false k n q in h k p (omega arith))
 
 -- with none before c the first behind is the partner
-pub partner-behind : {parts : ℕ} (pair : ℕ → ℕ → Bool) (c : ℕ) {r : ℕ} → NoneIn (λ i. pair i c) 0 c → FirstIn parts (pair c) (c + 1) parts r → Partner parts pair c r
+pub partner-behind : {first end : ℕ} (pair : ℕ → ℕ → Bool) (c : ℕ) {r : ℕ} → NoneIn (λ i. pair i c) first c → FirstIn end (pair c) (c + 1) end r → Partner first end pair c r
 partner-behind pair c b (inl (e, h)) = inl (e, b, h)
 partner-behind pair c b (inr (p, q, e, h)) = inr (inr (omega arith, q, e, b, h))
 
 -- what the code needs of a partner: the two heads in order are a pair
 abbrev pub Chosen : ℕ → (ℕ → ℕ → Bool) → ℕ → ℕ → Type 0
-Chosen parts pair c r = (r ≡ parts) ⊎ (((r < c) × (pair r c ≡ true)) ⊎ ((c < r) × (r < parts) × (pair c r ≡ true)))
+Chosen end pair c r = (r ≡ end) ⊎ (((r < c) × (pair r c ≡ true)) ⊎ ((c < r) × (r < end) × (pair c r ≡ true)))
 
-module _ {parts : ℕ} (pair : ℕ → ℕ → Bool) (c : ℕ) where
+module _ {end : ℕ} (pair : ℕ → ℕ → Bool) (c : ℕ) where
   -- a partner is one
-  pub chosen-partner : {r : ℕ} → Partner parts pair c r → Chosen parts pair c r
+  pub chosen-partner : {first r : ℕ} → Partner first end pair c r → Chosen end pair c r
   chosen-partner (inl (e, h, k)) = inl e
-  chosen-partner (inr (inl (q, e, h))) = inr (inl (q, e))
+  chosen-partner (inr (inl (p, q, e, h))) = inr (inl (q, e))
   chosen-partner (inr (inr (p, q, e, h, k))) = inr (inr (p, q, e))
 
   -- so is the first behind c
-  pub chosen-behind : {r : ℕ} → FirstIn parts (pair c) (c + 1) parts r → Chosen parts pair c r
+  pub chosen-behind : {r : ℕ} → FirstIn end (pair c) (c + 1) end r → Chosen end pair c r
   chosen-behind (inl (e, h)) = inl e
   chosen-behind (inr (p, q, e, h)) = inr (inr (omega arith, q, e))
 
-  chosen-pair : {r i j : ℕ} → Chosen parts pair c r → r < parts → c < parts → i ≡ min c r → j ≡ max c r → (i < j) × (j < parts) × (i ≤ c) × (pair i j ≡ true)
+  chosen-pair : {r i j : ℕ} → Chosen end pair c r → r < end → c < end → i ≡ min c r → j ≡ max c r → (i < j) × (j < end) × (i ≤ c) × (pair i j ≡ true)
   chosen-pair (inl e) l m p q = absurd (omega arith)
   chosen-pair {r} {i} {j} (inr (inl (h, e))) l m p q = let a : i ≡ r = omega arith in let b : j ≡ c = omega arith in (omega arith, omega arith, omega arith, ap₂ pair a b ∙ e)
   chosen-pair {r} {i} {j} (inr (inr (h, k, e))) l m p q = let a : i ≡ c = omega arith in let b : j ≡ r = omega arith in (omega arith, omega arith, omega arith, ap₂ pair a b ∙ e)
 
-module _ (parts : ℕ) (links matches known attributes : List ℕ) (users resources operations : ℕ) (t : List ℕ) (c i j level : ℕ) where
+module _ (end : ℕ) (links matches known attributes : List ℕ) (users resources operations : ℕ) (t : List ℕ) (c i j level : ℕ) where
   -- what the code knows of the two heads that it joins
   pub record Taking : Type 0 where
     pub order : i < j
-    pub below : j < parts
+    pub below : j < end
     pub back : i ≤ c
     pub leveled : level ≡ joinedLevel links matches known attributes users resources operations t i j
     pub low : level < 4
@@ -183,18 +183,18 @@ module _ (parts : ℕ) (links matches known attributes : List ℕ) (users resour
     pub second : Is (isHeadAt t j)
 
   -- c and the partner found, in order
-  pub taking : {r : ℕ} → Chosen parts (pairAt links matches known attributes users resources operations t) c r → (r < parts → level ≡ partnerLevel links matches known attributes users resources operations t c r) → r < parts → c < parts → i ≡ min c r → j ≡ max c r → Taking
+  pub taking : {r : ℕ} → Chosen end (pairAt links matches known attributes users resources operations t) c r → (r < end → level ≡ partnerLevel links matches known attributes users resources operations t c r) → r < end → c < end → i ≡ min c r → j ≡ max c r → Taking
   taking {r} C f l m p q =
       let o = chosen-pair (pairAt links matches known attributes users resources operations t) c C l m p q in
       let out = pair-out links matches known attributes users resources operations t i j (o .3) in
       let e = beside-out links matches known attributes users resources operations t c r (o .0) p q (f l) in
       record { order = o .0; below = o .1; back = o .2; leveled = e; low = rw e (ltb-true (joinedLevel links matches known attributes users resources operations t i j) 4 (out .2)); first = out .0; second = out .1 }
 
--- tests that agree on all parts have the same partner
-pub partner-same : {parts : ℕ} (f g : ℕ → ℕ → Bool) (c : ℕ) {r : ℕ} → c < parts → ((i j : ℕ) → i < parts → j < parts → f i j ≡ g i j) → Partner parts f c r → Partner parts g c r
-partner-same f g c l e (inl (p, h, k)) = inl (p, (λ i a b. sym (e i c (omega arith) l) ∙ h i a b), λ j a b. sym (e c j l b) ∙ k j a b)
-partner-same f g c l e (inr (inl (p, h, k))) = inr (inl (p, sym (e _ c (omega arith) l) ∙ h, λ i a b. sym (e i c (omega arith) l) ∙ k i a b))
-partner-same f g c l e (inr (inr (p, q, h, k, m))) = inr (inr (p, q, sym (e c _ l q) ∙ h, (λ i a b. sym (e i c (omega arith) l) ∙ k i a b), λ j a b. sym (e c j l (omega arith)) ∙ m j a b))
+-- tests that agree on all pairs of the window have the same partner
+pub partner-same : {first end : ℕ} (f g : ℕ → ℕ → Bool) (c : ℕ) {r : ℕ} → first ≤ c → c < end → ((i j : ℕ) → first ≤ i → i < j → j < end → f i j ≡ g i j) → Partner first end f c r → Partner first end g c r
+partner-same f g c b l e (inl (p, h, k)) = inl (p, (λ i a d. sym (e i c a d l) ∙ h i a d), λ j a d. sym (e c j b (omega arith) d) ∙ k j a d)
+partner-same f g c b l e (inr (inl (o, p, h, k))) = inr (inl (o, p, sym (e _ c o p l) ∙ h, λ i a d. sym (e i c a (omega arith) l) ∙ k i a d))
+partner-same f g c b l e (inr (inr (p, q, h, k, m))) = inr (inr (p, q, sym (e c _ b p q) ∙ h, (λ i a d. sym (e i c a d l) ∙ k i a d), λ j a d. sym (e c j b (omega arith) (omega arith)) ∙ m j a d))
 
 -- ---- the search among the near heads
 
@@ -206,13 +206,13 @@ module _ (t : List ℕ) (W : Words) (word marked : ℕ) where
 
   module _ (rest : ℕ) (h : rest < 2 ^ 64) (left : LeftOf rest) where
     -- nothing is left
-    pub within-none : {parts : ℕ} → rest ≡ 0 → FirstIn parts (λ k. bit marked (k % 64) && nearAt t W k) (64 * word) (64 * word + 64) parts
+    pub within-none : {end : ℕ} → rest ≡ 0 → FirstIn end (λ k. bit marked (k % 64) && nearAt t W k) (64 * word) (64 * word + 64) end
     within-none e = inl (refl, λ k a b. sym (left k a b) ∙ ap (λ (x : ℕ). bit x (k % 64) && nearAt t W k) e ∙ ap (λ (b : Bool). b && nearAt t W k) (bit-none (k % 64)))
 
     module _ (y : ℕ) (least : y ≡ lowestFrom (bit rest) 0 64) (some : 0 < rest) where
       -- the least that is left is near
-      pub within-found : {parts : ℕ} {b : Bool} {k : ℕ} → k ≡ 64 * word + y → b ≡ nearAt t W k → b ≡ true → FirstIn parts (λ k. bit marked (k % 64) && nearAt t W k) (64 * word) (64 * word + 64) k
-      within-found {parts} {b} {k} q e f =
+      pub within-found : {end : ℕ} {b : Bool} {k : ℕ} → k ≡ 64 * word + y → b ≡ nearAt t W k → b ≡ true → FirstIn end (λ k. bit marked (k % 64) && nearAt t W k) (64 * word) (64 * word + 64) k
+      within-found {end} {b} {k} q e f =
           let low = least-in rest h y least some in
           let z : k % 64 ≡ y = omega (arith, low .0) in
           inr (
@@ -254,29 +254,29 @@ module _ (marks t : List ℕ) (W : Words) (from : ℕ) where
     none-up n b h k f g = test (ltb k (64 * word)) (λ z. none k f (ltb-true k (64 * word) z)) (λ z. let d = ltb-false k (64 * word) z in sym (asked-on k d (omega arith) f) ∙ h k d g)
 
     -- they are parts
-    pub asked-below : {parts : ℕ} → MarkedBelow parts marks → (k room : ℕ) → parts ≤ room → k < 64 → Is (bit marked k) → 64 * word + k < room
+    pub asked-below : {end : ℕ} → MarkedBelow end marks → (k room : ℕ) → end ≤ room → k < 64 → Is (bit marked k) → 64 * word + k < room
     asked-below low k room r h b =
         word-below marks low word k room r h
         (and-l (bit (getD marks word 0) k) _ (sym (bit-mask 64 (λ k. bit (getD marks word 0) k && not (bit passed k)) k h) ∙ ap (λ (x : ℕ). bit x k) (sym q) ∙ b))
 
     -- one of this word is found
-    pub near-found : {parts r : ℕ} → FirstIn parts (λ k. bit marked (k % 64) && nearAt t W k) (64 * word) (64 * word + 64) r → r < parts → FirstIn parts (nearHead marks t W) from parts r
-    near-found {parts} {r} (inl (x, h)) b = absurd (omega arith)
-    near-found {parts} {r} (inr (x, y, z, h)) b = test (ltb r from) (λ d. never z (asked-before r x y (ltb-true r from d))) (λ d. let f = ltb-false r from d in inr (f, b, sym (asked-on r x y f) ∙ z, none-up r (omega arith) h))
+    pub near-found : {end r : ℕ} → FirstIn end (λ k. bit marked (k % 64) && nearAt t W k) (64 * word) (64 * word + 64) r → r < end → FirstIn end (nearHead marks t W) from end r
+    near-found {end} {r} (inl (x, h)) b = absurd (omega arith)
+    near-found {end} {r} (inr (x, y, z, h)) b = test (ltb r from) (λ d. never z (asked-before r x y (ltb-true r from d))) (λ d. let f = ltb-false r from d in inr (f, b, sym (asked-on r x y f) ∙ z, none-up r (omega arith) h))
 
     -- none is
-    pub near-on : {parts r : ℕ} → MarkedBelow parts marks → FirstIn parts (λ k. bit marked (k % 64) && nearAt t W k) (64 * word) (64 * word + 64) r → parts ≤ r → NoneIn (nearHead marks t W) from (64 * (word + 1))
+    pub near-on : {end r : ℕ} → MarkedBelow end marks → FirstIn end (λ k. bit marked (k % 64) && nearAt t W k) (64 * word) (64 * word + 64) r → end ≤ r → NoneIn (nearHead marks t W) from (64 * (word + 1))
     near-on low (inl (x, h)) b k f g = none-up (64 * word + 64) (omega arith) h k f (omega arith)
-    near-on {parts} {r} low (inr (x, y, z, h)) b k f g = let n = low r (and-l (isMarked marks r) _ (sym (asked r x y) ∙ and-l (bit marked (r % 64)) (nearAt t W r) z)) in absurd (omega arith)
+    near-on {end} {r} low (inr (x, y, z, h)) b k f g = let n = low r (and-l (isMarked marks r) _ (sym (asked r x y) ∙ and-l (bit marked (r % 64)) (nearAt t W r) z)) in absurd (omega arith)
 
-module _ (parts : ℕ) (links matches known attributes : List ℕ) (users resources operations : ℕ) (marks t : List ℕ) (c from : ℕ) where
-  -- none before k is a partner of c, and k is a head or past the last part
+module _ (end : ℕ) (links matches known attributes : List ℕ) (users resources operations : ℕ) (marks t : List ℕ) (c from : ℕ) where
+  -- none before k is a partner of c, and k is a head or the end
   pub record Looking (k : ℕ) : Type 0 where
     pub none : NoneIn (partnerAt links matches known attributes users resources operations t c) from k
-    pub head : k < parts → (from ≤ k) × Is (isHeadAt t k)
-    pub most : k ≤ parts
+    pub head : k < end → (from ≤ k) × Is (isHeadAt t k)
+    pub most : k ≤ end
 
-  module _ (M : Open parts marks t c) {W : Words} (g : W ≡ wordsAt t c) where
+  module _ {first : ℕ} (low : first ≤ from) (M : Open first end marks t c) {W : Words} (g : W ≡ wordsAt t c) where
     -- a head that is not near cannot be joined
     far-head : (k : ℕ) → nearAt t W k ≡ false → partnerAt links matches known attributes users resources operations t c k ≡ false
     unfolding partnerAt
@@ -285,42 +285,42 @@ module _ (parts : ℕ) (links matches known attributes : List ℕ) (users resour
         ∙ ap (λ (b : Bool). isHeadAt t c && b) (and-false (isHeadAt t k)) ∙ and-false (isHeadAt t c)
 
     -- nor a part that is no head, nor one that is not open, nor c itself
-    far-refused : (k : ℕ) → k < parts → nearHead marks t W k ≡ false → partnerAt links matches known attributes users resources operations t c k ≡ false
+    far-refused : (k : ℕ) → first ≤ k → k < end → nearHead marks t W k ≡ false → partnerAt links matches known attributes users resources operations t c k ≡ false
     unfolding partnerAt partnerLevel
-    far-refused k h e = test (isMarked marks k)
+    far-refused k f h e = test (isMarked marks k)
         (λ m. far-head k (sym (ap (λ (b : Bool). b && nearAt t W k) m) ∙ e))
         (λ m. test (eqb k c)
         (λ z. ap (λ (b : Bool). isHeadAt t c && (isHeadAt t k && ltb (cond b 4 (joinedLevel links matches known attributes users resources operations t (min c k) (max c k))) 4)) z ∙ ap (λ (b : Bool). isHeadAt t c && b) (and-false (isHeadAt t k)) ∙ and-false (isHeadAt t c))
         (λ z. test (isHeadAt t k)
-        (λ q. far-head k (ap (λ (b : Bool). reaches W (wordsAt t k) && b) (ap (reaches (wordsAt t k)) g ∙ M .far k (eqb-false k c z) (and-in (lt-ltb k parts h) q) m) ∙ and-false (reaches W (wordsAt t k))))
+        (λ q. far-head k (ap (λ (b : Bool). reaches W (wordsAt t k) && b) (ap (reaches (wordsAt t k)) g ∙ M .far k (eqb-false k c z) (and-in (window-in first end k f h) q) m) ∙ and-false (reaches W (wordsAt t k))))
         (λ q. ap (λ (b : Bool). isHeadAt t c && (b && ltb (partnerLevel links matches known attributes users resources operations t c k) 4)) q ∙ and-false (isHeadAt t c))))
 
     -- the next near head
-    pub looking : {a k : ℕ} → from ≤ a → a ≤ parts → NoneIn (partnerAt links matches known attributes users resources operations t c) from a → FirstIn parts (nearHead marks t W) a parts k → Looking k
-    looking {a} {k} f l none (inl (e, h)) = record { none = λ n p q. test (ltb n a) (λ z. none n p (ltb-true n a z)) (λ z. far-refused n (omega arith) (h n (ltb-false n a z) (omega arith))); head = λ b. absurd (omega arith); most = omega arith }
+    pub looking : {a k : ℕ} → from ≤ a → a ≤ end → NoneIn (partnerAt links matches known attributes users resources operations t c) from a → FirstIn end (nearHead marks t W) a end k → Looking k
+    looking {a} {k} f l none (inl (e, h)) = record { none = λ n p q. test (ltb n a) (λ z. none n p (ltb-true n a z)) (λ z. far-refused n (omega arith) (omega arith) (h n (ltb-false n a z) (omega arith))); head = λ b. absurd (omega arith); most = omega arith }
     looking {a} {k} f l none (inr (x, y, z, h)) = record {
-      none = λ n p q. test (ltb n a) (λ d. none n p (ltb-true n a d)) (λ d. far-refused n (omega arith) (h n (ltb-false n a d) q));
-      head = λ b. (omega arith, and-r (ltb k parts) (isHeadAt t k) (M .heads k (and-l (isMarked marks k) (nearAt t W k) z)));
+      none = λ n p q. test (ltb n a) (λ d. none n p (ltb-true n a d)) (λ d. far-refused n (omega arith) (omega arith) (h n (ltb-false n a d) q));
+      head = λ b. (omega arith, and-r (inWindow first end k) (isHeadAt t k) (M .heads k (and-l (isMarked marks k) (nearAt t W k) z)));
       most = omega arith;
     }
 
   -- k is refused
-  pub looking-on : {p : Bool} {k l : ℕ} → p ≡ isHeadAt t c → p ≡ true → Looking k → k < parts → l ≡ partnerLevel links matches known attributes users resources operations t c k → 4 ≤ l → NoneIn (partnerAt links matches known attributes users resources operations t c) from (k + 1)
+  pub looking-on : {p : Bool} {k l : ℕ} → p ≡ isHeadAt t c → p ≡ true → Looking k → k < end → l ≡ partnerLevel links matches known attributes users resources operations t c k → 4 ≤ l → NoneIn (partnerAt links matches known attributes users resources operations t c) from (k + 1)
   looking-on {p} {k} {l} e f L h r d = none-on (partnerAt links matches known attributes users resources operations t c) from k (L .none) (partner-told links matches known attributes users resources operations t c k e f (L .head h .1) r ∙ le-ltb l 4 d)
 
   -- k is the partner
-  pub looking-found : {p : Bool} {k l : ℕ} → p ≡ isHeadAt t c → p ≡ true → Looking k → k < parts → l ≡ partnerLevel links matches known attributes users resources operations t c k → l < 4 → Finds parts links matches known attributes users resources operations t c from k l
+  pub looking-found : {p : Bool} {k l : ℕ} → p ≡ isHeadAt t c → p ≡ true → Looking k → k < end → l ≡ partnerLevel links matches known attributes users resources operations t c k → l < 4 → Finds end links matches known attributes users resources operations t c from k l
   looking-found {p} {k} {l} e f L h r d = record { first = inr (L .head h .0, h, partner-told links matches known attributes users resources operations t c k e f (L .head h .1) r ∙ lt-ltb l 4 d, L .none); leveled = λ _. r }
 
   -- there is none
-  pub looking-end : {k : ℕ} → Looking k → parts ≤ k → Finds parts links matches known attributes users resources operations t c from parts 4
+  pub looking-end : {k : ℕ} → Looking k → end ≤ k → Finds end links matches known attributes users resources operations t c from end 4
   looking-end L h = record { first = inl (refl, λ n p q. L .none n p (omega arith)); leveled = λ b. absurd (omega arith) }
 
   -- c is no head
-  pub finds-none : {p : Bool} → p ≡ isHeadAt t c → p ≡ false → Finds parts links matches known attributes users resources operations t c from parts 4
+  pub finds-none : {p : Bool} → p ≡ isHeadAt t c → p ≡ false → Finds end links matches known attributes users resources operations t c from end 4
   finds-none e f = record { first = inl (refl, λ n _ _. no-partner links matches known attributes users resources operations t c e f n); leveled = λ b. absurd (omega arith) }
 
 -- the first from a on is none before a
-pub first-later : {parts : ℕ} {f : ℕ → Bool} {a r : ℕ} → a ≤ parts → FirstIn parts f a parts r → a ≤ r
+pub first-later : {end : ℕ} {f : ℕ → Bool} {a r : ℕ} → a ≤ end → FirstIn end f a end r → a ≤ r
 first-later l (inl (e, h)) = omega arith
 first-later l (inr (p, q, e, h)) = p

@@ -13,6 +13,7 @@ ghost use Rattle.sets.specs.Tests.{Is};
 ghost use Rattle.role_record.specs.Record.{WithinLimits};
 use mine_corners::Group;
 use mine_heads::Marks;
+use mine_heads::Window;
 use role_record::ByAttribute;
 use role_record::ByPlace;
 use role_record::ByPlaceMember;
@@ -20,7 +21,7 @@ use role_record::CountBySide;
 use role_record::Links;
 use role_record::Sizes;
 
-// A head to be joined with another, and the level of both together; past the last part if there is none.
+// A head to be joined with another, and the level of both together; the end of the window if there is none.
 pub struct Found {
     pub head: usize,
     pub level: usize,
@@ -129,12 +130,12 @@ fn level_beside<'a>(
     )
 }
 
-// The first of these parts of a word of marks whose group is near: past the last if there is none.
-fn near_within(scratch: &[u64], parts: usize, marked: u64, word: usize, g: Group) -> usize
+// The first of these parts of a word of marks whose group is near: `end` if there is none.
+fn near_within(scratch: &[u64], end: usize, marked: u64, word: usize, g: Group) -> usize
     requires { ⌜
         (word < markWords) × ((k : ℕ) → k < 64 → Is (bit marked k) → 64 * word + k < roomIn (now scratch)) ⌝ }
     ensures { λ r. ⌜
-        FirstIn parts (λ k. bit marked (k % 64) && nearAt (now (scratch .entry)) (wordsIn g) k) (64 * word)
+        FirstIn end (λ k. bit marked (k % 64) && nearAt (now (scratch .entry)) (wordsIn g) k) (64 * word)
         (64 * word + 64) r ⌝ }
 {
     let mut rest = marked;
@@ -145,29 +146,30 @@ fn near_within(scratch: &[u64], parts: usize, marked: u64, word: usize, g: Group
         }
         rest = sets::without_least(rest);
     }
-    parts
+    end
 }
 
-// The first marked part from a part on whose group is near: past the last if there is none.
-fn next_near(scratch: &[u64], parts: usize, heads: &Marks, g: Group, from: usize) -> usize
-    requires { ⌜ (parts ≤ roomIn (now scratch)) × MarkedBelow parts (now heads) ⌝ }
-    ensures { λ r. ⌜ FirstIn parts (nearHead (now (heads .entry)) (now (scratch .entry)) (wordsIn g)) from parts r ⌝ }
+// The first marked part from a part on whose group is near: `end`, before which all marks are, if there is none.
+fn next_near(scratch: &[u64], end: usize, heads: &Marks, g: Group, from: usize) -> usize
+    requires { ⌜ (end ≤ roomIn (now scratch)) × MarkedBelow end (now heads) ⌝ }
+    ensures { λ r. ⌜ FirstIn end (nearHead (now (heads .entry)) (now (scratch .entry)) (wordsIn g)) from end r ⌝ }
 {
-    let end = (parts + 63) / 64;
-    for word in from / 64..end {
+    let words = (end + 63) / 64;
+    for word in from / 64..words {
         let passed = sets::below(higher(from, 64 * word) - 64 * word);
-        let k = near_within(scratch, parts, sets::without(heads[word], passed), word, g);
-        if k < parts {
+        let k = near_within(scratch, end, sets::without(heads[word], passed), word, g);
+        if k < end {
             return k;
         }
     }
-    parts
+    end
 }
 
-// The first part from a part on that may be joined with the head that seeks one. Only ready heads are looked at, and of these only the near ones.
+// The first part of a window, from a part on, that may be joined with the head that seeks one. Only ready heads are looked at, and of these only
+// the near ones.
 pub fn first_partner<'a>(
     scratch: &[u64],
-    parts: usize,
+    window: Window,
     ready: &Marks,
     links: &'a Links,
     matches: &'a ByPlaceMember,
@@ -181,21 +183,23 @@ pub fn first_partner<'a>(
         WithinLimits sizes
         × (getD (now attributes) 0 0 ≤ 6)
         × (getD (now attributes) 1 0 ≤ 6)
-        × (seeking .head < parts)
-        × (seeking .from ≤ parts)
-        × (parts ≤ roomIn (now scratch))
-        × Open parts (now ready) (now scratch) (seeking .head)
+        × (seeking .head < window .end)
+        × (window .first ≤ seeking .from)
+        × (seeking .from ≤ window .end)
+        × (window .end ≤ roomIn (now scratch))
+        × Open (window .first) (window .end) (now ready) (now scratch) (seeking .head)
         × GroupMet (now matches) (now scratch) (seeking .head) (now met) ⌝ }
     ensures { λ r. ⌜
-        Finds parts (now (links .entry)) (now (matches .entry)) (now (knowing .entry)) (now (attributes .entry))
+        Finds (window .end) (now (links .entry)) (now (matches .entry)) (now (knowing .entry)) (now (attributes .entry))
         (sizes .users) (sizes .resources) (sizes .operations) (now (scratch .entry)) (seeking .head) (seeking .from)
         (r .head) (r .level) ⌝ }
 {
+    let end = window.end;
     // Most parts are no heads.
     if mine_parts::is_head(scratch, seeking.head) {
         let g = mine_parts::group_at(scratch, seeking.head);
-        let mut k = next_near(scratch, parts, ready, g, seeking.from);
-        while k < parts {
+        let mut k = next_near(scratch, end, ready, g, seeking.from);
+        while k < end {
             let level = level_beside(
                 scratch,
                 links,
@@ -213,11 +217,11 @@ pub fn first_partner<'a>(
                     level: level,
                 };
             }
-            k = next_near(scratch, parts, ready, g, k + 1);
+            k = next_near(scratch, end, ready, g, k + 1);
         }
     }
     Found {
-        head: parts,
+        head: end,
         level: mine_pairs::NO_LEVEL,
     }
 }

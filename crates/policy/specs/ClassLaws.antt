@@ -1,6 +1,6 @@
 -- A part is known by its role and class: no two parts share both.
 -- Assumes nothing.
-use Prim.Native.Nat.{ℕ, zero, suc, _+_, _*_, _^_, _<_}
+use Prim.Native.Nat.{ℕ, zero, suc, _+_, _*_, _^_, _≤_, _<_}
 use borrow.Author.Tests.{ltb-true, ltb-false, not-true}
 use lib.Dec.{ltb}
 use lib.ListN.{length, getD}
@@ -53,6 +53,20 @@ module _ (P : Setting) (R : Roles) where
       let b = upTo-out (P .slots) (s .1) in
       omega (arith, mul-suc (P .slots) k, mul-le-mul-left (P .slots) h))
       (from-rising 0 (R .number))
+
+  -- the role of a part does not fall with its number
+  pub roles-rise : (p q : ℕ) → p < q → q < partCount P R → partAt P R p .role ≤ partAt P R q .role
+  unfolding partCount partAt partKey
+  roles-rise p q h l =
+      let k = asc-places partKey (record { role = 0; lead = 0 }) parts-ascending p q h l in
+      let b = parts-out P R (getD-in (parts P R) (record { role = 0; lead = 0 }) q l) .1 in
+      no-higher (getD (parts P R) p (record { role = 0; lead = 0 })) (getD (parts P R) q (record { role = 0; lead = 0 })) k b
+    where
+      no-higher : (a b : Part) → P .slots * a .role + a .lead < P .slots * b .role + b .lead → b .lead < P .slots → a .role ≤ b .role
+      no-higher a b k l =
+          test (ltb (b .role) (a .role))
+          (λ e. absurd (omega (arith, mul-suc (P .slots) (b .role), mul-le-mul-left (P .slots) (ltb-true (b .role) (a .role) e))))
+          (λ e. ltb-false (b .role) (a .role) e)
 
   -- a part has one number
   pub part-number : (p q : ℕ) → p < partCount P R → q < partCount P R → partAt P R p ≡ partAt P R q → p ≡ q

@@ -12,8 +12,8 @@ use native.Mathlib.Nat.{add-assoc, add-comm}
 use native.Mathlib.Omega.{arith}
 use Rattle.policy.specs.CoverLaws.{exact-fits}
 use Rattle.policy.specs.Covering.{fits, levelOf}
-use Rattle.policy.specs.MergeLaws.{total, Every, Runs, run-runs, runs-apart, runs-count, runs-total, runs-every, runs-ascending, apart-at}
-use Rattle.policy.specs.Merging.{startGroups, union, mergeable, groups, mergesMade, lowPart}
+use Rattle.policy.specs.MergeLaws.{total, Every, Runs, runs-apart, runs-count, runs-total, runs-every, runs-ascending, apart-at}
+use Rattle.policy.specs.Merging.{startGroups, union, mergeable, lowPart}
 use Rattle.policy.specs.RuleLaws.{Lawful}
 use Rattle.policy.specs.Rules.{Setting, Rule, Block, grants, at, ruleLevel, Some, Same}
 use Rattle.policy.specs.ThinLaws.{written-exact, fits-same, written-level}
@@ -52,7 +52,7 @@ pub lowPart-append : (n : ℕ) (g h : List ℕ) → lowPart n (g ++ h) ≡ min (
 lowPart-append n [] h = let k = lowPart-most n h in omega arith
 lowPart-append n (p ∷ t) h = let e = lowPart-append n t h in omega arith
 
-start-length : (k n : ℕ) → length (startGroups k n) ≡ n
+pub start-length : (k n : ℕ) → length (startGroups k n) ≡ n
 start-length k zero = refl
 start-length k (suc n) = ap suc (start-length (suc k) n)
 
@@ -96,43 +96,6 @@ module _ (P : Setting) (block : ℕ → Block) where
       (λ k. let t = any-out (λ p. block p u r o) g k in any-in (λ p. block p u r o) (a (t .0) (t .1)) (t .2))
       (λ k. let t = any-out (λ p. block p u r o) h k in any-in (λ p. block p u r o) (b (t .0) (t .1)) (t .2))
 
-  mined : (n : ℕ) → Runs (mergeable P block) _++_ (startGroups 0 n) (groups P block n) (mergesMade P block n)
-  unfolding groups mergesMade
-  mined n = run-runs (mergeable P block) _++_ n (startGroups 0 n) (let e = start-length 0 n in omega arith)
-
-  -- parts = rules + merges
-  pub parts-count : (n : ℕ) → n ≡ length (groups P block n) + mergesMade P block n
-  parts-count n = let e = runs-count (mergeable P block) _++_ (mined n) in let d = start-length 0 n in omega arith
-
-  -- every part stands in exactly one group, and there once
-  pub part-once : (n p : ℕ) → p < n → total _+_ 0 (times p) (groups P block n) ≡ 1
-  part-once n p h = sym (runs-total (mergeable P block) _++_ _+_ 0 add-assoc add-comm (times p) (times-append p) (mined n)) ∙ start-count p 0 n (omega arith) (omega arith)
-
-  -- and the groups have no other members
-  pub groups-parts : (n : ℕ) → Every (Every (λ p. p < n)) (groups P block n)
-  groups-parts n = runs-every (mergeable P block) _++_ (Every (λ p. p < n)) joined (mined n) alone
-    where
-      joined : (g h : List ℕ) → Every (λ p. p < n) g → Every (λ p. p < n) h → Is (mergeable P block g h) → Every (λ p. p < n) (g ++ h)
-      joined g h a b m p k = go (List·Memᴰ·append-cases g k)
-        where
-          go : (p isIn g) ⊎ (p isIn h) → p < n
-          go (inl i) = a p i
-          go (inr i) = b p i
-
-      alone : Every (Every (λ p. p < n)) (startGroups 0 n)
-      alone g m p k =
-          let t = map-out (λ p. p ∷ []) (from 0 n) m in
-          let e = member-one (rw (t .2) at k) in
-          rw e (upTo-out n (t .1))
-        where
-          member-one : {q : ℕ} → p isIn (q ∷ []) → p ≡ q
-          member-one (List·Memᴰ·head e) = e
-          member-one (List·Memᴰ·tail m) = absurd (List·Memᴰ·not-nil m)
-
-  -- the groups stand in the order of their lowest parts
-  pub groups-ascending : (n : ℕ) → Ascending (lowPart n) (groups P block n)
-  groups-ascending n = runs-ascending (mergeable P block) _++_ (lowPart n) (λ g h l. let e = lowPart-append n g h in omega arith) (mined n) (start-ascending n 0 n (omega arith))
-
   union-one : (p u r o : ℕ) → union P block (p ∷ []) u r o ≡ block p u r o
   unfolding union
   union-one p u r o = or-false (block p u r o)
@@ -141,76 +104,111 @@ module _ (P : Setting) (block : ℕ → Block) where
   start-union k zero u r o = refl
   start-union k (suc n) u r o = ap₂ _||_ (union-one k u r o) (start-union (suc k) n u r o)
 
-  -- the groups' unions make up the union of all parts
-  pub groups-union : (n u r o : ℕ) → any (λ g. union P block g u r o) (groups P block n) ≡ any (λ p. block p u r o) (upTo n)
-  groups-union n u r o =
-      sym (total-any (λ g. union P block g u r o) (groups P block n))
-      ∙ sym (runs-total (mergeable P block) _++_ _||_ false or-assoc or-comm (λ g. union P block g u r o) (λ g h. union-append g h u r o) (mined n))
-      ∙ total-any (λ g. union P block g u r o) (startGroups 0 n)
-      ∙ start-union 0 n u r o
+  -- the groups gs and the m merges of any run that begins with n parts, each a group by itself
+  module _ (n : ℕ) (gs : List (List ℕ)) (m : ℕ) (mined : Runs (mergeable P block) _++_ (startGroups 0 n) gs m) where
+    -- parts = rules + merges
+    pub parts-count : n ≡ length gs + m
+    parts-count = let e = runs-count (mergeable P block) _++_ mined in let d = start-length 0 n in omega arith
 
-  -- no group is empty of triples
-  pub groups-some : (n : ℕ) → ((p : ℕ) → p < n → Some P (block p)) → Every (λ g. Some P (union P block g)) (groups P block n)
-  groups-some n h = runs-every (mergeable P block) _++_ (λ g. Some P (union P block g)) joined (mined n) first
-    where
-      joined : (g k : List ℕ) → Some P (union P block g) → Some P (union P block k) → Is (mergeable P block g k) → Some P (union P block (g ++ k))
-      joined g k s _ _ = record { u = s .u; r = s .r; o = s .o; triple = s .triple; inside = union-append g k (s .u) (s .r) (s .o) ∙ or-l _ (s .inside) }
+    -- every part stands in exactly one group, and there once
+    pub part-once : (p : ℕ) → p < n → total _+_ 0 (times p) gs ≡ 1
+    part-once p h = sym (runs-total (mergeable P block) _++_ _+_ 0 add-assoc add-comm (times p) (times-append p) mined) ∙ start-count p 0 n (omega arith) (omega arith)
 
-      first : Every (λ g. Some P (union P block g)) (startGroups 0 n)
-      first g m =
-          let t = map-out (λ p. p ∷ []) (from 0 n) m in
-          let s = h (t .0) (upTo-out n (t .1)) in
-          rw (t .2) (record { u = s .u; r = s .r; o = s .o; triple = s .triple; inside = union-one (t .0) (s .u) (s .r) (s .o) ∙ s .inside })
-
-  module _ (L : Lawful P) (n : ℕ) (part-fits : (p : ℕ) → p < n → Is (fits P (block p) 3)) where
-    abbrev pub Fitting : List ℕ → Type 0
-    Fitting g = Is (fits P (union P block g) (levelOf P (union P block g)))
-
-    joined-fits : (g h : List ℕ) → Is (mergeable P block g h) → Fitting (g ++ h)
-    unfolding mergeable levelOf
-    joined-fits g h m =
-        let top = suc (max (levelOf P (union P block g)) (levelOf P (union P block h))) in
-        let t = any-out (fits P (union P block (g ++ h))) (upTo top) m in
-        let b = upTo-out top (t .1) in
-        let c = lowest-most (fits P (union P block g)) in
-        let d = lowest-most (fits P (union P block h)) in
-        lowest-some (fits P (union P block (g ++ h))) (t .0) (omega arith) (t .2)
-
-    first-fits : (p : ℕ) → p < n → Fitting (p ∷ [])
-    unfolding levelOf
-    first-fits p h = lowest-passes (fits P (union P block (p ∷ []))) (fits-same P L (block p) (union P block (p ∷ [])) 3 (λ u r o t. sym (union-one p u r o)) (part-fits p h))
-
-    -- every group fits its level
-    pub groups-fit : Every Fitting (groups P block n)
-    groups-fit = runs-every (mergeable P block) _++_ Fitting joined (mined n) first
+    -- and the groups have no other members
+    pub groups-parts : Every (Every (λ p. p < n)) gs
+    groups-parts = runs-every (mergeable P block) _++_ (Every (λ p. p < n)) joined mined alone
       where
-        joined : (g h : List ℕ) → Fitting g → Fitting h → Is (mergeable P block g h) → Fitting (g ++ h)
-        joined g h p q m = joined-fits g h m
+        joined : (g h : List ℕ) → Every (λ p. p < n) g → Every (λ p. p < n) h → Is (mergeable P block g h) → Every (λ p. p < n) (g ++ h)
+        joined g h a b m p k = go (List·Memᴰ·append-cases g k)
+          where
+            go : (p isIn g) ⊎ (p isIn h) → p < n
+            go (inl i) = a p i
+            go (inr i) = b p i
 
-        first : Every Fitting (startGroups 0 n)
+        alone : Every (Every (λ p. p < n)) (startGroups 0 n)
+        alone g m p k =
+            let t = map-out (λ p. p ∷ []) (from 0 n) m in
+            let e = member-one (rw (t .2) at k) in
+            rw e (upTo-out n (t .1))
+          where
+            member-one : {q : ℕ} → p isIn (q ∷ []) → p ≡ q
+            member-one (List·Memᴰ·head e) = e
+            member-one (List·Memᴰ·tail m) = absurd (List·Memᴰ·not-nil m)
+
+    -- the groups stand in the order of their lowest parts
+    pub groups-ascending : Ascending (lowPart n) gs
+    groups-ascending = runs-ascending (mergeable P block) _++_ (lowPart n) (λ g h l. let e = lowPart-append n g h in omega arith) mined (start-ascending n 0 n (omega arith))
+
+    -- the groups' unions make up the union of all parts
+    pub groups-union : (u r o : ℕ) → any (λ g. union P block g u r o) gs ≡ any (λ p. block p u r o) (upTo n)
+    groups-union u r o =
+        sym (total-any (λ g. union P block g u r o) gs)
+        ∙ sym (runs-total (mergeable P block) _++_ _||_ false or-assoc or-comm (λ g. union P block g u r o) (λ g h. union-append g h u r o) mined)
+        ∙ total-any (λ g. union P block g u r o) (startGroups 0 n)
+        ∙ start-union 0 n u r o
+
+    -- no group is empty of triples
+    pub groups-some : ((p : ℕ) → p < n → Some P (block p)) → Every (λ g. Some P (union P block g)) gs
+    groups-some h = runs-every (mergeable P block) _++_ (λ g. Some P (union P block g)) joined mined first
+      where
+        joined : (g k : List ℕ) → Some P (union P block g) → Some P (union P block k) → Is (mergeable P block g k) → Some P (union P block (g ++ k))
+        joined g k s _ _ = record { u = s .u; r = s .r; o = s .o; triple = s .triple; inside = union-append g k (s .u) (s .r) (s .o) ∙ or-l _ (s .inside) }
+
+        first : Every (λ g. Some P (union P block g)) (startGroups 0 n)
         first g m =
             let t = map-out (λ p. p ∷ []) (from 0 n) m in
-            rw (t .2) (first-fits (t .0) (upTo-out n (t .1)))
+            let s = h (t .0) (upTo-out n (t .1)) in
+            rw (t .2) (record { u = s .u; r = s .r; o = s .o; triple = s .triple; inside = union-one (t .0) (s .u) (s .r) (s .o) ∙ s .inside })
 
-    unfoldable pub rule : ℕ → Rule
-    rule i = written P (union P block (getD (groups P block n) i []))
+    module _ (L : Lawful P) (part-fits : (p : ℕ) → p < n → Is (fits P (block p) 3)) where
+      abbrev pub Fitting : List ℕ → Type 0
+      Fitting g = Is (fits P (union P block g) (levelOf P (union P block g)))
 
-    -- a rule grants what its parts do
-    pub rule-exact : (i : ℕ) → i < length (groups P block n) → Same P (grants P (rule i)) (union P block (getD (groups P block n) i []))
-    unfolding rule
-    rule-exact i h = written-exact P L (union P block (getD (groups P block n) i [])) (groups-fit _ (getD-in (groups P block n) [] i h))
+      joined-fits : (g h : List ℕ) → Is (mergeable P block g h) → Fitting (g ++ h)
+      unfolding mergeable levelOf
+      joined-fits g h m =
+          let top = suc (max (levelOf P (union P block g)) (levelOf P (union P block h))) in
+          let t = any-out (fits P (union P block (g ++ h))) (upTo top) m in
+          let b = upTo-out top (t .1) in
+          let c = lowest-most (fits P (union P block g)) in
+          let d = lowest-most (fits P (union P block h)) in
+          lowest-some (fits P (union P block (g ++ h))) (t .0) (omega arith) (t .2)
 
-    -- no single rule, of a level no higher than the higher of theirs, grants what two rules grant together
-    pub no-pair : (i j : ℕ) → i < j → j < length (groups P block n) → (ρ : Rule) → Is (at P 3 ρ) → ruleLevel P ρ ≤ max (ruleLevel P (rule i)) (ruleLevel P (rule j))
-        → Same P (grants P ρ) (λ u r o. grants P (rule i) u r o || grants P (rule j) u r o) → ⊥
-    unfolding rule ruleLevel mergeable
-    no-pair i j h l ρ a k e =
-        let gi = getD (groups P block n) i [] in
-        let gj = getD (groups P block n) j [] in
-        let fi = groups-fit gi (getD-in (groups P block n) [] i (omega arith)) in
-        let fj = groups-fit gj (getD-in (groups P block n) [] j l) in
-        let li = written-level P L (union P block gi) fi in
-        let lj = written-level P L (union P block gj) fj in
-        let f = exact-fits P L (union P block (gi ++ gj)) (ruleLevel P ρ) ρ (lowest-passes (λ l. at P l ρ) a)
-        (λ u r o t. e u r o t ∙ ap₂ _||_ (rule-exact i (omega arith) u r o t) (rule-exact j l u r o t) ∙ sym (union-append gi gj u r o)) in
-        never {b = mergeable P block gi gj} (any-in (fits P (union P block (gi ++ gj))) (upTo-in {n = suc (max (levelOf P (union P block gi)) (levelOf P (union P block gj)))} {i = ruleLevel P ρ} (omega arith)) f) (apart-at (mergeable P block) _++_ [] (runs-apart (mergeable P block) _++_ (mined n)) i j h l)
+      first-fits : (p : ℕ) → p < n → Fitting (p ∷ [])
+      unfolding levelOf
+      first-fits p h = lowest-passes (fits P (union P block (p ∷ []))) (fits-same P L (block p) (union P block (p ∷ [])) 3 (λ u r o t. sym (union-one p u r o)) (part-fits p h))
+
+      -- every group fits its level
+      pub groups-fit : Every Fitting gs
+      groups-fit = runs-every (mergeable P block) _++_ Fitting joined mined first
+        where
+          joined : (g h : List ℕ) → Fitting g → Fitting h → Is (mergeable P block g h) → Fitting (g ++ h)
+          joined g h p q m = joined-fits g h m
+
+          first : Every Fitting (startGroups 0 n)
+          first g m =
+              let t = map-out (λ p. p ∷ []) (from 0 n) m in
+              rw (t .2) (first-fits (t .0) (upTo-out n (t .1)))
+
+      unfoldable pub rule : ℕ → Rule
+      rule i = written P (union P block (getD gs i []))
+
+      -- a rule grants what its parts do
+      pub rule-exact : (i : ℕ) → i < length gs → Same P (grants P (rule i)) (union P block (getD gs i []))
+      unfolding rule
+      rule-exact i h = written-exact P L (union P block (getD gs i [])) (groups-fit _ (getD-in gs [] i h))
+
+      -- no single rule, of a level no higher than the higher of theirs, grants what two rules grant together
+      pub no-pair : (i j : ℕ) → i < j → j < length gs → (ρ : Rule) → Is (at P 3 ρ) → ruleLevel P ρ ≤ max (ruleLevel P (rule i)) (ruleLevel P (rule j))
+          → Same P (grants P ρ) (λ u r o. grants P (rule i) u r o || grants P (rule j) u r o) → ⊥
+      unfolding rule ruleLevel mergeable
+      no-pair i j h l ρ a k e =
+          let gi = getD gs i [] in
+          let gj = getD gs j [] in
+          let fi = groups-fit gi (getD-in gs [] i (omega arith)) in
+          let fj = groups-fit gj (getD-in gs [] j l) in
+          let li = written-level P L (union P block gi) fi in
+          let lj = written-level P L (union P block gj) fj in
+          let f = exact-fits P L (union P block (gi ++ gj)) (ruleLevel P ρ) ρ (lowest-passes (λ l. at P l ρ) a)
+          (λ u r o t. e u r o t ∙ ap₂ _||_ (rule-exact i (omega arith) u r o t) (rule-exact j l u r o t) ∙ sym (union-append gi gj u r o)) in
+          never {b = mergeable P block gi gj} (any-in (fits P (union P block (gi ++ gj))) (upTo-in {n = suc (max (levelOf P (union P block gi)) (levelOf P (union P block gj)))} {i = ruleLevel P ρ} (omega arith)) f) (apart-at (mergeable P block) _++_ [] (runs-apart (mergeable P block) _++_ mined) i j h l)

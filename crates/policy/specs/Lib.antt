@@ -17,11 +17,14 @@ pub mod StrikeLaws
 pub mod ThinLaws
 pub mod CostLaws
 pub mod MergeLaws
+pub mod StageLaws
 pub mod OrderLaws
 pub mod WrittenLaws
 pub mod GroupLaws
 pub mod PartLaws
 pub mod ClassLaws
+pub mod SegmentLaws
+pub mod EdgeLaws
 pub mod SeniorLaws
 pub mod CircleLaws
 pub mod CircleSearchLaws

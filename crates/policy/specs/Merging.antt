@@ -1,6 +1,6 @@
 -- Merging: the first pair that may be joined is joined, and the search begins afresh. 01, section "Covering, merging, striking".
 -- Assumes nothing.
-use Prim.Native.Nat.{ℕ, zero, suc, max, min}
+use Prim.Native.Nat.{ℕ, zero, suc, _+_, max, min}
 use mathlib.Core.Bool.{Bool, cond}
 use mathlib.Core.List.{List, [], _∷_, _++_, map}
 use mathlib.Core.Option.{Option, none, some, Option·map}
@@ -28,6 +28,16 @@ module _ {A : Type 0} (ok : A → A → Bool) (join : A → A → A) where
   mergeAll zero gs = (gs, 0)
   mergeAll (suc n) gs = elim (step gs) [ none ↦ (gs, 0) | some s ↦ let r = mergeAll n s in (r .0, suc (r .1)) ]
 
+  -- request 11: "Groups merge within each run until no pair is left". A segment is the groups of one run; those that are
+  -- left of each, one segment behind the other, and the merges made in all of them
+  abbrev pub firstStage : ℕ → List (List A) → List A × ℕ
+  firstStage n [] = ([], 0)
+  firstStage n (gs ∷ segments) = let r = mergeAll n gs in let s = firstStage n segments in (r .0 ++ s .0, r .1 + s .1)
+
+  -- "then merging goes on over all groups", and merges are "counted, over both stages"
+  abbrev pub stages : ℕ → List (List A) → List A × ℕ
+  stages n segments = let r = firstStage n segments in let s = mergeAll n (r .0) in (s .0, r .1 + s .1)
+
 -- "Groups start as one part each": the parts k, k + 1, ..., n of them
 abbrev pub startGroups : ℕ → ℕ → List (List ℕ)
 startGroups k n = map (λ p. p ∷ []) (from k n)
@@ -41,7 +51,7 @@ module _ (P : Setting) (block : ℕ → Block) where
   unfoldable pub mergeable : List ℕ → List ℕ → Bool
   mergeable g h = any (fits P (union (g ++ h))) (upTo (suc (max (levelOf P (union g)) (levelOf P (union h)))))
 
-  -- the groups that merging leaves of n parts, and how many merges were made
+  -- the groups that 01's merging, over all parts at once, leaves of n parts, and how many merges were made
   unfoldable pub groups : ℕ → List (List ℕ)
   groups n = mergeAll mergeable _++_ n (startGroups 0 n) .0
 

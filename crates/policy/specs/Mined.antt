@@ -1,12 +1,19 @@
--- The groups that mining leaves, and their rules. 01, section "Covering, merging, striking".
+-- The groups that mining leaves, and their rules. 01, section "Covering, merging, striking"; with cuts, request 11.
 -- Assumes nothing.
-use Prim.Native.Nat.{ℕ}
+use Prim.Native.Nat.{ℕ, suc}
+use lib.Dec.{eqb, leb}
 use lib.ListN.{length, getD}
-use mathlib.Core.List.{List}
-use Rattle.policy.specs.Merging.{union, groups, mergesMade}
+use mathlib.Core.List.{List, [], _∷_, _++_, map}
+use Rattle.policy.specs.Merging.{stages, union, mergeable}
 use Rattle.policy.specs.Roles.{Roles, Part, parts, blockOf}
 use Rattle.policy.specs.Rules.{Setting, Rule, Block}
 use Rattle.policy.specs.Thinning.{written}
+use Rattle.sets.specs.Tests.{keep, upTo}
+
+-- request 11: cut c parts role c from the one before it. The number of the run that role k stands in: as many runs come
+-- before it as there are cuts up to k
+unfoldable pub runOf : List ℕ → ℕ → ℕ
+runOf cuts k = length (keep (λ c. leb c k) cuts)
 
 module _ (P : Setting) (R : Roles) where
   unfoldable pub partCount : ℕ
@@ -19,12 +26,18 @@ module _ (P : Setting) (R : Roles) where
   unfoldable pub partBlock : ℕ → Block
   partBlock p = blockOf P R (partAt p)
 
-  -- the groups that merging leaves, as lists of part numbers in the order in which they came together
-  unfoldable pub minedGroups : List (List ℕ)
-  minedGroups = groups P partBlock partCount
+  -- the parts of each run of roles, in their order, each a group by itself
+  unfoldable pub segments : List ℕ → List (List (List ℕ))
+  segments cuts =
+      map (λ j. map (λ p. p ∷ []) (keep (λ p. eqb (runOf cuts (partAt p .role)) j) (upTo partCount)))
+      (upTo (suc (length cuts)))
 
-  unfoldable pub mergeCount : ℕ
-  mergeCount = mergesMade P partBlock partCount
+  -- the groups that merging with these cuts leaves, as lists of part numbers in the order in which they came together
+  unfoldable pub minedGroups : List ℕ → List (List ℕ)
+  minedGroups cuts = stages (mergeable P partBlock) _++_ partCount (segments cuts) .0
+
+  unfoldable pub mergeCount : List ℕ → ℕ
+  mergeCount cuts = stages (mergeable P partBlock) _++_ partCount (segments cuts) .1
 
   -- what a group's parts grant; its rule
   unfoldable pub groupBlock : List ℕ → Block

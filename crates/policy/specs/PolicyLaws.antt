@@ -6,6 +6,7 @@ use lib.Dec.{eqb}
 use lib.ListN.{length}
 use mathlib.Core.Bool.{Bool, true, false, _&&_, or-false}
 use mathlib.Core.Logic.{_⊎_, inl, inr, ⊎-elim}
+use mathlib.Core.List.{List}
 use mathlib.Core.Path.{_≡_, refl, sym, _∙_}
 use Rattle.policy.specs.MinedLaws.{MinedRules, mined-rules}
 use Rattle.policy.specs.PartLaws.{alike-out, roles-grant, Own}
@@ -45,9 +46,9 @@ module _ (F : Policy) where
     resources = λ vs r lr. any-ext (λ v. eqb v r) (eqb r) vs (λ v m. eqb-turned v r);
   }
 
-  -- the third demand, of the rules of every policy
-  pub mined-of : MinedRules (settingOf F) (rolesIn F)
-  mined-of = mined-rules (settingOf F) (rolesIn F) lawful owned
+  -- the third demand, of the rules of every policy, with every list of cuts
+  pub mined-of : (cuts : List ℕ) → MinedRules (settingOf F) (rolesIn F) cuts
+  mined-of cuts = mined-rules (settingOf F) (rolesIn F) cuts lawful owned
 
   -- the roles grant what a role that the user holds is assigned itself
   pub granted : (u r o : ℕ) → Triple (settingOf F) u r o → rolesGrant (settingOf F) (rolesIn F) u r o ≡ any (λ k. held F k u && F .permitted k r o) (upTo (F .roles))

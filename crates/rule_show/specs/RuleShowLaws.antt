@@ -8,7 +8,7 @@ use mathlib.Core.Bool.{true, false}
 use mathlib.Core.List.{List}
 use mathlib.Core.Path.{_≡_, refl, sym, ap, _∙_}
 use native.Mathlib.Omega.{arith}
-use Rattle.files.specs.Answer.{Refusal, numberOf, Answer, unless, andThen, tooLong, cutOff, unknownCommand, outOfPlace, beyond, wrongKind, ownSenior, smallScratch, shortOutput, rulesCutOff, rulesUnknown, rulesOrder, rulesOperand, noSuchRule, zeroSeed, wrongShape, wrongTable, wrongLevel, wrongWindow, raggedLog, refused, accepted}
+use Rattle.files.specs.Answer.{Refusal, numberOf, Answer, unless, andThen, tooLong, cutOff, unknownCommand, outOfPlace, beyond, wrongKind, ownSenior, smallScratch, shortOutput, rulesCutOff, rulesUnknown, rulesOrder, rulesOperand, noSuchRule, zeroSeed, wrongShape, wrongTable, wrongLevel, wrongWindow, raggedLog, badCuts, refused, accepted}
 use Rattle.files.specs.BytesLaws.{number-positive}
 use Rattle.files.specs.Calls.{readBoth, showAnswer, shownPlace, shownByte}
 use Rattle.files.specs.RuleFile.{Lines}
@@ -40,6 +40,7 @@ number-byte wrongTable = omega arith
 number-byte wrongLevel = omega arith
 number-byte wrongWindow = omega arith
 number-byte raggedLog = omega arith
+number-byte badCuts = omega arith
 
 pub shown-byte : (file rules : List ℕ) (n : ℕ) → shownByte 2 file rules n < 256
 unfolding shownByte

@@ -31,22 +31,25 @@ fn print_mined(mined: Mined) {
 }
 
 // Prints the line of a file, whatever scratch and output held before: both are filled anew.
-fn print_line(file: &[u8], seed: usize, scratch: &mut [u64], out: &mut [u8]) {
+fn print_line(file: &[u8], cuts: &[u8], seed: usize, scratch: &mut [u64], out: &mut [u8]) {
     test_lines::fill_scratch(scratch, seed);
     test_lines::fill_memory(out, seed);
-    print_mined(mining::mine(file, mining::ones(), scratch, out));
+    print_mined(mining::mine(file, cuts, mining::ones(), scratch, out));
     test_lines::print_memory(out);
 }
 
 // Prints the line of the case in front, and returns how many bytes the case takes. A case is the length of its file (two bytes, low
-// byte first), the words of scratch (two bytes) and the bytes of output to lend (three bytes), and the file. One that is cut off takes
-// what is left, and has no line.
+// byte first), the words of scratch (two bytes) and the bytes of output to lend (three bytes), the number of cuts (one byte), the cuts,
+// and the file. One that ends before its file does takes what is left, and has no line.
 fn case(s: &[u8], seed: usize, scratch: &mut [u64], out: &mut [u8]) -> usize
-    ensures { λ r. ⌜ r ≡ min (7 + numberAt 2 (now (s .entry)) 0) (length (now (s .entry))) ⌝ }
+    ensures { λ r. ⌜
+        r
+        ≡ min (8 + numberAt 1 (now (s .entry)) 7 + numberAt 2 (now (s .entry)) 0) (length (now (s .entry))) ⌝ }
 {
     let low = file_bytes::byte_at(s, 0);
     let high = file_bytes::byte_at(s, 1);
-    let end = 7 + low + 256 * high;
+    let start = 8 + file_bytes::byte_at(s, 7);
+    let end = start + (low + 256 * high);
     if s.len() < end {
         return s.len();
     }
@@ -60,7 +63,13 @@ fn case(s: &[u8], seed: usize, scratch: &mut [u64], out: &mut [u8]) -> usize
             + 65536 * file_bytes::byte_at(s, 6),
         out.len(),
     );
-    print_line(&s[7..end], seed, &mut scratch[0..words], &mut out[0..room]);
+    print_line(
+        &s[start..end],
+        &s[8..start],
+        seed,
+        &mut scratch[0..words],
+        &mut out[0..room],
+    );
     end
 }
 
@@ -80,9 +89,9 @@ fn print_both(s: &[u8], out: &mut [u8])
     requires { ⌜ 65536 ≡ length (now s) ⌝ }
 {
     let mut scratch = [0u64; mining::SCRATCH];
-    print_line(&s[0..RoleFile::BYTES], 1, &mut scratch, out);
-    print_line(s, 2, &mut scratch, out);
-    print_line(s, 3, &mut scratch[0..TOO_FEW], out);
+    print_line(&s[0..RoleFile::BYTES], b"", 1, &mut scratch, out);
+    print_line(s, b"", 2, &mut scratch, out);
+    print_line(s, b"", 3, &mut scratch[0..TOO_FEW], out);
 }
 
 // Cases lend more words than are needed, too.
@@ -90,7 +99,7 @@ const WORDS: usize = mining::SCRATCH + 64;
 
 fn main() {
     // tests/minecases.py makes no longer corpus
-    let mut corpus = [0u8; 327680];
+    let mut corpus = [0u8; 344064];
     let n = io::read_full(0, &mut corpus);
     let mut scratch = [0u64; WORDS];
     // the longest of the outputs, and more

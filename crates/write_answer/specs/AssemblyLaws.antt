@@ -2,13 +2,14 @@
 -- Assumes nothing.
 use Prim.Native.Nat.{ℕ, _+_, _*_, _≤_}
 use lib.ListN.{length, getD}
+use mathlib.Core.Bool.{Bool}
 use mathlib.Core.List.{List, [], _∷_}
 use mathlib.Core.Path.{_≡_, refl, sym, ap, _∙_, subst}
 use native.Mathlib.Omega.{arith}
 use Rattle.role_record.specs.Record.{Sized, attributeTable, recordWith, recordOf}
 use Rattle.mine_distinct.specs.InsideValues.{insideTable}
 use Rattle.files.specs.Answer.{accepted}
-use Rattle.files.specs.Calls.{Counts, countValues, minedBytes, minedCounts}
+use Rattle.files.specs.Calls.{Counts, countValues, cutsOk, minedBytes, minedCounts}
 use Rattle.files.specs.RoleFile.{readRoles}
 use Rattle.grant_grids.specs.Links.{linkTable}
 use Rattle.mine_matches.specs.Matches.{matchTable, knownPlaces}
@@ -27,6 +28,7 @@ use Rattle.policy.specs.Mined.{mergeCount}
 use Rattle.policy.specs.Policy.{Policy, settingOf, rolesIn}
 use Rattle.policy.specs.Rules.{user, resource}
 use Rattle.policy.specs.declared.Weights.{Weights}
+use Rattle.sets.specs.Tests.{Is}
 use Rattle.write_cost.specs.CostSums.{weighed}
 use Rattle.mine_groups.specs.Scratch.{Merged, allParts, Stands}
 use Rattle.mine_parts.specs.Layout.{mostParts}
@@ -75,9 +77,9 @@ module _ (F : Policy) (known values kinds domains attributes holders permissions
     of-roles = s .of-roles;
   }
 
-  pub written-by : (kept starts t : List ℕ) → Merged F (allParts starts) t → KeptFor F starts t kept
-      → WrittenBy F kept distinct having inside kinds permissions (record { users = users; resources = resources; operations = operations; roles = roles }) attributes starts t
-  written-by kept starts t M k = record {
+  pub written-by : (cuts kept starts t : List ℕ) → Merged F cuts (allParts starts) t → KeptFor F starts t kept
+      → WrittenBy F cuts kept distinct having inside kinds permissions (record { users = users; resources = resources; operations = operations; roles = roles }) attributes starts t
+  written-by cuts kept starts t M k = record {
     merged = M;
     of-kept = k;
     of-distinct = merged-by .of-distinct;
@@ -120,18 +122,18 @@ module _ (F : Policy) (known kinds domains attributes holders permissions distin
 
 -- ---- writing
 
-module _ (F : Policy) (Z : Sized F) (kept distinct having inside kinds permissions : List ℕ) (sizes : Sizes) (attributes starts t : List ℕ) (S : Stands t starts)
-    (w : WrittenBy F kept distinct having inside kinds permissions sizes attributes starts t) where
-  pub file-so : shapedBytes (shapeIn sizes attributes) (fileBytes kept distinct having inside kinds permissions (sizes .operations) starts t) ≡ minedBytes 2 F
+module _ (F : Policy) (cuts : List ℕ) (Z : Sized F) (kept distinct having inside kinds permissions : List ℕ) (sizes : Sizes) (attributes starts t : List ℕ) (S : Stands t starts)
+    (w : WrittenBy F cuts kept distinct having inside kinds permissions sizes attributes starts t) where
+  pub file-so : shapedBytes (shapeIn sizes attributes) (fileBytes kept distinct having inside kinds permissions (sizes .operations) starts t) ≡ minedBytes 2 F cuts
   file-so =
       ap (λ (shape : List ℕ). shapedBytes shape (fileBytes kept distinct having inside kinds permissions (sizes .operations) starts t)) (w .of-shape)
-      ∙ rw (w .of-distinct, w .of-having, w .of-inside, w .of-kinds, w .of-permissions, w .of-operations) (file-means F Z starts t S (w .merged) kept (w .of-kept))
+      ∙ rw (w .of-distinct, w .of-having, w .of-inside, w .of-kinds, w .of-permissions, w .of-operations) (file-means F cuts Z starts t S (w .merged) kept (w .of-kept))
 
   pub measured-so : (m : Measured) → m ≡ measuredOf kept distinct having inside kinds permissions (sizes .operations) starts t
-      → (7 + m .bytes ≡ length (minedBytes 2 F))
-      × ((weights : Weights) → minedCounts 2 F weights ≡ record { size = 7 + m .bytes; parts = allParts starts; rules = m .rules; merges = mergeCount (settingOf F) (rolesIn F); cost = weighed weights (m .sums) })
+      → (7 + m .bytes ≡ length (minedBytes 2 F cuts))
+      × ((weights : Weights) → minedCounts 2 F cuts weights ≡ record { size = 7 + m .bytes; parts = allParts starts; rules = m .rules; merges = mergeCount (settingOf F) (rolesIn F) cuts; cost = weighed weights (m .sums) })
   measured-so m e =
-      measure-means F Z starts t S (w .merged) kept (w .of-kept) m (e ∙ rw (w .of-distinct, w .of-having, w .of-inside, w .of-kinds, w .of-permissions, w .of-operations) refl)
+      measure-means F cuts Z starts t S (w .merged) kept (w .of-kept) m (e ∙ rw (w .of-distinct, w .of-having, w .of-inside, w .of-kinds, w .of-permissions, w .of-operations) refl)
 
 -- what was measured is as long as the rules that are written, and not long
 pub measured-long : (kept distinct having inside kinds permissions : List ℕ) (operations : ℕ) (starts t : List ℕ) → Stands t starts → (m : Measured) → m ≡ measuredOf kept distinct having inside kinds permissions operations starts t
@@ -148,15 +150,20 @@ record-sizes F Z f e =
     subst (λ (g : RoleFile). ((g .users ≤ 64) × (g .resources ≤ 64) × (g .operations ≤ 16) × (g .roles ≤ 32)) × (getD (g .attributes) 0 0 ≤ 6) × (getD (g .attributes) 1 0 ≤ 6)) (sym e)
     ((Z .many user, Z .many resource, Z .operable, Z .few), Z .declared user, Z .declared resource)
 
+-- cuts between the roles of a loaded record
+pub cuts-so : (F : Policy) (f : RoleFile) → f ≡ recordOf F → (cuts : List ℕ) (b : Bool) → cutsOk cuts (f .roles) ≡ b → cutsOk cuts (F .roles) ≡ b
+unfolding recordOf recordWith
+cuts-so F f e cuts b h = ap (λ (g : RoleFile). cutsOk cuts (g .roles)) (sym e) ∙ h
+
 -- the answer once the file is written
-pub answered : (file : List ℕ) (scratch : ℕ) (former : List ℕ) → 4096 ≤ scratch → (F : Policy) → readRoles 2 file ≡ accepted F → (m : Measured) (parts merges : ℕ)
-    → ((weights : Weights) → minedCounts 2 F weights ≡ record { size = 7 + m .bytes; parts = parts; rules = m .rules; merges = mergeCount (settingOf F) (rolesIn F); cost = weighed weights (m .sums) })
-    → merges ≡ mergeCount (settingOf F) (rolesIn F) → length (minedBytes 2 F) ≤ length former
-    → (bytes out : List ℕ) → bytes ≡ minedBytes 2 F → out ≡ wrote bytes former → Outcome file scratch former (Rules (7 + m .bytes) parts (m .rules) merges (m .sums)) out
-answered file scratch former h F q m parts merges e g l bytes out b o =
-    written file scratch former h F q l out (o ∙ ap (λ (x : List ℕ). wrote x former) b) (Rules (7 + m .bytes) parts (m .rules) merges (m .sums))
+pub answered : (file cuts : List ℕ) (scratch : ℕ) (former : List ℕ) → 4096 ≤ scratch → (F : Policy) → readRoles 2 file ≡ accepted F → Is (cutsOk cuts (F .roles)) → (m : Measured) (parts merges : ℕ)
+    → ((weights : Weights) → minedCounts 2 F cuts weights ≡ record { size = 7 + m .bytes; parts = parts; rules = m .rules; merges = mergeCount (settingOf F) (rolesIn F) cuts; cost = weighed weights (m .sums) })
+    → merges ≡ mergeCount (settingOf F) (rolesIn F) cuts → length (minedBytes 2 F cuts) ≤ length former
+    → (bytes out : List ℕ) → bytes ≡ minedBytes 2 F cuts → out ≡ wrote bytes former → Outcome file cuts scratch former (Rules (7 + m .bytes) parts (m .rules) merges (m .sums)) out
+answered file cuts scratch former h F q c m parts merges e g l bytes out b o =
+    written file cuts scratch former h F q c l out (o ∙ ap (λ (x : List ℕ). wrote x former) b) (Rules (7 + m .bytes) parts (m .rules) merges (m .sums))
     (λ weights. ap (λ (k : ℕ). 0 ∷ (7 + m .bytes) ∷ parts ∷ m .rules ∷ k ∷ weighed weights (m .sums) ∷ []) g ∙ ap (λ (c : Counts). 0 ∷ countValues c) (sym (e weights)))
 
 -- the answer that is told
-pub told-so : (file : List ℕ) (scratch : ℕ) (former : List ℕ) {out : List ℕ} {r s : Wrote} → r ≡ s → Outcome file scratch former s out → Outcome file scratch former r out
-told-so file scratch former {out} e o = subst (λ (x : Wrote). Outcome file scratch former x out) (sym e) o
+pub told-so : (file cuts : List ℕ) (scratch : ℕ) (former : List ℕ) {out : List ℕ} {r s : Wrote} → r ≡ s → Outcome file cuts scratch former s out → Outcome file cuts scratch former r out
+told-so file cuts scratch former {out} e o = subst (λ (x : Wrote). Outcome file cuts scratch former x out) (sym e) o

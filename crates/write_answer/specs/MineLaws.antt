@@ -8,10 +8,10 @@ use mathlib.Core.Bool.{Bool, true, false}
 use mathlib.Core.List.{List, _∷_, _++_}
 use mathlib.Core.Path.{_≡_, refl, sym, ap, _∙_, subst}
 use Rattle.files.specs.Beside.{besideOf}
-use Rattle.files.specs.Answer.{Refusal, numberOf, Answer, told, unless, andThen, smallScratch, shortOutput, refused, accepted}
+use Rattle.files.specs.Answer.{Refusal, numberOf, Answer, told, unless, andThen, smallScratch, shortOutput, badCuts, refused, accepted}
 use Rattle.files.specs.BytesLaws.{Bytes}
 use Rattle.files.specs.CallLaws.{third-demand}
-use Rattle.files.specs.Calls.{Counts, countValues, minedBytes, minedCounts, mayMine, mineAnswer, mineOutput}
+use Rattle.files.specs.Calls.{Counts, countValues, cutsOk, minedBytes, minedCounts, mayMine, mineAnswer, mineOutput}
 use Rattle.files.specs.Demand3.{Demand3}
 use Rattle.files.specs.RoleFile.{readRoles}
 use Rattle.write_answer.specs.MinedNumbers.{minedNumbers}
@@ -19,88 +19,102 @@ use Rattle.write_answer.specs.Stages.{bytesFor, neededBytes, wroteNumber
 use Rattle.policy.specs.Policy.{Policy, settingOf, rolesIn}
 use Rattle.policy.specs.declared.Weights.{Weights}
 use Rattle.role_file.specs.Reading.{refusal, loadedOf}
+use Rattle.sets.specs.Tests.{Is}
 use Rattle.write_answer.specs.declared.Mined.{Mined}
 use Rattle.write_answer.specs.declared.Wrote.{Wrote}
 use Rattle.write_answer.specs.declared.Wrote.the-variants.{Nothing}
 use Rattle.role_file.specs.declared.Loaded.{Loaded}
 
-module _ (file : List ℕ) (scratch : ℕ) (former : List ℕ) where
+module _ (file cuts : List ℕ) (scratch : ℕ) (former : List ℕ) where
   -- a refusal
   abbrev outputBy : Answer Policy → List ℕ
-  outputBy a = elim a [ refused e ↦ former | accepted F ↦ minedBytes 2 F ++ drop (length (minedBytes 2 F)) former ]
+  outputBy a = elim a [ refused e ↦ former | accepted F ↦ minedBytes 2 F cuts ++ drop (length (minedBytes 2 F cuts)) former ]
 
-  output-by : (a : Answer Policy) → mayMine 2 file scratch (length former) ≡ a → mineOutput 2 file scratch former ≡ outputBy a
+  output-by : (a : Answer Policy) → mayMine 2 file cuts scratch (length former) ≡ a → mineOutput 2 file cuts scratch former ≡ outputBy a
   unfolding mineOutput
   output-by a h = ap outputBy h
 
-  refuses : (e : Refusal) → mayMine 2 file scratch (length former) ≡ refused e → Outcome file scratch former (Nothing (numberOf e)) former
+  refuses : (e : Refusal) → mayMine 2 file cuts scratch (length former) ≡ refused e → Outcome file cuts scratch former (Nothing (numberOf e)) former
   unfolding mineAnswer
   refuses e h = (λ weights. rw h refl, sym (output-by (refused e) h))
 
-  may-small : scratch < 4096 → mayMine 2 file scratch (length former) ≡ refused smallScratch
+  may-small : scratch < 4096 → mayMine 2 file cuts scratch (length former) ≡ refused smallScratch
   unfolding mayMine
-  may-small h = ap (λ (b : Bool). unless b smallScratch (andThen (readRoles 2 file) (λ F. unless (leb (length (minedBytes 2 F)) (length former)) shortOutput (accepted F)))) (lt-leb 4096 scratch h)
+  may-small h = ap (λ (b : Bool). unless b smallScratch (andThen (readRoles 2 file) (λ F. unless (cutsOk cuts (F .roles)) badCuts (unless (leb (length (minedBytes 2 F cuts)) (length former)) shortOutput (accepted F))))) (lt-leb 4096 scratch h)
 
   -- 8
-  pub small : scratch < 4096 → Outcome file scratch former (Nothing 8) former
+  pub small : scratch < 4096 → Outcome file cuts scratch former (Nothing 8) former
   small h = refuses smallScratch (may-small h)
 
   module _ (h : 4096 ≤ scratch) where
-    may-read : (a : Answer Policy) → readRoles 2 file ≡ a → mayMine 2 file scratch (length former) ≡ andThen a (λ F. unless (leb (length (minedBytes 2 F)) (length former)) shortOutput (accepted F))
+    may-read : (a : Answer Policy) → readRoles 2 file ≡ a → mayMine 2 file cuts scratch (length former) ≡ andThen a (λ F. unless (cutsOk cuts (F .roles)) badCuts (unless (leb (length (minedBytes 2 F cuts)) (length former)) shortOutput (accepted F)))
     unfolding mayMine
-    may-read a e = rw (le-leb 4096 scratch h) (ap (λ (r : Answer Policy). andThen r (λ F. unless (leb (length (minedBytes 2 F)) (length former)) shortOutput (accepted F))) e)
+    may-read a e = rw (le-leb 4096 scratch h) (ap (λ (r : Answer Policy). andThen r (λ F. unless (cutsOk cuts (F .roles)) badCuts (unless (leb (length (minedBytes 2 F cuts)) (length former)) shortOutput (accepted F)))) e)
 
     -- 1 to 7
-    pub unread : (l : Loaded) → l ≡ loadedOf (readRoles 2 file) → (l .code ≡ 0 → ⊥) → Outcome file scratch former (Nothing (l .code)) former
+    pub unread : (l : Loaded) → l ≡ loadedOf (readRoles 2 file) → (l .code ≡ 0 → ⊥) → Outcome file cuts scratch former (Nothing (l .code)) former
     unfolding loadedOf refusal
     unread l e n = go (readRoles 2 file) refl e
       where
-        go : (a : Answer Policy) → readRoles 2 file ≡ a → l ≡ loadedOf a → Outcome file scratch former (Nothing (l .code)) former
-        go (refused d) q p = subst (λ (k : ℕ). Outcome file scratch former (Nothing k) former) (ap (λ (m : Loaded). m .code) (sym p)) (refuses d (may-read (refused d) q))
+        go : (a : Answer Policy) → readRoles 2 file ≡ a → l ≡ loadedOf a → Outcome file cuts scratch former (Nothing (l .code)) former
+        go (refused d) q p = subst (λ (k : ℕ). Outcome file cuts scratch former (Nothing k) former) (ap (λ (m : Loaded). m .code) (sym p)) (refuses d (may-read (refused d) q))
         go (accepted F) q p = absurd (n (ap (λ (m : Loaded). m .code) p))
 
     module _ (F : Policy) (q : readRoles 2 file ≡ accepted F) where
-      may-room : (b : Bool) → leb (length (minedBytes 2 F)) (length former) ≡ b → mayMine 2 file scratch (length former) ≡ unless b shortOutput (accepted F)
-      may-room b e = may-read (accepted F) q ∙ ap (λ (x : Bool). unless x shortOutput (accepted F)) e
+      may-cut : (b : Bool) → cutsOk cuts (F .roles) ≡ b → mayMine 2 file cuts scratch (length former) ≡ unless b badCuts (unless (leb (length (minedBytes 2 F cuts)) (length former)) shortOutput (accepted F))
+      may-cut b e = may-read (accepted F) q ∙ ap (λ (x : Bool). unless x badCuts (unless (leb (length (minedBytes 2 F cuts)) (length former)) shortOutput (accepted F))) e
+
+      -- 21
+      pub bad-cuts : cutsOk cuts (F .roles) ≡ false → Outcome file cuts scratch former (Nothing 21) former
+      bad-cuts e = refuses badCuts (may-cut false e)
+
+      may-room : Is (cutsOk cuts (F .roles)) → (b : Bool) → leb (length (minedBytes 2 F cuts)) (length former) ≡ b → mayMine 2 file cuts scratch (length former) ≡ unless b shortOutput (accepted F)
+      may-room c b e = may-cut true c ∙ ap (λ (x : Bool). unless x shortOutput (accepted F)) e
 
       -- 9
-      pub short : length former < length (minedBytes 2 F) → Outcome file scratch former (Nothing 9) former
-      short l = refuses shortOutput (may-room false (lt-leb (length (minedBytes 2 F)) (length former) l))
+      pub short : Is (cutsOk cuts (F .roles)) → length former < length (minedBytes 2 F cuts) → Outcome file cuts scratch former (Nothing 9) former
+      short c l = refuses shortOutput (may-room c false (lt-leb (length (minedBytes 2 F cuts)) (length former) l))
 
       -- the file is written
-      pub written : length (minedBytes 2 F) ≤ length former → (out : List ℕ) → out ≡ minedBytes 2 F ++ drop (length (minedBytes 2 F)) former
-          → (r : Wrote) → ((weights : Weights) → wroteNumbers weights r ≡ 0 ∷ countValues (minedCounts 2 F weights)) → Outcome file scratch former r out
+      pub written : Is (cutsOk cuts (F .roles)) → length (minedBytes 2 F cuts) ≤ length former → (out : List ℕ) → out ≡ minedBytes 2 F cuts ++ drop (length (minedBytes 2 F cuts)) former
+          → (r : Wrote) → ((weights : Weights) → wroteNumbers weights r ≡ 0 ∷ countValues (minedCounts 2 F cuts weights)) → Outcome file cuts scratch former r out
       unfolding mineAnswer
-      written l out e r n =
-          let m = may-room true (le-leb (length (minedBytes 2 F)) (length former) l) in
-          (λ weights. n weights ∙ sym (ap (λ (a : Answer Policy). told countValues (andThen a (λ F. accepted (minedCounts 2 F weights)))) m), e ∙ sym (output-by (accepted F) m))
+      written c l out e r n =
+          let m = may-room c true (le-leb (length (minedBytes 2 F cuts)) (length former) l) in
+          (λ weights. n weights ∙ sym (ap (λ (a : Answer Policy). told countValues (andThen a (λ F. accepted (minedCounts 2 F cuts weights)))) m), e ∙ sym (output-by (accepted F) m))
 
   -- the third demand, of the first bytes of the output
-  pub demanded : Bytes file → (weights : Weights) (out : List ℕ) → out ≡ mineOutput 2 file scratch former → (c : Counts) → mineAnswer 2 file weights scratch (length former) ≡ accepted c
-      → (F : Policy) × (readRoles 2 file ≡ accepted F) × Demand3 2 weights (besideOf F) (take (c .size) out) c
+  pub demanded : Bytes file → (weights : Weights) (out : List ℕ) → out ≡ mineOutput 2 file cuts scratch former → (c : Counts) → mineAnswer 2 file cuts weights scratch (length former) ≡ accepted c
+      → (F : Policy) × (readRoles 2 file ≡ accepted F) × Demand3 2 cuts weights (besideOf F) (take (c .size) out) c
   demanded b weights out e c h =
-      subst (λ (o : List ℕ). (F : Policy) × (readRoles 2 file ≡ accepted F) × Demand3 2 weights (besideOf F) (take (c .size) o) c) (sym e) (third-demand 2 file b weights scratch former c h)
+      subst (λ (o : List ℕ). (F : Policy) × (readRoles 2 file ≡ accepted F) × Demand3 2 cuts weights (besideOf F) (take (c .size) o) c) (sym e) (third-demand 2 file b cuts weights scratch former c h)
 
   -- all three together, of what is told of what was written
-  pub promised : Bytes file → (weights : Weights) (r : Mined) (w : Wrote) (out : List ℕ) → minedNumbers r ≡ wroteNumbers weights w → Outcome file scratch former w out
-      → (minedNumbers r ≡ told countValues (mineAnswer 2 file weights scratch (length former))) × (out ≡ mineOutput 2 file scratch former)
-      × ((c : Counts) → mineAnswer 2 file weights scratch (length former) ≡ accepted c → (F : Policy) × (readRoles 2 file ≡ accepted F) × Demand3 2 weights (besideOf F) (take (c .size) out) c)
+  pub promised : Bytes file → (weights : Weights) (r : Mined) (w : Wrote) (out : List ℕ) → minedNumbers r ≡ wroteNumbers weights w → Outcome file cuts scratch former w out
+      → (minedNumbers r ≡ told countValues (mineAnswer 2 file cuts weights scratch (length former))) × (out ≡ mineOutput 2 file cuts scratch former)
+      × ((c : Counts) → mineAnswer 2 file cuts weights scratch (length former) ≡ accepted c → (F : Policy) × (readRoles 2 file ≡ accepted F) × Demand3 2 cuts weights (besideOf F) (take (c .size) out) c)
   promised b weights r w out n o = (n ∙ o .0 weights, o .1, demanded b weights out (o .1))
 
--- a role file that is refused has no rule file
-pub unread-bytes : (file : List ℕ) (l : Loaded) → l ≡ loadedOf (readRoles 2 file) → (l .code ≡ 0 → ⊥) → 0 ≡ bytesFor (readRoles 2 file)
+-- a role file that is refused has no rule file, and with bad cuts none has
+pub unread-bytes : (file cuts : List ℕ) (l : Loaded) → l ≡ loadedOf (readRoles 2 file) → (l .code ≡ 0 → ⊥) → 0 ≡ bytesFor cuts (readRoles 2 file)
 unfolding loadedOf refusal
-unread-bytes file l e n = go (readRoles 2 file) e
+unread-bytes file cuts l e n = go (readRoles 2 file) e
   where
-    go : (a : Answer Policy) → l ≡ loadedOf a → 0 ≡ bytesFor a
+    go : (a : Answer Policy) → l ≡ loadedOf a → 0 ≡ bytesFor cuts a
     go (refused d) p = refl
     go (accepted F) p = absurd (n (ap (λ (m : Loaded). m .code) p))
 
--- the length that is needed, by the words of scratch
-pub needed-none : (file : List ℕ) (scratch : ℕ) → scratch < 4096 → 0 ≡ neededBytes file scratch
-unfolding neededBytes
-needed-none file scratch h = rw (lt-leb 4096 scratch h)
+pub uncut-bytes : (file cuts : List ℕ) (F : Policy) → readRoles 2 file ≡ accepted F → cutsOk cuts (F .roles) ≡ false → 0 ≡ bytesFor cuts (readRoles 2 file)
+uncut-bytes file cuts F q e = rw (q, e) refl
 
-pub needed-some : (file : List ℕ) (scratch n : ℕ) → 4096 ≤ scratch → n ≡ bytesFor (readRoles 2 file) → n ≡ neededBytes file scratch
+pub cut-bytes : (file cuts : List ℕ) (F : Policy) → readRoles 2 file ≡ accepted F → Is (cutsOk cuts (F .roles)) → length (minedBytes 2 F cuts) ≡ bytesFor cuts (readRoles 2 file)
+cut-bytes file cuts F q e = rw (q, e) refl
+
+-- the length that is needed, by the words of scratch
+pub needed-none : (file cuts : List ℕ) (scratch : ℕ) → scratch < 4096 → 0 ≡ neededBytes file cuts scratch
 unfolding neededBytes
-needed-some file scratch n h e = rw (le-leb 4096 scratch h) e
+needed-none file cuts scratch h = rw (lt-leb 4096 scratch h)
+
+pub needed-some : (file cuts : List ℕ) (scratch n : ℕ) → 4096 ≤ scratch → n ≡ bytesFor cuts (readRoles 2 file) → n ≡ neededBytes file cuts scratch
+unfolding neededBytes
+needed-some file cuts scratch n h e = rw (le-leb 4096 scratch h) e

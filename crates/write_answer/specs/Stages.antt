@@ -9,7 +9,7 @@ use mathlib.Core.Path.{_≡_}
 use Rattle.mine_distinct.specs.InsideValues.{distinctIn, havingIn, insideIn}
 use Rattle.files.specs.Answer.{Answer, told, refused, accepted}
 use Rattle.files.specs.Beside.{shapeOf}
-use Rattle.files.specs.Calls.{countValues, minedBytes, mineAnswer, mineOutput}
+use Rattle.files.specs.Calls.{countValues, cutsOk, minedBytes, mineAnswer, mineOutput}
 use Rattle.files.specs.RoleFile.{readRoles}
 use Rattle.role_record.specs.Record.{recordOf}
 use Rattle.role_record.specs.declared.Sizes.{Sizes}
@@ -22,16 +22,17 @@ use Rattle.write_cost.specs.CostSums.{weighed}
 use Rattle.grant_grids.specs.Links.{linksOf}
 use Rattle.mine_groups.specs.Scratch.{Merged, allParts}
 use Rattle.mine_matches.specs.Matches.{knownIn, matchesIn}
+use Rattle.sets.specs.Tests.{Is}
 use Rattle.write_kept.specs.Kept.{KeptTable}
 
--- how long the rule file is: 0 where the role file is refused
-abbrev pub bytesFor : Answer Policy → ℕ
-bytesFor (refused e) = 0
-bytesFor (accepted F) = length (minedBytes 2 F)
+-- how long the rule file is: 0 where the role file or the cuts are refused
+abbrev pub bytesFor : List ℕ → Answer Policy → ℕ
+bytesFor cuts (refused e) = 0
+bytesFor cuts (accepted F) = cond (cutsOk cuts (F .roles)) (length (minedBytes 2 F cuts)) 0
 
 -- and where scratch is too small
-unfoldable pub neededBytes : List ℕ → ℕ → ℕ
-neededBytes file scratch = cond (leb 4096 scratch) (bytesFor (readRoles 2 file)) 0
+unfoldable pub neededBytes : (file cuts : List ℕ) → ℕ → ℕ
+neededBytes file cuts scratch = cond (leb 4096 scratch) (bytesFor cuts (readRoles 2 file)) 0
 
 -- the tables and numbers are those of the policy's record
 pub record OfRecord (F : Policy) (known values kinds domains attributes holders permissions : List ℕ) (users resources operations roles : ℕ) : Type 0 where
@@ -67,8 +68,8 @@ abbrev pub KeptFor : Policy → (starts t kept : List ℕ) → Type 0
 KeptFor F starts = KeptTable (linksOf F) (matchesIn F) (knownIn F) (recordOf F .attributes) (recordOf F .users) (recordOf F .resources) (recordOf F .operations) (allParts starts)
 
 -- rules are written by what they keep of the merged groups, and by tables of the policy, its sizes and its numbers of attributes
-pub record WrittenBy (F : Policy) (kept distinct having inside kinds permissions : List ℕ) (sizes : Sizes) (attributes starts t : List ℕ) : Type 0 where
-  pub merged : Merged F (allParts starts) t
+pub record WrittenBy (F : Policy) (cuts kept distinct having inside kinds permissions : List ℕ) (sizes : Sizes) (attributes starts t : List ℕ) : Type 0 where
+  pub merged : Merged F cuts (allParts starts) t
   pub of-kept : KeptFor F starts t kept
   pub of-distinct : distinct ≡ distinctIn F
   pub of-having : having ≡ havingIn F
@@ -83,11 +84,11 @@ abbrev pub wroteNumbers : Weights → Wrote → List ℕ
 wroteNumbers weights (Nothing n) = n ∷ []
 wroteNumbers weights (Rules l p r m s) = 0 ∷ l ∷ p ∷ r ∷ m ∷ weighed weights s ∷ []
 
--- what was written and the output, from the file, the words of scratch and the former output: the answer by whatever weights
-abbrev pub Outcome : List ℕ → ℕ → List ℕ → Wrote → List ℕ → Type 0
-Outcome file scratch former r out =
-    ((weights : Weights) → wroteNumbers weights r ≡ told countValues (mineAnswer 2 file weights scratch (length former))) × (out ≡ mineOutput 2 file scratch former)
+-- what was written and the output, from the file, the cuts, the words of scratch and the former output: the answer by whatever weights
+abbrev pub Outcome : (file cuts : List ℕ) → ℕ → List ℕ → Wrote → List ℕ → Type 0
+Outcome file cuts scratch former r out =
+    ((weights : Weights) → wroteNumbers weights r ≡ told countValues (mineAnswer 2 file cuts weights scratch (length former))) × (out ≡ mineOutput 2 file cuts scratch former)
 
--- the same for every file that states a policy
-abbrev pub Result : Policy → List ℕ → Wrote → List ℕ → Type 0
-Result F former r out = (file : List ℕ) (n : ℕ) → 4096 ≤ n → readRoles 2 file ≡ accepted F → Outcome file n former r out
+-- the same for every file that states a policy whose roles the cuts may part
+abbrev pub Result : Policy → (cuts former : List ℕ) → Wrote → List ℕ → Type 0
+Result F cuts former r out = (file : List ℕ) (n : ℕ) → 4096 ≤ n → readRoles 2 file ≡ accepted F → Is (cutsOk cuts (F .roles)) → Outcome file cuts n former r out

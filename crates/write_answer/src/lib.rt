@@ -1,6 +1,8 @@
 // The answer of mining: the rules of merged groups measured, and written where there is room for them.
+ghost use Prim.Native.Nat.{ℕ};
 ghost use lib.Dec.{ltb};
 ghost use lib.ListN.{length};
+ghost use mathlib.Core.List.{List};
 ghost use mathlib.Core.Path.{_≡_};
 ghost use Rattle.role_record.specs.Record.{Sized, WithinLimits, FewAttributes};
 ghost use Rattle.files.specs.Calls.{minedBytes};
@@ -126,13 +128,14 @@ pub fn write_groups<'a>(
     requires { ⌜
         WithinLimits sizes × FewAttributes (now attributes) × Stands (now scratch) (merging .starts) ⌝ }
     ensures { λ r. ⌜
-        ((F : Policy)
+        ((F : Policy) (cuts : List ℕ)
         → Sized F
-        → WrittenBy F (merging .kept) (now (distinct .entry)) (now (having .entry)) (now (inside .entry))
+        → WrittenBy F cuts (merging .kept) (now (distinct .entry)) (now (having .entry)) (now (inside .entry))
         (now (kinds .entry)) (now (permissions .entry)) sizes (now (attributes .entry)) (merging .starts)
         (now (scratch .entry))
-        → merging .made ≡ mergeCount (settingOf F) (rolesIn F)
-        → Result F (now (out .entry)) (r .wrote) (now (out .exit)) × (r .bytes ≡ length (minedBytes 2 F))) ⌝ }
+        → merging .made ≡ mergeCount (settingOf F) (rolesIn F) cuts
+        → Result F cuts (now (out .entry)) (r .wrote) (now (out .exit))
+        × (r .bytes ≡ length (minedBytes 2 F cuts))) ⌝ }
 {
     let mut group_roles = [0u64; mine_parts::MOST];
     write_roles::roles_of_groups(scratch, &merging.starts, &mut group_roles);

@@ -51,7 +51,7 @@ each-if p f (x ∷ l) = go (p x) (each-if p f l)
     go true e = ap (λ r. f x ++ r) e
     go false e = e
 
-module _ (F : Policy) (Z : Sized F) (starts t : List ℕ) (S : Stands t starts) (M : Merged F (allParts starts) t) (kept : List ℕ)
+module _ (F : Policy) (cuts : List ℕ) (Z : Sized F) (starts t : List ℕ) (S : Stands t starts) (M : Merged F cuts (allParts starts) t) (kept : List ℕ)
     (k : KeptTable (linksOf F) (matchesIn F) (knownIn F) (recordOf F .attributes) (recordOf F .users) (recordOf F .resources) (recordOf F .operations) (allParts starts) t kept) where
   abbrev group : ℕ → List ℕ
   group i = M .groups .group i
@@ -63,7 +63,7 @@ module _ (F : Policy) (Z : Sized F) (starts t : List ℕ) (S : Stands t starts) 
   lines g = linesOf (settingOf F) (rolesIn F) (rule g) g
 
   abbrev mined : List (List ℕ)
-  mined = minedGroups (settingOf F) (rolesIn F)
+  mined = minedGroups (settingOf F) (rolesIn F) cuts
 
   -- the places kept are those of the written rule
   kept-so : (i : ℕ) → i < allParts starts → Is (M .groups .alive i) → getD kept i 0 ≡ keptPlaces (settingOf F) (wordsAt t i) (levelOf (settingOf F) (union (settingOf F) (blocksOf F) (group i)))
@@ -88,16 +88,16 @@ module _ (F : Policy) (Z : Sized F) (starts t : List ℕ) (S : Stands t starts) 
   abbrev tables-bytes : List ℕ
   tables-bytes = fileBytes kept (distinctIn F) (havingIn F) (insideIn F) (recordOf F .kinds) (recordOf F .permissions) (recordOf F .operations) starts t
 
-  all-encoded : each (λ g. each (encode 2) (opens ∷ lines g)) mined ++ (0x2F ∷ []) ≡ encodeAll 2 (minedLines (settingOf F) (rolesIn F))
+  all-encoded : each (λ g. each (encode 2) (opens ∷ lines g)) mined ++ (0x2F ∷ []) ≡ encodeAll 2 (minedLines (settingOf F) (rolesIn F) cuts)
   unfolding encodeAll encode minedLines
   all-encoded = ap (λ r. r ++ (0x2F ∷ [])) (sym (each-map (λ ls. each (encode 2) (opens ∷ ls)) lines mined))
 
   -- THE LAW: the bytes, behind the 20
-  pub file-means : 0x20 ∷ (shapeOf F ++ fileBytes kept (distinctIn F) (havingIn F) (insideIn F) (recordOf F .kinds) (recordOf F .permissions) (recordOf F .operations) starts t) ≡ minedBytes 2 F
+  pub file-means : 0x20 ∷ (shapeOf F ++ fileBytes kept (distinctIn F) (havingIn F) (insideIn F) (recordOf F .kinds) (recordOf F .permissions) (recordOf F .operations) starts t) ≡ minedBytes 2 F cuts
   unfolding fileBytes ruleWith minedBytes encodeFile
   file-means =
       ap (λ (l : List ℕ). 0x20 ∷ (shapeOf F ++ l))
-      (ap (λ r. r ++ (0x2F ∷ [])) (each-if (isHeadAt t) bytesOf (upTo (allParts starts)) ∙ heads-each F (allParts starts) t M (λ g. each (encode 2) (opens ∷ lines g)) bytesOf rule-so)
+      (ap (λ r. r ++ (0x2F ∷ [])) (each-if (isHeadAt t) bytesOf (upTo (allParts starts)) ∙ heads-each F cuts (allParts starts) t M (λ g. each (encode 2) (opens ∷ lines g)) bytesOf rule-so)
       ∙ all-encoded)
 
   -- what the rules' cost is made of comes to their cost, by whatever weights
@@ -108,18 +108,18 @@ module _ (F : Policy) (Z : Sized F) (starts t : List ℕ) (S : Stands t starts) 
       weighed-all weights (λ i. cond (isHeadAt t i) (sumsOf i) noSums) (upTo (allParts starts))
       ∙ sum-ext (λ i. weighed weights (cond (isHeadAt t i) (sumsOf i) noSums)) (λ i. cond (isHeadAt t i) (weighed weights (sumsOf i)) 0) (upTo (allParts starts)) (λ i m. weighed-if weights (isHeadAt t i) (sumsOf i))
       ∙ sum-if (isHeadAt t) (λ i. weighed weights (sumsOf i)) (upTo (allParts starts))
-      ∙ heads-sum F (allParts starts) t M (λ g. ruleCost (settingOf F) weights (rule g)) (λ i. weighed weights (sumsOf i)) (λ i h a. ap (weighed weights) (sums-so i h a) ∙ sym (cost-weighed (settingOf F) weights (rule (group i))))
+      ∙ heads-sum F cuts (allParts starts) t M (λ g. ruleCost (settingOf F) weights (rule g)) (λ i. weighed weights (sumsOf i)) (λ i h a. ap (weighed weights) (sums-so i h a) ∙ sym (cost-weighed (settingOf F) weights (rule (group i))))
 
   -- THE LAW: the counts
   pub measure-means : (measured-of : Measured) → measured-of ≡ measuredOf kept (distinctIn F) (havingIn F) (insideIn F) (recordOf F .kinds) (recordOf F .permissions) (recordOf F .operations) starts t
-      → (7 + measured-of .bytes ≡ length (minedBytes 2 F))
-      × ((weights : Weights) → minedCounts 2 F weights ≡ record { size = 7 + measured-of .bytes; parts = allParts starts; rules = measured-of .rules; merges = mergeCount (settingOf F) (rolesIn F); cost = weighed weights (measured-of .sums) })
+      → (7 + measured-of .bytes ≡ length (minedBytes 2 F cuts))
+      × ((weights : Weights) → minedCounts 2 F cuts weights ≡ record { size = 7 + measured-of .bytes; parts = allParts starts; rules = measured-of .rules; merges = mergeCount (settingOf F) (rolesIn F) cuts; cost = weighed weights (measured-of .sums) })
   unfolding measuredOf minedCounts
   measure-means m e =
       let of-rules : m .bytes ≡ length tables-bytes = ap (λ (x : Measured). x .bytes) e in
-      let of-file : length (0x20 ∷ (shapeOf F ++ tables-bytes)) ≡ length (minedBytes 2 F) = ap length file-means in
-      let sized : 7 + m .bytes ≡ length (minedBytes 2 F) = omega (arith, of-rules, of-file) in
-      let ruled : m .rules ≡ length mined = ap (λ (x : Measured). x .rules) e ∙ heads-count F (allParts starts) t M in
+      let of-file : length (0x20 ∷ (shapeOf F ++ tables-bytes)) ≡ length (minedBytes 2 F cuts) = ap length file-means in
+      let sized : 7 + m .bytes ≡ length (minedBytes 2 F cuts) = omega (arith, of-rules, of-file) in
+      let ruled : m .rules ≡ length mined = ap (λ (x : Measured). x .rules) e ∙ heads-count F cuts (allParts starts) t M in
       let parted : allParts starts ≡ partCount (settingOf F) (rolesIn F) = M .shown .all in (
         sized,
         λ weights.

@@ -34,7 +34,8 @@ pub fn wide(tally: &mut Tally) -> Result<(), String> {
     roles::compare(&file, &mut Random::new(0), tally)?;
     let most = Weights { users: u16::MAX, resources: 0, operations: 0, atoms: 0 };
     let mut output = [0; 65_536];
-    let ours = fichtengarn::mine(&file, most, &mut [0; fichtengarn::SCRATCH_WORDS], &mut output);
+    let mut scratch = [0; fichtengarn::SCRATCH_WORDS];
+    let ours = fichtengarn::mine(&file, &[], most, &mut scratch, &mut output);
     match ours {
         Ok(mined) if mined.cost == 16 * 2 * 62 * 63 * 65_535 => Ok(()),
         other => Err(format!("16 rules that list 62 sets of 63 elements twice: {other:?}")),

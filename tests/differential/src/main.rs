@@ -4,9 +4,10 @@
 //!     tests/differential/run SEED COUNT
 //!
 //! Case n has the seed SEED + n: a role file of one of the second miner's profiles, the same file
-//! damaged, and beside each that is accepted up to thirteen rule files, beside the damaged one also the rules of
-//! the other; and a role file that both make from a seed and sizes. Where the two disagree, the case's
-//! seed, the files in hexadecimal and both answers are printed, and the status is 1.
+//! damaged, each mined also with cuts, and beside each that is accepted up to fourteen rule files, beside
+//! the damaged one also the rules of the other; and a role file that both make from a seed and sizes.
+//! Where the two disagree, the case's seed, the files in hexadecimal and both answers are printed, and
+//! the status is 1.
 //!
 //! Files at the limit of length, circles of every length, a cost of more than 32 bits, and loads at the
 //! limits are tried on every run.
@@ -14,6 +15,7 @@
 mod case;
 mod circles;
 mod costs;
+mod cuts;
 mod denials;
 mod levels;
 mod loads;
@@ -31,7 +33,7 @@ use std::thread::{available_parallelism, scope};
 use tally::Tally;
 
 /// How many of the change requests have landed: the second miner is asked as of then.
-pub const REV: second_miner::revision::Rev = 10;
+pub const REV: second_miner::revision::Rev = 11;
 
 /// Both sides must say the same.
 pub fn same<T: PartialEq + std::fmt::Debug>(what: &str, ours: T, theirs: T) -> Result<(), String> {

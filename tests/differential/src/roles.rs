@@ -1,6 +1,6 @@
 //! The calls that take a role file alone: reading it, its circle, the role question, mining.
 
-use crate::{circles, costs, questions, rights, same, tally::Tally, REV};
+use crate::{circles, costs, cuts, questions, rights, same, tally::Tally, REV};
 use fichtengarn::Weights;
 use second_miner::mining::{mine_world, Mined};
 use second_miner::{questions::ask_roles, random::Random, role_file::read_role_file, world::World};
@@ -26,18 +26,21 @@ pub fn compare(
     let weights = costs::weights(random);
     let mined = mine_world(&world, costs::theirs(weights), &[], REV);
     let length = mined.bytes.len();
-    mining(file, weights, 4096, length, Ok(&mined), tally)?;
+    let uncut = |weights, scratch, room| Lent { cuts: &[], weights, scratch, room };
+    mining(file, uncut(weights, 4096, length), Ok(&mined), tally)?;
     // by other weights: the same bytes, the same counts, and another cost
     for (scratch, room) in [(4096, length), (4096, length - 1), (4095, length), (4097, length + 9)]
     {
         let weights = costs::weights(random);
         let cost = costs::of_rules(&world, &mined.bytes, weights);
-        mining(file, weights, scratch, room, Ok(&Mined { cost, ..mined.clone() }), tally)?;
+        let lent = uncut(weights, scratch, room);
+        mining(file, lent, Ok(&Mined { cost, ..mined.clone() }), tally)?;
     }
+    cuts::compare(file, &world, random, tally)?;
     Ok(Some((world, mined.bytes)))
 }
 
-/// A file that is refused is refused by every call, whatever the weights.
+/// A file that is refused is refused by every call, whatever the weights and the cuts.
 fn refused(
     file: &[u8],
     refusal: usize,
@@ -45,8 +48,11 @@ fn refused(
     tally: &mut Tally,
 ) -> Result<(), String> {
     role_question(file, questions::FIRST, tally)?;
-    mining(file, costs::weights(random), 4096, 64, Err(refusal), tally)?;
-    mining(file, costs::weights(random), 4095, 64, Err(refusal), tally)
+    for scratch in [4096, 4095] {
+        let lent = Lent { cuts: &[], weights: costs::weights(random), scratch, room: 64 };
+        mining(file, lent, Err(refusal), tally)?;
+    }
+    cuts::refused(file, random, tally)
 }
 
 /// One question, as the second miner's own call answers it.
@@ -79,8 +85,19 @@ fn role_questions(
         .try_for_each(|triple| role_question(file, triple, tally))
 }
 
+/// What mining is handed beside the role file: the cuts, the weights, and how many words of scratch and
+/// bytes of output.
+#[derive(Clone, Copy)]
+pub struct Lent<'a> {
+    pub cuts: &'a [u8],
+    pub weights: Weights,
+    pub scratch: usize,
+    pub room: usize,
+}
+
 /// What the second miner's call says with this much memory of what it mined: "8 scratch below 4,096
-/// words ...; then 1 to 7; then 9 output shorter than the rule file". It takes long to mine anew.
+/// words ...; then 1 to 7", and 21 behind them, "then 9 output shorter than the rule file". It takes long
+/// to mine anew.
 fn with_memory<'a>(
     mined: Result<&'a Mined, usize>,
     scratch: usize,
@@ -92,24 +109,23 @@ fn with_memory<'a>(
     mined.and_then(|mined| if room < mined.bytes.len() { Err(9) } else { Ok(mined) })
 }
 
-/// Mines by these weights with this much memory, whatever it holds: the counts, and every byte of the
-/// output memory.
-fn mining(
+/// Mines with this much memory, whatever it holds: the counts, and every byte of the output memory.
+pub fn mining(
     file: &[u8],
-    weights: Weights,
-    scratch: usize,
-    room: usize,
+    lent: Lent,
     mined: Result<&Mined, usize>,
     tally: &mut Tally,
 ) -> Result<(), String> {
     tally.minings += 1;
+    let Lent { cuts, weights, scratch, room } = lent;
     let former: Vec<u8> = (0..room).map(|place| (place * 7 % 251) as u8).collect();
     let mut output = former.clone();
     let mut words: Vec<u64> =
         (0..scratch as u64).map(|place| place.wrapping_mul(0x9E37_79B9_7F4A_7C15)).collect();
-    let ours = tally.told(fichtengarn::mine(file, weights, &mut words, &mut output));
+    let ours = tally.told(fichtengarn::mine(file, cuts, weights, &mut words, &mut output));
     let theirs = with_memory(mined, scratch, room);
-    let what = format!("mining by {weights:?} with {scratch} words and {room} bytes");
+    let what =
+        format!("mining by {weights:?} with cuts {cuts:?}, {scratch} words and {room} bytes");
     let ours =
         ours.map(|mined| ([mined.length, mined.parts, mined.rules, mined.merges], mined.cost));
     let counts = |mined: &Mined| {

@@ -7,14 +7,16 @@ pub struct Tally {
     pub role_files: usize,
     pub rule_files: usize,
     pub minings: usize,
+    /// Lists of cuts that a file was mined with.
+    pub cuts: usize,
     pub questions: usize,
     pub shown: usize,
     pub circles: usize,
     pub loads: usize,
     pub edits: usize,
     pub denials: usize,
-    /// By number: how often the library accepted (0) or refused (1 to 20).
-    answers: [usize; 21],
+    /// By number: how often the library accepted (0) or refused (1 to 21).
+    answers: [usize; 22],
     verdicts: [usize; 4],
 }
 
@@ -35,6 +37,7 @@ impl Tally {
         self.role_files += other.role_files;
         self.rule_files += other.rule_files;
         self.minings += other.minings;
+        self.cuts += other.cuts;
         self.questions += other.questions;
         self.shown += other.shown;
         self.circles += other.circles;
@@ -56,10 +59,11 @@ impl fmt::Display for Tally {
     fn fmt(&self, f: &mut fmt::Formatter) -> fmt::Result {
         writeln!(
             f,
-            "no disagreement on {} role files, {} rule files, {} minings, {} questions, {} rules shown, {} circles, {} loads, {} edits, {} logs",
+            "no disagreement on {} role files, {} rule files, {} minings, {} lists of cuts, {} questions, {} rules shown, {} circles, {} loads, {} edits, {} logs",
             self.role_files,
             self.rule_files,
             self.minings,
+            self.cuts,
             self.questions,
             self.shown,
             self.circles,

@@ -88,15 +88,21 @@ unfolding refusalWords refusalTable causeWords
 returns-20 c = holds-same (ap refusalWords (sym (c .before .before .before .before .before .match .keys20))) (c .before .before .put20 .ensures)
 
 returns-21 : tie.Need-returns-21
-returns-21 c =
+unfolding refusalWords refusalTable causeWords
+returns-21 c = holds-same (ap refusalWords (sym (c .before .before .before .before .before .match .keys21))) (c .before .before .put21 .ensures)
+
+returns-22 : tie.Need-returns-22
+returns-22 c =
     let n = c .before .before .before .before .before .before .before .args .n in
     let other = c .before .before .before .before .before .match .rest in
-    holds-same (past-refusals n (λ z. above 20 (above 19 (above 18 (above 17 (above 16 (above 15 (above 14 (above 13 (above 12 (above 11 (above 10 (above 9 (above 8 (above 7 (above 6 (above 5 (above 4 (above 3 (above 2 (above 1 (omega arith) (other .0 .0 .0 .0 .0 .0 .0 .0 .0 .0 .0 .0 .0 .0 .0 .0 .0 .0 .0 .1)) (other .0 .0 .0 .0 .0 .0 .0 .0 .0 .0 .0 .0 .0 .0 .0 .0 .0 .0 .1)) (other .0 .0 .0 .0 .0 .0 .0 .0 .0 .0 .0 .0 .0 .0 .0 .0 .0 .1)) (other .0 .0 .0 .0 .0 .0 .0 .0 .0 .0 .0 .0 .0 .0 .0 .0 .1)) (other .0 .0 .0 .0 .0 .0 .0 .0 .0 .0 .0 .0 .0 .0 .0 .1)) (other .0 .0 .0 .0 .0 .0 .0 .0 .0 .0 .0 .0 .0 .0 .1)) (other .0 .0 .0 .0 .0 .0 .0 .0 .0 .0 .0 .0 .0 .1)) (other .0 .0 .0 .0 .0 .0 .0 .0 .0 .0 .0 .0 .1)) (other .0 .0 .0 .0 .0 .0 .0 .0 .0 .0 .0 .1)) (other .0 .0 .0 .0 .0 .0 .0 .0 .0 .0 .1)) (other .0 .0 .0 .0 .0 .0 .0 .0 .0 .1)) (other .0 .0 .0 .0 .0 .0 .0 .0 .1)) (other .0 .0 .0 .0 .0 .0 .0 .1)) (other .0 .0 .0 .0 .0 .0 .1)) (other .0 .0 .0 .0 .0 .1)) (other .0 .0 .0 .0 .1)) (other .0 .0 .0 .1)) (other .0 .0 .1)) (other .0 .1)) (other .1))) (c .before .before .put21 .ensures)
+    holds-same (past-refusals n (λ z. above 21 (above 20 (above 19 (above 18 (above 17 (above 16 (above 15 (above 14 (above 13 (above 12 (above 11 (above 10 (above 9 (above 8 (above 7 (above 6 (above 5 (above 4 (above 3 (above 2 (above 1 (omega arith) (other .0 .0 .0 .0 .0 .0 .0 .0 .0 .0 .0 .0 .0 .0 .0 .0 .0 .0 .0 .0 .1)) (other .0 .0 .0 .0 .0 .0 .0 .0 .0 .0 .0 .0 .0 .0 .0 .0 .0 .0 .0 .1)) (other .0 .0 .0 .0 .0 .0 .0 .0 .0 .0 .0 .0 .0 .0 .0 .0 .0 .0 .1)) (other .0 .0 .0 .0 .0 .0 .0 .0 .0 .0 .0 .0 .0 .0 .0 .0 .0 .1)) (other .0 .0 .0 .0 .0 .0 .0 .0 .0 .0 .0 .0 .0 .0 .0 .0 .1)) (other .0 .0 .0 .0 .0 .0 .0 .0 .0 .0 .0 .0 .0 .0 .0 .1)) (other .0 .0 .0 .0 .0 .0 .0 .0 .0 .0 .0 .0 .0 .0 .1)) (other .0 .0 .0 .0 .0 .0 .0 .0 .0 .0 .0 .0 .0 .1)) (other .0 .0 .0 .0 .0 .0 .0 .0 .0 .0 .0 .0 .1)) (other .0 .0 .0 .0 .0 .0 .0 .0 .0 .0 .0 .1)) (other .0 .0 .0 .0 .0 .0 .0 .0 .0 .0 .1)) (other .0 .0 .0 .0 .0 .0 .0 .0 .0 .1)) (other .0 .0 .0 .0 .0 .0 .0 .0 .1)) (other .0 .0 .0 .0 .0 .0 .0 .1)) (other .0 .0 .0 .0 .0 .0 .1)) (other .0 .0 .0 .0 .0 .1)) (other .0 .0 .0 .0 .1)) (other .0 .0 .0 .1)) (other .0 .0 .1)) (other .0 .1)) (other .1))) (c .before .before .put22 .ensures)
 
 pub refusal-words-spec : {M : Type 1} → statement M
 refusal-words-spec =
     tie.close
     (tie.spec
+    (λ c. search needs)
+    (λ c κs. search needs)
     (λ c. search needs)
     (λ c κs. search needs)
     (λ c. search needs)
@@ -180,4 +186,6 @@ refusal-words-spec =
     (λ c. search needs)
     returns-20
     (λ c. search needs)
-    returns-21)
+    returns-21
+    (λ c. search needs)
+    returns-22)

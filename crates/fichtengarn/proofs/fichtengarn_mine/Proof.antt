@@ -8,7 +8,7 @@ use Rattle.fichtengarn.proofs.fichtengarn_mine.Tie as tie
 returns : tie.Need-returns
 returns c =
     let mined = c .before .before .before .before .before .before in
-    let a = mined .before .before .before .before .before .before .args in
+    let a = mined .before .before .before .before .before .before .before .args in
     let h = handed-on (mined .mine .ensures .0) (now (a .counts)) _ _ (c .store-mined .ensures) in
     (h .0, h .1, mined .mine .ensures .1, mined .mine .ensures .2)
 

@@ -9,7 +9,7 @@ use Rattle.write_answer.specs.declared.Mined.{Mined}
 
 part-save-end : tie.Need-part-save-end
 part-save-end c =
-    let start = c .before .before .before .before .before .before .before in
+    let start = c .before .before .before .before .before .before .before .before in
     subst (λ (m : Mined). Fits m (length (start .args .out .now))) (c .before .before .before .mined2 .given .1) (start .pre)
 
 pub finish-spec : {M : Type 1} → statement M

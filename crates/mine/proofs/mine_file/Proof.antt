@@ -13,8 +13,8 @@ finish-requires : tie.Need-finish-requires
 finish-requires c κs =
     let m = c .before .before .before in
     let former = m .before .before .before .before .large-buffer .result in
-    let e : length (m .mine .last .1 .1 .1 .0) ≡ length former = omega arith in
-    subst (λ (n : ℕ). Fits (m .mine .result) n) (sym e) (answer-fits _ _ _ former (m .mine .result) (m .mine .ensures .0))
+    let e : length (m .mine .last .1 .1 .1 .1 .0) ≡ length former = omega arith in
+    subst (λ (n : ℕ). Fits (m .mine .result) n) (sym e) (answer-fits _ _ _ _ former (m .mine .result) (m .mine .ensures .0))
 
 pub mine-file-spec : {M : Type 1} → statement M
 mine-file-spec =

@@ -20,10 +20,10 @@ abbrev reachingOf : List ℕ → List ℕ → Words → ℕ → ℕ
 reachingOf scratch heads W word = maskOf 64 (λ k. bit (getD heads word 0) k && reaches (wordsAt scratch (64 * word + k)) W)
 
 abbrev Inv-loop : tie.InvT-loop
-Inv-loop scratch parts heads c ready₀ g word₀ ready word = (word ≤ markWords) × (length ready ≡ markWords) × ((w : ℕ) → w < word → getD ready w 0 ≡ reachingOf scratch heads (wordsIn g) w)
+Inv-loop scratch heads c ready₀ g word₀ ready word = (word ≤ markWords) × (length ready ≡ markWords) × ((w : ℕ) → w < word → getD ready w 0 ≡ reachingOf scratch heads (wordsIn g) w)
 
 abbrev μ-loop : tie.MeasureT-loop
-μ-loop scratch parts heads c ready₀ g word₀ ready word = markWords - word
+μ-loop scratch heads c ready₀ g word₀ ready word = markWords - word
 
 loop-holds : tie.Need-loop-holds Inv-loop μ-loop
 loop-holds c = (search needs, search needs, λ w l. absurd (omega arith))

@@ -38,7 +38,7 @@ returns c =
     let start = counted .before .before in
     let a = start .args in
     let l = c .before .loop in
-    word-made (a .parts) (omega (arith, start .pre .1)) (a .scratch .now) (a .word) (counted .marks-in .ensures)
+    word-made (a .scratch .now) (a .word) (a .parts) (counted .marks-in .ensures)
     (fill-end (l .k) (counted .marks-in .result) (l .m) (λ x. isHeadAt (a .scratch .now) (64 * a .word + x)) (l .inv .1) (omega arith))
 
 pub heads-in-spec : {M : Type 1} → statement M

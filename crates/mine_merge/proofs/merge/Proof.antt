@@ -1,121 +1,95 @@
--- The invariant: for every policy whose tables these are, no pair with the earlier head before the front is left. Assumes nothing.
-use Prim.Native.Nat.{ℕ, _+_, _-_, _≤_}
+-- Filled, scratch shows every part alone; from what the first stage leaves the last goes on to the groups of the policy. Assumes nothing.
+use Prim.Native.Nat.{ℕ}
 use borrow.Author.Needs.{needs}
-use lib.ListN.{length}
-use mathlib.Core.Path.{_≡_, refl, sym, _∙_, subst}
+use mathlib.Core.Path.{_≡_, sym, _∙_, subst}
 use native.Mathlib.Omega.{arith}
-use Rattle.role_record.specs.Record.{Sized}
-use Rattle.mine_merge.specs.HeadCountLaws.{heads-first}
-use Rattle.mine_merge.specs.Progress.{Settled}
+use Rattle.mine_merge.specs.AloneLaws.{alone-traced}
 use Rattle.mine_merge.specs.FilledLaws.{starts-filled, started-kept}
-use Rattle.mine_merge.specs.ProgressLaws.{paired-tables, settled-begin, settled-end}
-use Rattle.mine_groups.specs.Scratch.{Merged, allParts, Started}
+use Rattle.mine_merge.specs.HeadCountLaws.{heads-most}
+use Rattle.mine_merge.specs.Progress.{Settled}
+use Rattle.mine_merge.specs.ProgressLaws.{paired-tables, last-left}
+use Rattle.mine_merge.specs.Traced.{Traced, alone}
+use Rattle.mine_groups.specs.Scratch.{allParts, Started, Stands}
 use Rattle.mine_join.specs.JoinedLaws.{name-stays}
-use Rattle.mine_parts.specs.Layout.{restAt, nameIn}
-use Rattle.mine_heads.specs.Heads.{Marked}
-use Rattle.mine_merge.specs.Steps.{Tables, headCount}
-use Rattle.policy.specs.Policy.{Policy}
+use Rattle.mine_join.specs.Joins.{Resolved}
 use Rattle.mine_merge.proofs.merge.Statement.{statement}
 use Rattle.mine_merge.proofs.merge.Tie as tie
 
-abbrev Inv-loop : tie.InvT-loop
-Inv-loop scratch₀ starts links matches known attributes holders permissions sizes parts heads₀ made₀ front₀ scratch heads made front =
-    (front ≤ parts) × (length scratch ≡ length scratch₀) × (made + headCount parts scratch ≤ parts) × Marked parts heads scratch
-    × ((F : Policy) → Sized F → Tables F links matches known attributes holders permissions (sizes .users) (sizes .resources) (sizes .operations) (sizes .roles) → Settled F parts scratch made front)
-    × ((i : ℕ) → nameIn (restAt scratch i) ≡ nameIn (restAt scratch₀ i))
+-- the parts that were filled are all
+all-filled : (c : tie.After-fill) → c .fill .result ≡ allParts (c .fill .last .1 .0)
+all-filled c = c .fill .ensures .2 ∙ sym (c .fill .ensures .4 32 (omega arith))
 
-abbrev μ-loop : tie.MeasureT-loop
-μ-loop scratch₀ starts links matches known attributes holders permissions sizes parts heads₀ made₀ front₀ scratch heads made front = parts - front
+stands : (c : tie.After-fill) → Stands (c .fill .last .0) (c .fill .last .1 .0)
+stands c =
+    let filled = c .fill .ensures in
+    let start = c .before .before .before .before .before in
+    let a = start .args in
+    let all = all-filled c in
+    record {
+      room = omega (arith, all, filled .0, filled .1, start .pre .3);
+      begun = subst (λ (n : ℕ). Started n (c .fill .last .0) (c .fill .last .1 .0)) all
+          (starts-filled (a .links .now) (a .matches .now) (a .knowing .now) (a .attributes .now) (a .holders .now) (a .permissions .now) (a .sizes .users) (a .sizes .resources) (a .sizes .operations) (start .pre .0 .2) _ (c .fill .last .0) (c .fill .last .1 .0) (filled .2) (filled .3) (filled .4));
+    }
 
-mark-requires : tie.Need-mark-requires Inv-loop μ-loop
-mark-requires c κs =
+merge-runs-requires : tie.Need-merge-runs-requires
+merge-runs-requires c κs =
     let fill = c .before .before .before .before in
-    let start = fill .before .before .before .before in
-    (search needs, omega (arith, fill .fill .ensures .0, fill .fill .ensures .1, start .pre .3))
+    let p = fill .before .before .before .before .before .pre in
+    (p .0, p .1, p .2, p .4, stands fill)
 
-loop-holds : tie.Need-loop-holds Inv-loop μ-loop
-loop-holds c =
-    let filled = c .before .before .before .before .before .before .fill .ensures in
-    (search needs, refl, heads-first _ _, c .before .mark .ensures, (λ F Z T. settled-begin F _ Z T (filled .2) (filled .3)), λ i. refl)
+merge-within-requires : tie.Need-merge-within-requires
+merge-within-requires c κs =
+    let runs = c .before .before .before in
+    let fill = runs .before .before .before .before .before in
+    let p = fill .before .before .before .before .before .pre in
+    (p .0, p .1, p .2, omega (arith, runs .merge-runs .ensures .0, fill .fill .ensures .0, fill .fill .ensures .1, p .3))
 
-settle-requires : tie.Need-settle-requires Inv-loop μ-loop
-settle-requires c κs =
-    let turn = c .before .before .before in
-    let fill = turn .before .before .before .before .before .before .before in
-    let begin = fill .before .before .before .before in
-    (begin .pre .0, begin .pre .1, begin .pre .2, c .before .before .loop-test .taken, omega (arith, turn .loop .inv .1, fill .fill .ensures .0, fill .fill .ensures .1, begin .pre .3), turn .loop .inv .3)
-
-add-made : tie.Need-add-made Inv-loop μ-loop
-add-made c =
-    let settled = c .before .before in
-    let turn = settled .before .before .before .before in
-    let fill = turn .before .before .before .before .before .before .before in
-    omega (arith, settled .settle .ensures .1, turn .loop .inv .2, fill .fill .ensures .0)
-
-loop-again : tie.Need-loop-again Inv-loop μ-loop
-loop-again c =
-    let settled = c .before .before in
-    let l = settled .before .before .before .before .loop in (
-      search needs,
-      settled .settle .ensures .0 ∙ l .inv .1,
-      omega (arith, settled .settle .ensures .1, l .inv .2),
-      settled .settle .ensures .2,
-      (λ F Z T. settled .settle .ensures .3 F Z (paired-tables T) (l .made) (l .inv .4 F Z T)),
-      (λ i. settled .settle .ensures .4 i ∙ l .inv .5 i),
-    )
-
-resolve-requires : tie.Need-resolve-requires Inv-loop μ-loop
+resolve-requires : tie.Need-resolve-requires
 resolve-requires c κs =
-    let turn = c .before .before in
-    let fill = turn .before .before .before .before .before .before .before in
-    omega (arith, turn .loop .inv .1, fill .fill .ensures .0, fill .fill .ensures .1, fill .before .before .before .before .pre .3)
+    let within = c .before .before .before in
+    let runs = within .before .before .before .before in
+    let fill = runs .before .before .before .before .before in
+    omega (arith, within .merge-within .ensures .0, runs .merge-runs .ensures .0, fill .fill .ensures .0, fill .fill .ensures .1, fill .before .before .before .before .before .pre .3)
 
-same-length : tie.Need-same-length Inv-loop μ-loop
+add-result : tie.Need-add-result
+add-result c =
+    let within = c .before .before .before .before .before .before in
+    let runs = within .before .before .before .before in
+    let most = heads-most (runs .before .before .before .before .before .fill .last .0) in
+    omega (arith, most, within .merge-within .ensures .1, runs .merge-runs .ensures .1)
+
+same-length : tie.Need-same-length
 same-length c =
     let resolved = c .before .before in
-    let turn = resolved .before .before .before in
-    resolved .resolve .ensures .long ∙ turn .loop .inv .1 ∙ turn .before .before .before .before .before .before .before .fill .ensures .1
+    let within = resolved .before .before .before .before in
+    let runs = within .before .before .before .before in
+    resolved .resolve .ensures .long ∙ within .merge-within .ensures .0 ∙ runs .merge-runs .ensures .0 ∙ runs .before .before .before .before .before .fill .ensures .1
 
-returns : tie.Need-returns Inv-loop μ-loop
+returns : tie.Need-returns
 returns c =
     let resolved = c .before .before in
-    let ended = resolved .before .before in
-    let turn = ended .before in
-    let fill = turn .before .before .before .before .before .before .before in
+    let within = resolved .before .before .before .before in
+    let runs = within .before .before .before .before in
+    let fill = runs .before .before .before .before .before in
     let filled = fill .fill .ensures in
-    let begin = fill .before .before .before .before in
-    let a = begin .args in
-    let t = resolved .resolve .last .0 in
+    let a = fill .before .before .before .before .before .args in
     let starts = fill .fill .last .1 .0 in
-    let all : fill .fill .result ≡ allParts starts = filled .2 ∙ sym (filled .4 32 (omega arith)) in
-    let long = resolved .resolve .ensures .long ∙ turn .loop .inv .1 ∙ filled .1 in (
-      long,
+    let all = all-filled fill in
+    let stood = stands fill in
+    let room = stood .room in
+    let long = resolved .resolve .ensures .long ∙ within .merge-within .ensures .0 ∙ runs .merge-runs .ensures .0 in (
+      long ∙ filled .1,
       record {
-        room = omega (arith, all, filled .0, long, begin .pre .3);
-        begun = subst (λ (n : ℕ). Started n t starts) all
-            (started-kept (starts-filled (a .links .now) (a .matches .now) (a .knowing .now) (a .attributes .now) (a .holders .now) (a .permissions .now) (a .sizes .users) (a .sizes .resources) (a .sizes .operations) (begin .pre .0 .2) _ (fill .fill .last .0) starts (filled .2) (filled .3) (filled .4))
-            (λ i h. name-stays _ _ (resolved .resolve .ensures .low i h) ∙ turn .loop .inv .5 i));
+        room = omega (arith, room, long);
+        begun = started-kept (stood .begun) (λ i h. name-stays _ _ (resolved .resolve .ensures .low i (omega (arith, h, all))) ∙ within .merge-within .ensures .3 i ∙ runs .merge-runs .ensures .3 i);
       },
       λ F Z T.
-          let end = settled-end F _ (turn .loop .inv .4 F Z T) (omega (arith, ended .loop-test .left)) (resolved .resolve .ensures) in
-          (end .0, subst (λ (n : ℕ). Merged F n t) all (end .1)),
+          let alone-there = subst (λ (n : ℕ). Traced F n (fill .fill .last .0) alone) all (alone-traced F Z T _ (fill .fill .last .0) (filled .2) (filled .3)) in
+          let L = runs .merge-runs .ensures .2 F Z (paired-tables T) alone-there in
+          let S = within .merge-within .ensures .2 F Z (paired-tables T) (allParts starts) (L .groups) (omega (arith, all)) (L .shown) in
+          last-left F (a .cuts .now) (allParts starts) L (subst (λ (n : ℕ). Settled F (allParts starts) 0 n (L .groups) (within .merge-within .last .0) (within .merge-within .result) n) all S)
+          (subst (λ (n : ℕ). Resolved n (within .merge-within .last .0) (resolved .resolve .last .0)) all (resolved .resolve .ensures)),
     )
 
 pub merge-spec : {M : Type 1} → statement M
-merge-spec =
-    tie.close
-    (tie.spec
-    Inv-loop
-    μ-loop
-    (λ c κs. search needs)
-    (λ c. search needs)
-    mark-requires
-    loop-holds
-    settle-requires
-    add-made
-    (λ c. search needs)
-    (λ c. search needs)
-    loop-again
-    resolve-requires
-    same-length
-    returns)
+merge-spec = tie.close (tie.spec (λ c κs. search needs) merge-runs-requires merge-within-requires resolve-requires add-result same-length returns)

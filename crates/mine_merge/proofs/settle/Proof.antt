@@ -1,11 +1,11 @@
 -- A part that is no head is in no pair. Assumes nothing.
 use Prim.Native.Nat.{_+_}
 use borrow.Author.Needs.{needs}
-use borrow.Author.Tests.{lt-ltb}
 use mathlib.Core.Bool.{Bool, _&&_}
 use mathlib.Core.Path.{refl, ap, _∙_}
 use Rattle.mine_parts.specs.Layout.{isHeadAt}
 use native.Mathlib.Omega.{arith}
+use Rattle.mine_heads.specs.HeadLaws.{window-in}
 use Rattle.mine_merge.specs.ProgressLaws.{going-begin, going-end}
 use Rattle.mine_search.specs.PartnerSearchLaws.{finds-none, partner-later}
 use Rattle.mine_merge.proofs.settle.Statement.{statement}
@@ -16,12 +16,12 @@ returns-2 c =
     let begin = c .before .before .before .before in
     let a = begin .args in
     let p = begin .pre in
-    let none = finds-none (a .parts) (a .links .now) (a .matches .now) (a .knowing .now) (a .attributes .now) (a .sizes .users) (a .sizes .resources) (a .sizes .operations) (a .heads .now) (a .scratch .now) (a .start) (a .start + 1) (c .before .is-marked .ensures ∙ p .5 .right (a .start) ∙ ap (λ (b : Bool). b && isHeadAt (a .scratch .now) (a .start)) (lt-ltb (a .start) (a .parts) (p .3))) (c .if1 .left) in (
+    let none = finds-none (a .window .end) (a .links .now) (a .matches .now) (a .knowing .now) (a .attributes .now) (a .sizes .users) (a .sizes .resources) (a .sizes .operations) (a .heads .now) (a .scratch .now) (a .start) (a .start + 1) (c .before .is-marked .ensures ∙ p .6 .right (a .start) ∙ ap (λ (b : Bool). b && isHeadAt (a .scratch .now) (a .start)) (window-in (a .window .first) (a .window .end) (a .start) (p .3) (p .4))) (c .if1 .left) in (
       refl,
       omega arith,
-      p .5,
-      (λ F Z P made S. going-end F (a .parts) (going-begin F Z (a .links .now) (a .matches .now) (a .knowing .now) (a .attributes .now) (a .sizes .users) (a .sizes .resources) (a .sizes .operations) P (a .parts) (a .scratch .now) made (a .start) (a .parts) (p .3)
-          (partner-later (a .links .now) (a .matches .now) (a .knowing .now) (a .attributes .now) (a .sizes .users) (a .sizes .resources) (a .sizes .operations) (a .scratch .now) (a .start) (none .first)) S) (omega arith) (p .3) (omega arith)),
+      p .6,
+      (λ F Z P parts old made S. going-end F parts (a .window .first) (a .window .end) old (going-begin F Z (a .links .now) (a .matches .now) (a .knowing .now) (a .attributes .now) (a .sizes .users) (a .sizes .resources) (a .sizes .operations) P parts (a .window .first) (a .window .end) old (a .scratch .now) made (a .start) (a .window .end) (p .3) (p .4)
+          (partner-later (a .links .now) (a .matches .now) (a .knowing .now) (a .attributes .now) (a .sizes .users) (a .sizes .resources) (a .sizes .operations) (a .scratch .now) (a .start) (none .first)) S) (omega arith) (p .4) (omega arith)),
       (λ i. refl),
     )
 

@@ -8,12 +8,12 @@ use Rattle.mine_policy.proofs.merge_parts.Tie as tie
 merge-requires : tie.Need-merge-requires
 merge-requires c κs =
     let matched = c .before .before .before .before .before in
-    matched .before .before .before .before .before .before .before .before .pre
+    matched .before .before .before .before .before .before .before .before .before .pre
 
 kept-places-requires : tie.Need-kept-places-requires
 kept-places-requires c κs =
     let merged = c .before .before .before .before .before .before .before in
-    let p = merged .before .before .before .before .before .before .before .before .before .before .before .before .before .before .pre in
+    let p = merged .before .before .before .before .before .before .before .before .before .before .before .before .before .before .before .pre in
     (p .0 .0, p .0 .1, merged .merge .ensures .1 .room)
 
 same-length : tie.Need-same-length
@@ -25,7 +25,7 @@ returns c =
     let matched = merged .before .before .before .before .before .before in
     let linked = matched .before .before .before in
     let places = linked .before .before in
-    let start = places .before .before .before in
+    let start = places .before .before .before .before in
     let a = start .args in
     let p = start .pre in (
       merged .merge .ensures .0,

@@ -1,4 +1,4 @@
--- The invariant: no part from the first on and before k is a partner, and k is a head or past the last part. Assumes nothing.
+-- The invariant: no part from the first on and before k is a partner, and k is a head or the end. Assumes nothing.
 use Prim.Native.Nat.{_-_}
 use borrow.Author.Needs.{needs}
 use native.Mathlib.Omega.{arith}
@@ -8,17 +8,17 @@ use Rattle.mine_search.proofs.first_partner.Statement.{statement}
 use Rattle.mine_search.proofs.first_partner.Tie as tie
 
 abbrev Inv-loop : tie.InvT-loop
-Inv-loop scratch parts ready links matches met known attributes sizes seeking g k₀ k = Looking parts links matches known attributes (sizes .users) (sizes .resources) (sizes .operations) ready scratch (seeking .head) (seeking .from) k
+Inv-loop scratch ready links matches met known attributes sizes seeking end g k₀ k = Looking end links matches known attributes (sizes .users) (sizes .resources) (sizes .operations) ready scratch (seeking .head) (seeking .from) k
 
 abbrev μ-loop : tie.MeasureT-loop
-μ-loop scratch parts ready links matches met known attributes sizes seeking g k₀ k = parts - k
+μ-loop scratch ready links matches met known attributes sizes seeking end g k₀ k = end - k
 
 loop-holds : tie.Need-loop-holds Inv-loop μ-loop
 loop-holds c =
     let group = c .before in
     let start = group .before .before .before .before in
     let a = start .args in
-    looking (a .parts) (a .links .now) (a .matches .now) (a .knowing .now) (a .attributes .now) (a .sizes .users) (a .sizes .resources) (a .sizes .operations) (a .ready .now) (a .scratch .now) (a .seeking .head) (a .seeking .from) (start .pre .6) (group .group-at .ensures) (omega arith) (start .pre .4) (λ n p q. absurd (omega arith)) (c .next-near .ensures)
+    looking (a .window .end) (a .links .now) (a .matches .now) (a .knowing .now) (a .attributes .now) (a .sizes .users) (a .sizes .resources) (a .sizes .operations) (a .ready .now) (a .scratch .now) (a .seeking .head) (a .seeking .from) (start .pre .4) (start .pre .7) (group .group-at .ensures) (omega arith) (start .pre .5) (λ n p q. absurd (omega arith)) (c .next-near .ensures)
 
 returns : tie.Need-returns Inv-loop μ-loop
 returns c =
@@ -26,7 +26,7 @@ returns c =
     let turn = told .before in
     let head = turn .before .before .before .before in
     let a = head .before .before .before .args in
-    looking-found (a .parts) (a .links .now) (a .matches .now) (a .knowing .now) (a .attributes .now) (a .sizes .users) (a .sizes .resources) (a .sizes .operations) (a .ready .now) (a .scratch .now) (a .seeking .head) (a .seeking .from) (head .before .is-head .ensures) (head .if1 .taken) (turn .before .loop .inv) (turn .loop-test .taken) (told .level-beside .ensures) (c .if2 .taken)
+    looking-found (a .window .end) (a .links .now) (a .matches .now) (a .knowing .now) (a .attributes .now) (a .sizes .users) (a .sizes .resources) (a .sizes .operations) (a .ready .now) (a .scratch .now) (a .seeking .head) (a .seeking .from) (head .before .is-head .ensures) (head .if1 .taken) (turn .before .loop .inv) (turn .loop-test .taken) (told .level-beside .ensures) (c .if2 .taken)
 
 loop-less : tie.Need-loop-less Inv-loop μ-loop
 loop-less c =
@@ -44,24 +44,24 @@ loop-again c =
     let start = head .before .before .before in
     let a = start .args in
     let l = turn .before .loop in
-    looking (a .parts) (a .links .now) (a .matches .now) (a .knowing .now) (a .attributes .now) (a .sizes .users) (a .sizes .resources) (a .sizes .operations) (a .ready .now) (a .scratch .now) (a .seeking .head) (a .seeking .from) (start .pre .6) (group .group-at .ensures) (omega (arith, l .inv .head (turn .loop-test .taken) .0)) (omega (arith, turn .loop-test .taken))
-    (looking-on (a .parts) (a .links .now) (a .matches .now) (a .knowing .now) (a .attributes .now) (a .sizes .users) (a .sizes .resources) (a .sizes .operations) (a .ready .now) (a .scratch .now) (a .seeking .head) (a .seeking .from) (head .before .is-head .ensures) (head .if1 .taken) (l .inv) (turn .loop-test .taken) (told .level-beside .ensures) (refused .if2 .left)) (c .next-near2 .ensures)
+    looking (a .window .end) (a .links .now) (a .matches .now) (a .knowing .now) (a .attributes .now) (a .sizes .users) (a .sizes .resources) (a .sizes .operations) (a .ready .now) (a .scratch .now) (a .seeking .head) (a .seeking .from) (start .pre .4) (start .pre .7) (group .group-at .ensures) (omega (arith, l .inv .head (turn .loop-test .taken) .0)) (omega (arith, turn .loop-test .taken))
+    (looking-on (a .window .end) (a .links .now) (a .matches .now) (a .knowing .now) (a .attributes .now) (a .sizes .users) (a .sizes .resources) (a .sizes .operations) (a .ready .now) (a .scratch .now) (a .seeking .head) (a .seeking .from) (head .before .is-head .ensures) (head .if1 .taken) (l .inv) (turn .loop-test .taken) (told .level-beside .ensures) (refused .if2 .left)) (c .next-near2 .ensures)
 
 returns-2 : tie.Need-returns-2 Inv-loop μ-loop
 returns-2 c =
     let a = c .before .before .before .before .before .before .before .args in
-    looking-end (a .parts) (a .links .now) (a .matches .now) (a .knowing .now) (a .attributes .now) (a .sizes .users) (a .sizes .resources) (a .sizes .operations) (a .ready .now) (a .scratch .now) (a .seeking .head) (a .seeking .from) (c .before .loop .inv) (c .loop-test .left)
+    looking-end (a .window .end) (a .links .now) (a .matches .now) (a .knowing .now) (a .attributes .now) (a .sizes .users) (a .sizes .resources) (a .sizes .operations) (a .ready .now) (a .scratch .now) (a .seeking .head) (a .seeking .from) (c .before .loop .inv) (c .loop-test .left)
 
 returns-3 : tie.Need-returns-3 Inv-loop μ-loop
 returns-3 c =
     let a = c .before .before .before .args in
-    finds-none (a .parts) (a .links .now) (a .matches .now) (a .knowing .now) (a .attributes .now) (a .sizes .users) (a .sizes .resources) (a .sizes .operations) (a .ready .now) (a .scratch .now) (a .seeking .head) (a .seeking .from) (c .before .is-head .ensures) (c .if1 .left)
+    finds-none (a .window .end) (a .links .now) (a .matches .now) (a .knowing .now) (a .attributes .now) (a .sizes .users) (a .sizes .resources) (a .sizes .operations) (a .ready .now) (a .scratch .now) (a .seeking .head) (a .seeking .from) (c .before .is-head .ensures) (c .if1 .left)
 
 next-near-requires : tie.Need-next-near-requires Inv-loop μ-loop
-next-near-requires c κs = let p = c .before .before .before .before .pre in (p .5, open-below (p .6))
+next-near-requires c κs = let p = c .before .before .before .before .pre in (p .6, open-below (p .7))
 
 next-near2-requires : tie.Need-next-near-requires-2 Inv-loop μ-loop
-next-near2-requires c κs = let p = c .before .before .before .before .before .before .before .before .before .pre in (p .5, open-below (p .6))
+next-near2-requires c κs = let p = c .before .before .before .before .before .before .before .before .before .pre in (p .6, open-below (p .7))
 
 pub first-partner-spec : {M : Type 1} → statement M
 first-partner-spec =

@@ -15,10 +15,10 @@ use Rattle.mine_search.proofs.near_within.Statement.{statement}
 use Rattle.mine_search.proofs.near_within.Tie as tie
 
 abbrev Inv-loop : tie.InvT-loop
-Inv-loop scratch parts marked word g rest₀ rest = (rest < 2 ^ 64) × LeftOf scratch (wordsIn g) word marked rest × ((k : ℕ) → Is (bit rest k) → Is (bit marked k))
+Inv-loop scratch end marked word g rest₀ rest = (rest < 2 ^ 64) × LeftOf scratch (wordsIn g) word marked rest × ((k : ℕ) → Is (bit rest k) → Is (bit marked k))
 
 abbrev μ-loop : tie.MeasureT-loop
-μ-loop scratch parts marked word g rest₀ rest = rest
+μ-loop scratch end marked word g rest₀ rest = rest
 
 loop-holds : tie.Need-loop-holds Inv-loop μ-loop
 loop-holds c = (search needs, (λ k a b. refl), λ k b. b)

@@ -11,10 +11,10 @@ use Rattle.mine_search.proofs.next_near.Statement.{statement}
 use Rattle.mine_search.proofs.next_near.Tie as tie
 
 abbrev Inv-loop : tie.InvT-loop
-Inv-loop scratch parts heads g from end word₀ word = NoneIn (nearHead heads scratch (wordsIn g)) from (64 * word)
+Inv-loop scratch end heads g from words word₀ word = NoneIn (nearHead heads scratch (wordsIn g)) from (64 * word)
 
 abbrev μ-loop : tie.MeasureT-loop
-μ-loop scratch parts heads g from end word₀ word = end - word
+μ-loop scratch end heads g from words word₀ word = words - word
 
 loop-holds : tie.Need-loop-holds Inv-loop μ-loop
 loop-holds c k a b = absurd (omega arith)

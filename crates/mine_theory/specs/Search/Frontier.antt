@@ -1,7 +1,7 @@
 -- Groups by the number of their head, and what a search for the next pair to merge knows of them: which pairs were refused already.
 -- Assumes nothing.
 use Prim.Native.Nat.{ℕ, _<_}
-use lib.Dec.{eqb}
+use lib.Dec.{eqb, leb}
 use mathlib.Core.Bool.{Bool, false, cond, _&&_, not}
 use mathlib.Core.List.{List, map}
 use mathlib.Core.Path.{_≡_}
@@ -15,6 +15,10 @@ pub record Groups (A : Type 0) : Type 0 where
 -- the groups whose heads are below n, by their heads
 unfoldable pub groupsIn : {A : Type 0} → ℕ → Groups A → List A
 groupsIn n s = map (s .group) (keep (s .alive) (upTo n))
+
+-- the groups whose heads are from a number on
+unfoldable pub within : {A : Type 0} → ℕ → Groups A → Groups A
+within first s = record { alive = λ k. leb first k && s .alive k; group = s .group }
 
 -- j's group joined to i's, and j a head no more
 unfoldable pub joinedAt : {A : Type 0} → (A → A → A) → Groups A → ℕ → ℕ → Groups A

@@ -11,14 +11,14 @@ use Rattle.mining.proofs.rule_bytes.Lts as lts
 use Rattle.mining.proofs.mine_in.Reads as mine-in-reads
 
 returns : tie.Need-returns
-returns c = let a = c .before .before .before .args in needed-none (now (a .file)) (length (now (a .scratch))) (c .if1 .taken)
+returns c = let a = c .before .before .before .before .args in needed-none (now (a .file)) (now (a .cuts)) (length (now (a .scratch))) (c .if1 .taken)
 
 returns-2 : tie.Need-returns-2
 returns-2 c =
     let m = c .before .before .before in
     let e = m .before .before .before in
-    let a = e .before .before .before .args in
-    needed-some (now (a .file)) (length (now (a .scratch))) _ (omega (arith, e .if1 .left)) (m .mine-in .ensures .1)
+    let a = e .before .before .before .before .args in
+    needed-some (now (a .file)) (now (a .cuts)) (length (now (a .scratch))) _ (omega (arith, e .if1 .left)) (m .mine-in .ensures .1)
 
 pub rule-bytes-spec : {M : Type 1} → statement M
 rule-bytes-spec =

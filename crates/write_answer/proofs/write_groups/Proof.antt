@@ -19,13 +19,13 @@ add-bytes c =
     omega (arith, measured-long _ _ _ _ _ _ _ _ _ (s .pre .2) (m .measure .result) (m .measure .ensures) .1)
 
 returns : tie.Need-returns
-returns c F Z W e =
+returns c F cuts Z W e =
     let m = c .before .before .before in
     let s = m .before .before .before .before .before .before .before .before .before .before .before in
     let a = s .args in
-    let r = measured-so F Z (a .t1 .kept) (a .distinct .now) (a .having .now) (a .inside .now) (a .kinds .now) (a .permissions .now) (a .sizes) (a .attributes .now) (a .t1 .starts) (a .scratch .now) (s .pre .2) W (m .measure .result) (m .measure .ensures) .0 in
+    let r = measured-so F cuts Z (a .t1 .kept) (a .distinct .now) (a .having .now) (a .inside .now) (a .kinds .now) (a .permissions .now) (a .sizes) (a .attributes .now) (a .t1 .starts) (a .scratch .now) (s .pre .2) W (m .measure .result) (m .measure .ensures) .0 in
     let l = ltb-true (length (now (a .out))) (7 + m .measure .result .bytes) (sym (c .before .lacks-room .ensures) ∙ c .if1 .taken) in
-    (λ file n h q. short file n (now (a .out)) h F q (omega (arith, l, r)), r)
+    (λ file n h q ok. short file cuts n (now (a .out)) h F q ok (omega (arith, l, r)), r)
 
 write-shaped-requires : tie.Need-write-shaped-requires
 write-shaped-requires c κs =
@@ -38,15 +38,15 @@ write-shaped-requires c κs =
     (s .pre .0, s .pre .1, s .pre .2, roles .roles-of-groups .ensures, omega (arith, l, e))
 
 returns-2 : tie.Need-returns-2
-returns-2 c F Z W e =
+returns-2 c F cuts Z W e =
     let d = c .before .before .before .before .before .before .before .before .before .before in
     let m = d .before .before .before in
     let s = m .before .before .before .before .before .before .before .before .before .before .before in
     let a = s .args in
-    let t = measured-so F Z (a .t1 .kept) (a .distinct .now) (a .having .now) (a .inside .now) (a .kinds .now) (a .permissions .now) (a .sizes) (a .attributes .now) (a .t1 .starts) (a .scratch .now) (s .pre .2) W (m .measure .result) (m .measure .ensures) in
+    let t = measured-so F cuts Z (a .t1 .kept) (a .distinct .now) (a .having .now) (a .inside .now) (a .kinds .now) (a .permissions .now) (a .sizes) (a .attributes .now) (a .t1 .starts) (a .scratch .now) (s .pre .2) W (m .measure .result) (m .measure .ensures) in
     let l = ltb-false (length (now (a .out))) (7 + m .measure .result .bytes) (sym (d .before .lacks-room .ensures) ∙ d .if1 .left) in
     let r = t .0 in
-    (λ file n h q. told-so file n (now (a .out)) (c .written .ensures .0) (answered file n (now (a .out)) h F q (m .measure .result) (allParts (a .t1 .starts)) (a .t1 .made) (t .1) e (omega (arith, l, r)) _ _ (file-so F Z (a .t1 .kept) (a .distinct .now) (a .having .now) (a .inside .now) (a .kinds .now) (a .permissions .now) (a .sizes) (a .attributes .now) (a .t1 .starts) (a .scratch .now) (s .pre .2) W) (c .before .before .before .before .write-shaped .ensures)), c .written .ensures .1 ∙ r)
+    (λ file n h q ok. told-so file cuts n (now (a .out)) (c .written .ensures .0) (answered file cuts n (now (a .out)) h F q ok (m .measure .result) (allParts (a .t1 .starts)) (a .t1 .made) (t .1) e (omega (arith, l, r)) _ _ (file-so F cuts Z (a .t1 .kept) (a .distinct .now) (a .having .now) (a .inside .now) (a .kinds .now) (a .permissions .now) (a .sizes) (a .attributes .now) (a .t1 .starts) (a .scratch .now) (s .pre .2) W) (c .before .before .before .before .write-shaped .ensures)), c .written .ensures .1 ∙ r)
 
 pub write-groups-spec : {M : Type 1} → statement M
 write-groups-spec =
