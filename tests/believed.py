@@ -1,7 +1,8 @@
 #!/usr/bin/env python3
-"""What a reader has to believe: the definitions that the contracts of the public calls rest on, transitively.
+"""What a reader has to believe: the definitions that the contracts of the public calls, and what is stated of several calls,
+rest on, transitively.
 
-usage: believed.py [ROOT]                prints them for each call and for all calls, and fails where a check below does
+usage: believed.py [ROOT]                prints them for each of these and for all, and fails where a check below does
        believed.py --table [ROOT]        prints the tables that docs/DESIGN.md shows
        believed.py --write-table [ROOT]  puts them there
 
@@ -36,6 +37,12 @@ CALLS = [
     ("mining", "mine"),
     ("mining", "rule_bytes"),
     ("fichtengarn", None),
+]
+
+# What is stated of more than one use of a call, and so in no contract: crate and definition. A law has it as its type.
+STATEMENTS = [
+    ("renumbering", "SameRules"),
+    ("renumbering", "NewNumbers"),
 ]
 
 # Symbols with the one module of the library that they may come from. It has others of the same spelling: `_<_`,
@@ -309,8 +316,24 @@ def calls(tree):
     return found
 
 
+def statements(tree):
+    """What is stated of several uses: the label and the definition of each."""
+    found = []
+    for crate, name in STATEMENTS:
+        specs = [spec for spec in tree.definitions_files() if spec.crate == crate and name in spec.entries]
+        found += [("%s, %s" % (crate, name), spec.entries[name]) for spec in specs]
+        if not specs:
+            tree.fault("crates.txt", 1, "no statement %s in the definitions of the crate %s" % (name, crate))
+    return found
+
+
+def promises(tree):
+    """Calls and statements, each with its label."""
+    return calls(tree) + statements(tree)
+
+
 def believed(starts):
-    """What a reader of these contracts has to believe."""
+    """What a reader of these contracts and statements has to believe."""
     entries, symbols = closure(starts)
     return {entry for entry in entries if entry.kind != "contract"}, symbols
 
@@ -457,12 +480,12 @@ def by_module(symbols):
 
 def report(tree):
     rows = []
-    for label, contract in calls(tree):
-        entries = believed([contract])[0]
-        rows.append("%s (%s:%d): %s" % (label, contract.path, contract.line, counted(entries)))
+    for label, promise in promises(tree):
+        entries = believed([promise])[0]
+        rows.append("%s (%s:%d): %s" % (label, promise.path, promise.line, counted(entries)))
         rows += listing(tree, entries) + [""]
-    entries, symbols = believed([contract for label, contract in calls(tree)])
-    rows += ["all calls: " + counted(entries)] + listing(tree, entries) + ["", "symbols of the library:"]
+    entries, symbols = believed([promise for label, promise in promises(tree)])
+    rows += ["all of these: " + counted(entries)] + listing(tree, entries) + ["", "symbols of the library:"]
     rows += ["  %s: %s" % (module, " ".join(names)) for module, names in by_module(symbols)]
     return rows
 
@@ -477,7 +500,7 @@ def what_file_says(tree, path):
 
 def table(tree):
     """The tables of docs/DESIGN.md."""
-    entries, symbols = believed([contract for label, contract in calls(tree)])
+    entries, symbols = believed([promise for label, promise in promises(tree)])
     rows = ["| file | what it says | definitions | lines |", "| --- | --- | ---: | ---: |"]
     for path, found in by_file(tree, entries):
         rows.append("| `%s` | %s | %d | %d |" % (path, what_file_says(tree, path), len(found), lines_of(found)))
@@ -485,9 +508,9 @@ def table(tree):
     for what, found in (("all definitions", entries - types), ("all types of the code", types), ("all", entries)):
         rows.append("| %s | | %d | %d |" % (what, len(found), lines_of(found)))
     rows.append("")
-    rows += ["| call | definitions | lines |", "| --- | ---: | ---: |"]
-    for label, contract in calls(tree):
-        found = believed([contract])[0]
+    rows += ["| call or statement | definitions | lines |", "| --- | ---: | ---: |"]
+    for label, promise in promises(tree):
+        found = believed([promise])[0]
         rows.append("| `%s` | %d | %d |" % (label, len(found), lines_of(found)))
     rows += ["", "Symbols of the library that they use:", ""]
     rows += ["- `%s`: %s" % (module, " ".join("`%s`" % name for name in names)) for module, names in by_module(symbols)]
@@ -548,8 +571,8 @@ def main(arguments):
         return 0
     print("\n".join(report(tree)))
     status = check(tree)
-    entries = believed([contract for label, contract in calls(tree)])[0]
-    print("believed: %s in all calls; %d faults" % (counted(entries), len(tree.faults)))
+    entries = believed([promise for label, promise in promises(tree)])[0]
+    print("believed: %s in all calls and statements; %d faults" % (counted(entries), len(tree.faults)))
     return status
 
 

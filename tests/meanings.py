@@ -25,7 +25,7 @@ EDITS = os.path.join(ROOT, "tests", "meanings")
 COPY = os.path.join(ROOT, "target", "meanings")
 
 # each crate stands on all before it
-CRATES = ["sets", "policy", "files", "examples"]
+CRATES = ["sets", "policy", "files", "renumbering", "examples"]
 
 # the table's proof: its module and its statement, and what is stated of a wrong meaning
 PROOF = ("examples", "ExamplesLaws")

@@ -123,11 +123,14 @@ class MadeUp(unittest.TestCase):
         self.addCleanup(folder.cleanup)
         self.root = folder.name
         self.files = dict(FILES)
-        former = believed.CALLS
-        believed.CALLS = [("call", "ask")]
-        self.addCleanup(setattr, believed, "CALLS", former)
+        self.look_at("CALLS", [("call", "ask")])
+        self.look_at("STATEMENTS", [])
         write(self.root, self.files)
         self.run_script("--write-table")
+
+    def look_at(self, name, value):
+        self.addCleanup(setattr, believed, name, getattr(believed, name))
+        setattr(believed, name, value)
 
     def run_script(self, *options):
         """Exit status, what is printed, and the faults."""
@@ -308,6 +311,17 @@ class MadeUp(unittest.TestCase):
     def test_no_call(self):
         self.put(CODE, "pub fn ask", "fn ask")
         self.faults(("crates.txt", "base", "no public call ask in the crate call"))
+
+    def test_statement(self):
+        self.look_at("STATEMENTS", [("base", "unused")])
+        self.run_script("--write-table")
+        status, out, errors = self.run_script()
+        self.assertEqual((status, errors), (0, []))
+        self.assertIn("base, unused (crates/base/specs/Lists.antt:%d)" % (1 + FILES[LISTS].split("\n").index("abbrev pub unused : Pair → ℕ")), out)
+
+    def test_no_statement(self):
+        self.look_at("STATEMENTS", [("base", "missing")])
+        self.faults(("crates.txt", "base", "no statement missing in the definitions of the crate base"))
 
     def test_crate_not_listed(self):
         write(self.root, {"crates/other/specs/Lib.antt": ""})

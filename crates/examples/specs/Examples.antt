@@ -5,7 +5,7 @@ use Prim.Native.Nat.{ℕ, zero, suc}
 use Prim.Native.String.{String}
 use lib.Dec.{eqb}
 use lib.ListN.{length, getD, take}
-use mathlib.Core.Bool.{Bool, true, false, _&&_, not}
+use mathlib.Core.Bool.{Bool, true, false, cond, _&&_, not}
 use mathlib.Core.List.{List, [], _∷_, _++_, map}
 use Rattle.examples.specs.Hex.{noByte, spelt, hex}
 use Rattle.files.specs.Answer.{andThen, told, accepted}
@@ -20,6 +20,7 @@ use Rattle.policy.specs.Cost.{fourOnes}
 use Rattle.policy.specs.Policy.{Policy, settingOf}
 use Rattle.policy.specs.Rules.{Which, Rule, atom, conjunct, ofSection, ruleLevel, user, resource}
 use Rattle.policy.specs.Satisfying.{Expression, satisfiesSingles, satisfiesSets, satisfies}
+use Rattle.renumbering.specs.Renumbered.{renumber}
 use Rattle.sets.specs.Tests.{keep, each, upTo}
 
 -- a row: what it holds, what the definitions say, and what 01 says
@@ -654,6 +655,21 @@ lastTwo = forEitherPair ++ hex "21 23 FF 03 00 00 00 00 00 00 00 24 FF 00 00 26 
 abbrev pub threeAlike : List ℕ
 threeAlike = hex "01 01 01 01 03 05 00 00 05 01 00 05 02 00 06 00 00 00 06 01 00 00 06 02 00 00 0F"
 
+-- ---- new staff numbers (request 12)
+
+-- user 1 holds role 0, users 0 and 2 hold role 1; users have a single attribute and a set that user 2 alone knows; of the resources one knows a single
+-- attribute, the other a set
+abbrev pub staff : List ℕ
+staff = hex "01 04 02 01 02 02 00 00 02 00 01 02 01 00 02 01 01 03 00 00 00 09 00 03 00 00 01 08 00 03 00 00 02 07 00 03 00 00 03 08 00 04 00 01 02 03 00 00 00 00 00 00 00 03 01 00 01 05 00 04 01 01 00 03 00 00 00 00 00 00 00 05 00 01 05 01 00 05 01 02 06 00 01 00 06 01 00 00 0F"
+
+-- each of four users gets the next number, the last one the first
+abbrev pub moved : List ℕ → List ℕ
+moved = renumber (λ u. cond (eqb u 3) 0 (suc u))
+
+-- `eitherPair`, whose two users get each other's number
+abbrev pub swapped : List ℕ
+swapped = renumber (λ u. cond (eqb u 0) 1 0) eitherPair
+
 -- ---- the table
 
 abbrev pub table : List Row
@@ -1217,6 +1233,25 @@ table =
     ∷ row "cuts: 21 before 9" (cutting eitherPair (3 ∷ []) 4096 0) (21 ∷ [])
     ∷ row "cuts: 9, a byte too short" (cutting eitherPair (1 ∷ []) 4096 49) (9 ∷ [])
     ∷ row "cuts: 21 leaves the output" (cutOutput eitherPair (3 ∷ []) 56) (memory 56)
+    -- ---- request 12: the numbers of users, and nothing else, are replaced
+    ∷ row "renumbered: the user of a 03" (moved (hex "03 00 01 02 07 00")) (hex "03 00 01 03 07 00")
+    ∷ row "renumbered: the user of a 04" (moved (hex "04 00 01 03 07 00 00 00 00 00 00 00")) (hex "04 00 01 00 07 00 00 00 00 00 00 00")
+    ∷ row "renumbered: the user of a 05" (moved (hex "05 01 00")) (hex "05 01 01")
+    ∷ row "renumbered: a resource of a 03 stays" (moved (hex "03 01 01 02 07 00")) (hex "03 01 01 02 07 00")
+    ∷ row "renumbered: a resource of a 04 stays" (moved (hex "04 01 01 02 07 00 00 00 00 00 00 00")) (hex "04 01 01 02 07 00 00 00 00 00 00 00")
+    ∷ row "renumbered: 01, 02, 06, 07, 08 and 0F have no user" (moved (hex "01 01 01 01 01 02 00 00 06 01 01 01 07 01 01 08 00 00 01 0F")) (hex "01 01 01 01 01 02 00 00 06 01 01 01 07 01 01 08 00 00 01 0F")
+    ∷ row "renumbered: command by command" (moved (hex "03 00 00 01 05 00 05 00 01 0F")) (hex "03 00 00 02 05 00 05 00 02 0F")
+    ∷ row "renumbered: a file" (moved staff) (hex "01 04 02 01 02 02 00 00 02 00 01 02 01 00 02 01 01 03 00 00 01 09 00 03 00 00 02 08 00 03 00 00 03 07 00 03 00 00 00 08 00 04 00 01 03 03 00 00 00 00 00 00 00 03 01 00 01 05 00 04 01 01 00 03 00 00 00 00 00 00 00 05 00 02 05 01 01 05 01 03 06 00 01 00 06 01 00 00 0F")
+    -- "both mine to the same bytes and the same counts": a rule that names roles, and one that lists the values of users who stand in another order
+    ∷ row "renumbered: the bytes before" (output staff 60) (hex "20 04 02 01 02 02 02 21 23 FF 01 00 00 00 00 00 00 00 24 00 05 00 26 01 00 28 00 01 00 29 01 21 22 00 07 00 22 00 09 00 25 01 03 00 00 00 00 00 00 00 26 01 00 28 01 01 00 29 00 2F")
+    ∷ row "renumbered: the bytes after" (output (moved staff) 120) (output staff 120)
+    ∷ row "renumbered: the counts after" (weighing 3 5 7 11 (moved staff) 60) (weighing 3 5 7 11 staff 60)
+    -- "The CR 11 way of mining is included, with equal cuts"
+    ∷ row "renumbered: two users swapped" swapped (hex "01 02 02 01 03 05 00 01 05 01 01 05 02 00 06 00 00 00 06 01 01 00 06 02 01 00 0F")
+    ∷ row "renumbered: the bytes without cuts" (cutOutput swapped [] 56) firstTwo
+    ∷ row "renumbered: the bytes with a cut" (cutOutput swapped (1 ∷ []) 50) lastTwo
+    ∷ row "renumbered: the counts with a cut" (cutting swapped (1 ∷ []) 4096 50) (0 ∷ 50 ∷ 3 ∷ 2 ∷ 1 ∷ 6 ∷ [])
+    ∷ row "renumbered: cuts that are refused" (cutting swapped (2 ∷ 1 ∷ []) 4096 56) (21 ∷ [])
     -- ---- the bytes of these rows: what is no digit, half a byte, and two bytes without a blank are no bytes
     ∷ row "hex: digits" (hex "00 09 0A 0F 10 F0 FF") (0 ∷ 9 ∷ 10 ∷ 15 ∷ 16 ∷ 240 ∷ 255 ∷ [])
     ∷ row "hex: no digit" (spelt "0G 0a") (noByte ∷ noByte ∷ [])

@@ -1,6 +1,6 @@
 //! The files of a case, all made from its seed.
 
-use crate::{levels, loads, roles, rules, shapes, tally::Tally, REV};
+use crate::{levels, loads, renumbering, roles, rules, shapes, tally::Tally, REV};
 use second_miner::{makers, random::Random, world::World};
 
 /// One case in so many is of a profile with files of the largest sizes, which take the second miner
@@ -38,6 +38,7 @@ fn beside(
     let Some((world, mined)) = roles::compare(file, random, tally).map_err(in_file)? else {
         return rules::refused_beside(file, tally).map(|()| None).map_err(in_file);
     };
+    renumbering::compare(file, random, tally).map_err(in_file)?;
     for rules in rule_files(&world, &mined, random).into_iter().chain(others) {
         rules::compare(file, &world, &rules, rules == mined, random, tally)
             .map_err(|what| in_file(format!("rule file {}\n{what}", hex(&rules))))?;

@@ -43,7 +43,7 @@ pub fn refused(file: &[u8], random: &mut Random, tally: &mut Tally) -> Result<()
 }
 
 /// Each of the places with one chance in three.
-fn some(places: usize, random: &mut Random) -> Vec<u8> {
+pub fn some(places: usize, random: &mut Random) -> Vec<u8> {
     (1..=places as u8).filter(|_| random.chance(1, 3)).collect()
 }
 

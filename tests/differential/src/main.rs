@@ -5,9 +5,9 @@
 //!
 //! Case n has the seed SEED + n: a role file of one of the second miner's profiles, the same file
 //! damaged, each mined also with cuts, and beside each that is accepted up to fourteen rule files, beside
-//! the damaged one also the rules of the other; and a role file that both make from a seed and sizes.
-//! Where the two disagree, the case's seed, the files in hexadecimal and both answers are printed, and
-//! the status is 1.
+//! the damaged one also the rules of the other; each that is accepted is mined with its users renumbered
+//! too, without cuts and with some; and a role file that both make from a seed and sizes. Where the two
+//! disagree, the case's seed, the files in hexadecimal and both answers are printed, and the status is 1.
 //!
 //! Files at the limit of length, circles of every length, a cost of more than 32 bits, and loads at the
 //! limits are tried on every run.
@@ -22,6 +22,7 @@ mod loads;
 mod memory;
 mod parts;
 mod questions;
+mod renumbering;
 mod rights;
 mod roles;
 mod rules;
@@ -33,7 +34,7 @@ use std::thread::{available_parallelism, scope};
 use tally::Tally;
 
 /// How many of the change requests have landed: the second miner is asked as of then.
-pub const REV: second_miner::revision::Rev = 11;
+pub const REV: second_miner::revision::Rev = 12;
 
 /// Both sides must say the same.
 pub fn same<T: PartialEq + std::fmt::Debug>(what: &str, ours: T, theirs: T) -> Result<(), String> {

@@ -15,6 +15,7 @@ pub struct Tally {
     pub loads: usize,
     pub edits: usize,
     pub denials: usize,
+    pub renumbered: usize,
     /// By number: how often the library accepted (0) or refused (1 to 21).
     answers: [usize; 22],
     verdicts: [usize; 4],
@@ -44,6 +45,7 @@ impl Tally {
         self.loads += other.loads;
         self.edits += other.edits;
         self.denials += other.denials;
+        self.renumbered += other.renumbered;
         self.answers.iter_mut().zip(other.answers).for_each(|(sum, often)| *sum += often);
         self.verdicts.iter_mut().zip(other.verdicts).for_each(|(sum, often)| *sum += often);
     }
@@ -59,7 +61,7 @@ impl fmt::Display for Tally {
     fn fmt(&self, f: &mut fmt::Formatter) -> fmt::Result {
         writeln!(
             f,
-            "no disagreement on {} role files, {} rule files, {} minings, {} lists of cuts, {} questions, {} rules shown, {} circles, {} loads, {} edits, {} logs",
+            "no disagreement on {} role files, {} rule files, {} minings, {} lists of cuts, {} questions, {} rules shown, {} circles, {} loads, {} edits, {} logs, {} renumbered files",
             self.role_files,
             self.rule_files,
             self.minings,
@@ -69,7 +71,8 @@ impl fmt::Display for Tally {
             self.circles,
             self.loads,
             self.edits,
-            self.denials
+            self.denials,
+            self.renumbered
         )?;
         writeln!(f, "answers by number {}", met(&self.answers))?;
         write!(f, "verdicts by number {}", met(&self.verdicts))
