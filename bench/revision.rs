@@ -1,3 +1,3 @@
 //! How many of the requests have landed: the second miner is asked as of then.
 
-pub const REV: second_miner::revision::Rev = 12;
+pub const REV: second_miner::revision::Rev = 13;

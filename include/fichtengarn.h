@@ -123,7 +123,7 @@ enum {
 enum {
     FICHTENGARN_MOST_ROLE_BYTES = 65535, /* of a role file, read or made */
     FICHTENGARN_MOST_ROLES = 32,         /* of a role file, and so of a circle */
-    FICHTENGARN_SCRATCH_WORDS = 4096,    /* of 64 bits: 32,768 bytes */
+    FICHTENGARN_SCRATCH_WORDS = 2048,    /* of 64 bits: 16,384 bytes */
     FICHTENGARN_TABLE_WORDS = 1024,      /* of 64 bits, of the standing summary: 8,192 bytes */
     FICHTENGARN_USER_WORDS = 16,         /* of these, those of one user: one for each operation */
     FICHTENGARN_MOST_WINDOW = 64         /* records of a usage log in a window */

@@ -43,6 +43,7 @@ CALLS = [
 STATEMENTS = [
     ("renumbering", "SameRules"),
     ("renumbering", "NewNumbers"),
+    ("files", "AnyScratch"),
 ]
 
 # Symbols with the one module of the library that they may come from. It has others of the same spelling: `_<_`,

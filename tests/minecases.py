@@ -65,7 +65,7 @@ from secondminer import Folder, told
 
 # ---- what is lent
 
-ENOUGH = 4096
+ENOUGH = 2048
 
 # The program's room for standard input, and for output.
 CORPUS = 344064
@@ -197,7 +197,7 @@ def refusals():
         for other in REFUSED:
             at = 0 if other.startswith(EXAMPLE_A[:3]) else len(BOTH_KINDS)
             yield from mined(file[:-1] + other[at:], 6)
-    for words in [0, 1, 2047, 2048, ENOUGH - 1, ENOUGH, ENOUGH + 1, ENOUGH + 64]:
+    for words in [0, 1, 1024, ENOUGH - 1, ENOUGH, ENOUGH + 1, 3000, 4095, 4096]:
         yield from mined(EXAMPLE_A, 0, SHORT, EXACT, Beyond(3), words=words)
         yield from mined(NOBODY, 0, SHORT, EXACT, words=words)
         yield from mined(b"", 0, 7, words=words)

@@ -15,7 +15,7 @@ use interface::Recorded;
 pub use interface::{Record, Weights};
 
 /// The words of scratch that mining asks for.
-pub const SCRATCH_WORDS: usize = 4096;
+pub const SCRATCH_WORDS: usize = 2048;
 
 /// The most bytes that a role file may have, read or made.
 pub const MOST_ROLE_BYTES: usize = 65535;

@@ -40,7 +40,7 @@ pub fn refusal_words(n: usize, out: &mut [u8]) -> usize
             out,
         ),
         refusal::OWN_SENIOR => put(b"a role is its own senior", out),
-        refusal::SMALL_SCRATCH => put(b"scratch is below 4,096 words of 64 bits", out),
+        refusal::SMALL_SCRATCH => put(b"scratch is below 2,048 words of 64 bits", out),
         refusal::SHORT_OUTPUT => put(b"output is shorter than the rule file", out),
         refusal::RULES_CUT_OFF => put(b"the rule file is cut off", out),
         refusal::RULES_UNKNOWN => put(b"the rule file has an unknown command", out),

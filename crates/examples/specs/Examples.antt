@@ -682,10 +682,15 @@ table =
     ∷ row "A: its rules" (output fileA 25) (forA ++ rulesA)
     ∷ row "A: bytes behind the rules stay" (output fileA 29) (forA ++ rulesA ++ memory 4)
     ∷ row "A: output of 24 bytes is untouched" (output fileA 24) (memory 24)
-    -- "8 scratch below 4,096 words of 64 bits; then 1 to 7; then 9 output shorter than the rule file"
-    ∷ row "A: scratch of 4,095 words" (mining fileA 4095 25) (8 ∷ [])
-    ∷ row "8 before 2" (mining [] 4095 0) (8 ∷ [])
-    ∷ row "8 before 1" (mining (memory 65536) 4095 0) (8 ∷ [])
+    -- "8 scratch below 4,096 words of 64 bits; then 1 to 7; then 9 output shorter than the rule file"; by request 13 "2,048 words of scratch and up,
+    -- below that 8"
+    ∷ row "A: scratch of 2,047 words" (mining fileA 2047 25) (8 ∷ [])
+    ∷ row "A: scratch of 2,048 words" (mining fileA 2048 25) (0 ∷ 25 ∷ 2 ∷ 1 ∷ 1 ∷ 2 ∷ [])
+    ∷ row "A: scratch of 2,049 words" (mining fileA 2049 25) (0 ∷ 25 ∷ 2 ∷ 1 ∷ 1 ∷ 2 ∷ [])
+    ∷ row "A: its rules, by 2,048 words" (mineOutput 2 fileA [] 2048 (memory 25)) (forA ++ rulesA)
+    ∷ row "A: output by 2,047 words is untouched" (mineOutput 2 fileA [] 2047 (memory 25)) (memory 25)
+    ∷ row "8 before 2" (mining [] 2047 0) (8 ∷ [])
+    ∷ row "8 before 1" (mining (memory 65536) 2047 0) (8 ∷ [])
     ∷ row "7 before 9" (mining roleTwice 4096 0) (7 ∷ [])
     -- "Demand 3 speaks of the mined bytes ... read like any rule file beside their role file": sound, and of level 0
     ∷ row "A: its rules are sound" (judging fileA (output fileA 25)) (0 ∷ 0 ∷ [])
@@ -1227,7 +1232,7 @@ table =
     ∷ row "cuts: 1 of one role" (cutting (hex "01 01 01 01 01 0F") (1 ∷ []) 4096 56) (21 ∷ [])
     ∷ row "cuts: 1 of no role" (cutting (hex "01 01 01 01 00 0F") (1 ∷ []) 4096 56) (21 ∷ [])
     -- "after 1 to 7 and before 9"; 8 stands before all
-    ∷ row "cuts: 8 before 21" (cutting eitherPair (3 ∷ []) 4095 56) (8 ∷ [])
+    ∷ row "cuts: 8 before 21" (cutting eitherPair (3 ∷ []) 2047 56) (8 ∷ [])
     ∷ row "cuts: 2 before 21" (cutting (hex "01 02 02 01 03") (3 ∷ []) 4096 56) (2 ∷ [])
     ∷ row "cuts: 7 before 21" (cutting roleTwice (255 ∷ []) 4096 56) (7 ∷ [])
     ∷ row "cuts: 21 before 9" (cutting eitherPair (3 ∷ []) 4096 0) (21 ∷ [])

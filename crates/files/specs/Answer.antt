@@ -20,7 +20,7 @@ pub data Refusal : Type 0 where
   wrongKind : Refusal
   -- "a role is its own senior"
   ownSenior : Refusal
-  -- "scratch below 4,096 words of 64 bits"
+  -- "scratch below 4,096 words of 64 bits", by request 13 below 2,048
   smallScratch : Refusal
   -- "output shorter than the rule file"
   shortOutput : Refusal

@@ -15,7 +15,8 @@ use native.Mathlib.Omega.{arith}
 use Rattle.files.specs.Answer.{Refusal, Answer, told, unless, andThen, smallScratch, shortOutput, badCuts, refused, accepted}
 use Rattle.files.specs.Beside.{Beside, besideOf}
 use Rattle.files.specs.BytesLaws.{Bytes, carried}
-use Rattle.files.specs.Calls.{Counts, Verdict, countValues, decided, first, triples, isTriple, rulesGrant, partsGrant, firstDifference, firstStrayRule, firstStrayPart, verdict, cutsOk, minedBytes, minedCounts, mayMine, mineAnswer, mineOutput, roleQuestion, readBoth, ruleQuestion, judge, differ, strayRule, strayPart, sound}
+use Rattle.files.specs.Calls.{Counts, Verdict, countValues, decided, first, triples, isTriple, rulesGrant, partsGrant, firstDifference, firstStrayRule, firstStrayPart, verdict, cutsOk, leastScratch, minedBytes, minedCounts, mayMine, mineAnswer, mineOutput, roleQuestion, readBoth, ruleQuestion, judge, differ, strayRule, strayPart, sound}
+use Rattle.files.specs.AnyScratch.{AnyScratch}
 use Rattle.files.specs.Demand3.{Demand3}
 use Rattle.files.specs.DemandLaws.{demand-3}
 use Rattle.files.specs.RoleFile.{readRoles}
@@ -62,7 +63,7 @@ first-ext f g (x ∷ xs) h = rw (h x (List·Memᴰ·head refl), first-ext f g xs
 module _ (W : ℕ) where
   -- what an acceptance says
   pub record Mining (file cuts : List ℕ) (scratch room : ℕ) (F : Policy) : Type 0 where
-    pub enough : 4096 ≤ scratch
+    pub enough : leastScratch ≤ scratch
     pub reading : readRoles W file ≡ accepted F
     pub legal-cuts : Is (cutsOk cuts (F .roles))
     pub room-left : length (minedBytes W F cuts) ≤ room
@@ -70,13 +71,13 @@ module _ (W : ℕ) where
   mined-out : (file cuts : List ℕ) (scratch room : ℕ) (F : Policy) → mayMine W file cuts scratch room ≡ accepted F → Mining file cuts scratch room F
   unfolding mayMine
   mined-out file cuts scratch room F h =
-      let s = unless-out (leb 4096 scratch) smallScratch (andThen (readRoles W file) (λ F. unless (cutsOk cuts (F .roles)) badCuts (unless (leb (length (minedBytes W F cuts)) room) shortOutput (accepted F)))) h in
+      let s = unless-out (leb leastScratch scratch) smallScratch (andThen (readRoles W file) (λ F. unless (cutsOk cuts (F .roles)) badCuts (unless (leb (length (minedBytes W F cuts)) room) shortOutput (accepted F)))) h in
       let t = then-out (readRoles W file) (λ F. unless (cutsOk cuts (F .roles)) badCuts (unless (leb (length (minedBytes W F cuts)) room) shortOutput (accepted F))) (s .1) in
       let c = unless-out (cutsOk cuts (t .0 .roles)) badCuts (unless (leb (length (minedBytes W (t .0) cuts)) room) shortOutput (accepted (t .0))) (t .2) in
       let k = unless-out (leb (length (minedBytes W (t .0) cuts)) room) shortOutput (accepted (t .0)) (c .1) in
       let e : t .0 ≡ F = cc in
       record {
-        enough = leb-true 4096 scratch (s .0);
+        enough = leb-true leastScratch scratch (s .0);
         reading = rw e at (t .1);
         legal-cuts = rw e at (c .0);
         room-left = leb-true (length (minedBytes W F cuts)) room (rw e at (k .0));
@@ -124,18 +125,17 @@ module _ (W : ℕ) where
         kept = drop-append-seam bytes (drop (length bytes) former);
       })
 
-  -- the amount of scratch changes nothing, once it is enough
-  pub scratch-free : (file cuts : List ℕ) (weights : Weights) (m n room : ℕ) → 4096 ≤ m → 4096 ≤ n → mineAnswer W file cuts weights m room ≡ mineAnswer W file cuts weights n room
-  unfolding mineAnswer mayMine
-  scratch-free file cuts weights m n room p q = rw (le-leb 4096 m p, le-leb 4096 n q) refl
-
-  pub scratch-free-output : (file cuts : List ℕ) (m n : ℕ) (former : List ℕ) → 4096 ≤ m → 4096 ≤ n → mineOutput W file cuts m former ≡ mineOutput W file cuts n former
-  unfolding mineOutput mayMine
-  scratch-free-output file cuts m n former p q =
-      ap (λ (r : Answer Policy). elim r as (λ _. List ℕ) [ refused e ↦ former | accepted F ↦ minedBytes W F cuts ++ drop (length (minedBytes W F cuts)) former ]) (enough-scratch m p ∙ sym (enough-scratch n q))
+  -- request 13's second sentence: the amount of scratch changes nothing, once it is enough
+  pub scratch-free : AnyScratch W
+  unfolding mineAnswer mineOutput mayMine
+  scratch-free file cuts weights m n former p q =
+      let e : mayMine W file cuts m (length former) ≡ mayMine W file cuts n (length former) = enough-scratch m p ∙ sym (enough-scratch n q) in (
+        ap (λ (r : Answer Policy). andThen r (λ F. accepted (minedCounts W F cuts weights))) e,
+        ap (λ (r : Answer Policy). elim r as (λ _. List ℕ) [ refused e ↦ former | accepted F ↦ minedBytes W F cuts ++ drop (length (minedBytes W F cuts)) former ]) e,
+      )
     where
-      enough-scratch : (m : ℕ) → 4096 ≤ m → mayMine W file cuts m (length former) ≡ andThen (readRoles W file) (λ F. unless (cutsOk cuts (F .roles)) badCuts (unless (leb (length (minedBytes W F cuts)) (length former)) shortOutput (accepted F)))
-      enough-scratch m p = rw (le-leb 4096 m p) refl
+      enough-scratch : (m : ℕ) → leastScratch ≤ m → mayMine W file cuts m (length former) ≡ andThen (readRoles W file) (λ F. unless (cutsOk cuts (F .roles)) badCuts (unless (leb (length (minedBytes W F cuts)) (length former)) shortOutput (accepted F)))
+      enough-scratch m p = rw (le-leb leastScratch m p) refl
 
   -- and of the output memory only its length counts: the answer's bytes are the same whatever it held
   pub former-free : (file cuts : List ℕ) (weights : Weights) (scratch : ℕ) (former other : List ℕ) (c : Counts) → length former ≡ length other → mineAnswer W file cuts weights scratch (length former) ≡ accepted c

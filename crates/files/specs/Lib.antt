@@ -16,6 +16,7 @@ pub mod ReadBackLaws
 pub mod LineLaws
 pub mod WriteLaws
 pub mod SoundLaws
+pub mod AnyScratch
 pub mod Demand3
 pub mod DemandLaws
 pub mod CallLaws

@@ -7,7 +7,7 @@ use lib.ListN.{length, drop}
 use mathlib.Core.List.{List, _++_, map}
 use Rattle.files.specs.Answer.{Answer, unless, andThen, smallScratch, shortOutput, refused, accepted}
 use Rattle.files.specs.Beside.{shapeOf}
-use Rattle.files.specs.Calls.{Counts}
+use Rattle.files.specs.Calls.{Counts, leastScratch}
 use Rattle.files.specs.RoleFile.{readRoles}
 use Rattle.files.specs.RuleFile.{linesOf, encodeFile}
 use Rattle.policy.specs.Cost.{ruleCost}
@@ -44,10 +44,10 @@ module _ (W : ℕ) where
       cost = sum (λ g. ruleCost (settingOf F) weights (ruleOf (settingOf F) (rolesIn F) g)) (ordinaryGroups (settingOf F) (rolesIn F));
     }
 
-  -- "8 scratch below 4,096 words of 64 bits; then 1 to 7; then 9 output shorter than the rule file"
+  -- "8 scratch below 4,096 words of 64 bits; then 1 to 7; then 9 output shorter than the rule file", with request 13's 2,048
   unfoldable pub mayMineOrdinary : List ℕ → ℕ → ℕ → Answer Policy
   mayMineOrdinary file scratch room =
-      unless (leb 4096 scratch) smallScratch
+      unless (leb leastScratch scratch) smallScratch
       (andThen (readRoles W file) (λ F. unless (leb (length (ordinaryBytes F)) room) shortOutput (accepted F)))
 
   -- the answer, and the output memory afterwards

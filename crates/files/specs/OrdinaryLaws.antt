@@ -8,7 +8,7 @@ use mathlib.Core.List.{List, [], _++_, map}
 use mathlib.Core.Path.{_≡_, refl, ap, _∙_, fun-ext}
 use Rattle.files.specs.Answer.{Answer, unless, andThen, smallScratch, shortOutput, refused, accepted}
 use Rattle.files.specs.Beside.{shapeOf}
-use Rattle.files.specs.Calls.{Counts, minedLines, cutsOk, minedBytes, minedCounts, mayMine, mineAnswer, mineOutput}
+use Rattle.files.specs.Calls.{Counts, minedLines, cutsOk, leastScratch, minedBytes, minedCounts, mayMine, mineAnswer, mineOutput}
 use Rattle.files.specs.Ordinary.{ordinaryGroups, ordinaryMerges, ordinaryBytes, ordinaryCounts, mayMineOrdinary, ordinaryAnswer, ordinaryOutput}
 use Rattle.files.specs.RoleFile.{readRoles}
 use Rattle.files.specs.RuleFile.{linesOf, encodeFile}
@@ -40,7 +40,7 @@ module _ (W : ℕ) where
   may-mine : (file : List ℕ) (scratch room : ℕ) → mayMine W file [] scratch room ≡ mayMineOrdinary W file scratch room
   unfolding mayMine mayMineOrdinary cutsOk
   may-mine file scratch room =
-      ap (λ (next : Policy → Answer Policy). unless (leb 4096 scratch) smallScratch (andThen (readRoles W file) next))
+      ap (λ (next : Policy → Answer Policy). unless (leb leastScratch scratch) smallScratch (andThen (readRoles W file) next))
       (fun-ext λ F. ap (λ bytes. unless (leb (length bytes) room) shortOutput (accepted F)) (no-cuts-bytes F))
 
   -- THE EMPTY LIST: the same refusal or the same counts

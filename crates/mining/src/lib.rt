@@ -4,7 +4,7 @@ ghost use lib.ListN.{length, take};
 ghost use mathlib.Core.Path.{_≡_};
 ghost use Rattle.mine_parts.specs.Layout.{mostParts, roomIn};
 ghost use Rattle.files.specs.Answer.{told, accepted};
-ghost use Rattle.files.specs.Calls.{Counts, countValues, mineAnswer, mineOutput};
+ghost use Rattle.files.specs.Calls.{Counts, countValues, leastScratch, mineAnswer, mineOutput};
 ghost use Rattle.files.specs.Beside.{besideOf};
 ghost use Rattle.files.specs.Demand3.{Demand3};
 ghost use Rattle.files.specs.RoleFile.{readRoles};
@@ -20,7 +20,7 @@ use write_answer::Mined;
 use write_answer::Wrote;
 
 // Words of scratch that a caller has to lend.
-pub const SCRATCH: usize = 4096;
+pub const SCRATCH: usize = mine_parts::WORDS;
 
 // The bytes of the rule file where there is none.
 const NO_FILE: usize = 0;
@@ -42,7 +42,7 @@ fn mine_in(file: &[u8], cuts: &[u8], scratch: &mut [u64], out: &mut [u8]) -> Att
     requires { ⌜ mostParts ≤ roomIn (now scratch) ⌝ }
     ensures { λ r. ⌜
         ((n : ℕ)
-        → 4096 ≤ n
+        → leastScratch ≤ n
         → Outcome (now (file .entry)) (now (cuts .entry)) n (now (out .entry)) (r .wrote) (now (out .exit)))
         × (r .bytes ≡ bytesFor (now (cuts .entry)) (readRoles 2 (now (file .entry)))) ⌝ }
 {

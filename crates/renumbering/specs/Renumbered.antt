@@ -8,7 +8,7 @@ use mathlib.Core.List.{List, [], _∷_, _++_}
 use mathlib.Core.Option.{Option, none, some}
 use mathlib.Core.Path.{_≡_}
 use Rattle.files.specs.Answer.{accepted}
-use Rattle.files.specs.Calls.{Counts, cutsOk, mineAnswer, mineOutput}
+use Rattle.files.specs.Calls.{Counts, cutsOk, leastScratch, mineAnswer, mineOutput}
 use Rattle.files.specs.RoleFile.{roleWidths, readRoles}
 use Rattle.policy.specs.Policy.{Policy}
 use Rattle.policy.specs.Rules.{user, resource}
@@ -72,7 +72,7 @@ module _ (W : ℕ) where
   -- scratch that are long enough", whatever they hold
   abbrev pub MinesTo : List ℕ → List ℕ → List ℕ → (Weights → Counts) → Type 0
   MinesTo file cuts bytes counts =
-      (weights : Weights) (scratch : ℕ) (former : List ℕ) → 4096 ≤ scratch → length bytes ≤ length former
+      (weights : Weights) (scratch : ℕ) (former : List ℕ) → leastScratch ≤ scratch → length bytes ≤ length former
       → (mineAnswer W file cuts weights scratch (length former) ≡ accepted (counts weights))
       × (take (counts weights .size) (mineOutput W file cuts scratch former) ≡ bytes)
 

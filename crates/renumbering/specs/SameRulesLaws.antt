@@ -10,7 +10,7 @@ use mathlib.Core.List.{List}
 use mathlib.Core.Option.{Option, some}
 use mathlib.Core.Path.{_≡_, refl, ap, ap₂, fun-ext}
 use Rattle.files.specs.Answer.{Answer, unless, smallScratch, shortOutput, badCuts, accepted}
-use Rattle.files.specs.Calls.{cutsOk, minedBytes, minedCounts, mayMine, mineAnswer, mineOutput}
+use Rattle.files.specs.Calls.{cutsOk, leastScratch, minedBytes, minedCounts, mayMine, mineAnswer, mineOutput}
 use Rattle.files.specs.RoleFile.{readRoles}
 use Rattle.policy.specs.Policy.{Policy, meetsValue, senior, circular, held, rolesOf, isSetAt, valueAt, sideOf, settingOf, rolesIn}
 use Rattle.policy.specs.Rules.{own, Which, user, resource}
@@ -108,7 +108,7 @@ module _ (W : ℕ) where
   unfolding mineAnswer mineOutput mayMine minedCounts
   mines file cuts F h c weights scratch former s r =
       let bytes = minedBytes W F cuts in
-      let may : mayMine W file cuts scratch (length former) ≡ accepted F = rw (le-leb 4096 scratch s, h, c, le-leb (length bytes) (length former) r) refl in
+      let may : mayMine W file cuts scratch (length former) ≡ accepted F = rw (le-leb leastScratch scratch s, h, c, le-leb (length bytes) (length former) r) refl in
       (rw may refl, rw (mineOutput, may) (take-append-seam bytes (drop (length bytes) former)))
 
   -- a policy, unless one of mining's three tests of what is handed in beside the file fails
@@ -124,7 +124,7 @@ module _ (W : ℕ) where
     answered-alike : AnsweredAlike W file other
     unfolding mineAnswer mineOutput mayMine
     answered-alike cuts weights scratch former =
-        go (leb 4096 scratch) (cutsOk cuts (F .roles)) (leb (length (minedBytes W F cuts)) (length former)) (rw f refl) (rw (g, bytes-same F G π A W, A .roles) refl)
+        go (leb leastScratch scratch) (cutsOk cuts (F .roles)) (leb (length (minedBytes W F cuts)) (length former)) (rw f refl) (rw (g, bytes-same F G π A W, A .roles) refl)
       where
         go : (s c r : Bool) → mayMine W file cuts scratch (length former) ≡ tested s c r F → mayMine W other cuts scratch (length former) ≡ tested s c r G
             → (mineAnswer W other cuts weights scratch (length former) ≡ mineAnswer W file cuts weights scratch (length former)) × (mineOutput W other cuts scratch former ≡ mineOutput W file cuts scratch former)

@@ -95,7 +95,7 @@ fn print_both(s: &[u8], out: &mut [u8])
 }
 
 // Cases lend more words than are needed, too.
-const WORDS: usize = mining::SCRATCH + 64;
+const WORDS: usize = 2 * mining::SCRATCH;
 
 fn main() {
     // tests/minecases.py makes no longer corpus

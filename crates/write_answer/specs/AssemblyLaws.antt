@@ -9,7 +9,7 @@ use native.Mathlib.Omega.{arith}
 use Rattle.role_record.specs.Record.{Sized, attributeTable, recordWith, recordOf}
 use Rattle.mine_distinct.specs.InsideValues.{insideTable}
 use Rattle.files.specs.Answer.{accepted}
-use Rattle.files.specs.Calls.{Counts, countValues, cutsOk, minedBytes, minedCounts}
+use Rattle.files.specs.Calls.{Counts, countValues, cutsOk, leastScratch, minedBytes, minedCounts}
 use Rattle.files.specs.RoleFile.{readRoles}
 use Rattle.grant_grids.specs.Links.{linkTable}
 use Rattle.mine_matches.specs.Matches.{matchTable, knownPlaces}
@@ -156,7 +156,7 @@ unfolding recordOf recordWith
 cuts-so F f e cuts b h = ap (λ (g : RoleFile). cutsOk cuts (g .roles)) (sym e) ∙ h
 
 -- the answer once the file is written
-pub answered : (file cuts : List ℕ) (scratch : ℕ) (former : List ℕ) → 4096 ≤ scratch → (F : Policy) → readRoles 2 file ≡ accepted F → Is (cutsOk cuts (F .roles)) → (m : Measured) (parts merges : ℕ)
+pub answered : (file cuts : List ℕ) (scratch : ℕ) (former : List ℕ) → leastScratch ≤ scratch → (F : Policy) → readRoles 2 file ≡ accepted F → Is (cutsOk cuts (F .roles)) → (m : Measured) (parts merges : ℕ)
     → ((weights : Weights) → minedCounts 2 F cuts weights ≡ record { size = 7 + m .bytes; parts = parts; rules = m .rules; merges = mergeCount (settingOf F) (rolesIn F) cuts; cost = weighed weights (m .sums) })
     → merges ≡ mergeCount (settingOf F) (rolesIn F) cuts → length (minedBytes 2 F cuts) ≤ length former
     → (bytes out : List ℕ) → bytes ≡ minedBytes 2 F cuts → out ≡ wrote bytes former → Outcome file cuts scratch former (Rules (7 + m .bytes) parts (m .rules) merges (m .sums)) out

@@ -11,7 +11,7 @@ use Rattle.files.specs.Beside.{besideOf}
 use Rattle.files.specs.Answer.{Refusal, numberOf, Answer, told, unless, andThen, smallScratch, shortOutput, badCuts, refused, accepted}
 use Rattle.files.specs.BytesLaws.{Bytes}
 use Rattle.files.specs.CallLaws.{third-demand}
-use Rattle.files.specs.Calls.{Counts, countValues, cutsOk, minedBytes, minedCounts, mayMine, mineAnswer, mineOutput}
+use Rattle.files.specs.Calls.{Counts, countValues, cutsOk, leastScratch, minedBytes, minedCounts, mayMine, mineAnswer, mineOutput}
 use Rattle.files.specs.Demand3.{Demand3}
 use Rattle.files.specs.RoleFile.{readRoles}
 use Rattle.write_answer.specs.MinedNumbers.{minedNumbers}
@@ -38,18 +38,18 @@ module _ (file cuts : List ℕ) (scratch : ℕ) (former : List ℕ) where
   unfolding mineAnswer
   refuses e h = (λ weights. rw h refl, sym (output-by (refused e) h))
 
-  may-small : scratch < 4096 → mayMine 2 file cuts scratch (length former) ≡ refused smallScratch
+  may-small : scratch < leastScratch → mayMine 2 file cuts scratch (length former) ≡ refused smallScratch
   unfolding mayMine
-  may-small h = ap (λ (b : Bool). unless b smallScratch (andThen (readRoles 2 file) (λ F. unless (cutsOk cuts (F .roles)) badCuts (unless (leb (length (minedBytes 2 F cuts)) (length former)) shortOutput (accepted F))))) (lt-leb 4096 scratch h)
+  may-small h = ap (λ (b : Bool). unless b smallScratch (andThen (readRoles 2 file) (λ F. unless (cutsOk cuts (F .roles)) badCuts (unless (leb (length (minedBytes 2 F cuts)) (length former)) shortOutput (accepted F))))) (lt-leb leastScratch scratch h)
 
   -- 8
-  pub small : scratch < 4096 → Outcome file cuts scratch former (Nothing 8) former
+  pub small : scratch < leastScratch → Outcome file cuts scratch former (Nothing 8) former
   small h = refuses smallScratch (may-small h)
 
-  module _ (h : 4096 ≤ scratch) where
+  module _ (h : leastScratch ≤ scratch) where
     may-read : (a : Answer Policy) → readRoles 2 file ≡ a → mayMine 2 file cuts scratch (length former) ≡ andThen a (λ F. unless (cutsOk cuts (F .roles)) badCuts (unless (leb (length (minedBytes 2 F cuts)) (length former)) shortOutput (accepted F)))
     unfolding mayMine
-    may-read a e = rw (le-leb 4096 scratch h) (ap (λ (r : Answer Policy). andThen r (λ F. unless (cutsOk cuts (F .roles)) badCuts (unless (leb (length (minedBytes 2 F cuts)) (length former)) shortOutput (accepted F)))) e)
+    may-read a e = rw (le-leb leastScratch scratch h) (ap (λ (r : Answer Policy). andThen r (λ F. unless (cutsOk cuts (F .roles)) badCuts (unless (leb (length (minedBytes 2 F cuts)) (length former)) shortOutput (accepted F)))) e)
 
     -- 1 to 7
     pub unread : (l : Loaded) → l ≡ loadedOf (readRoles 2 file) → (l .code ≡ 0 → ⊥) → Outcome file cuts scratch former (Nothing (l .code)) former
@@ -111,10 +111,10 @@ pub cut-bytes : (file cuts : List ℕ) (F : Policy) → readRoles 2 file ≡ acc
 cut-bytes file cuts F q e = rw (q, e) refl
 
 -- the length that is needed, by the words of scratch
-pub needed-none : (file cuts : List ℕ) (scratch : ℕ) → scratch < 4096 → 0 ≡ neededBytes file cuts scratch
+pub needed-none : (file cuts : List ℕ) (scratch : ℕ) → scratch < leastScratch → 0 ≡ neededBytes file cuts scratch
 unfolding neededBytes
-needed-none file cuts scratch h = rw (lt-leb 4096 scratch h)
+needed-none file cuts scratch h = rw (lt-leb leastScratch scratch h)
 
-pub needed-some : (file cuts : List ℕ) (scratch n : ℕ) → 4096 ≤ scratch → n ≡ bytesFor cuts (readRoles 2 file) → n ≡ neededBytes file cuts scratch
+pub needed-some : (file cuts : List ℕ) (scratch n : ℕ) → leastScratch ≤ scratch → n ≡ bytesFor cuts (readRoles 2 file) → n ≡ neededBytes file cuts scratch
 unfolding neededBytes
-needed-some file cuts scratch n h e = rw (le-leb 4096 scratch h) e
+needed-some file cuts scratch n h e = rw (le-leb leastScratch scratch h) e

@@ -9,7 +9,7 @@ use mathlib.Core.Path.{_≡_}
 use Rattle.mine_distinct.specs.InsideValues.{distinctIn, havingIn, insideIn}
 use Rattle.files.specs.Answer.{Answer, told, refused, accepted}
 use Rattle.files.specs.Beside.{shapeOf}
-use Rattle.files.specs.Calls.{countValues, cutsOk, minedBytes, mineAnswer, mineOutput}
+use Rattle.files.specs.Calls.{countValues, cutsOk, leastScratch, minedBytes, mineAnswer, mineOutput}
 use Rattle.files.specs.RoleFile.{readRoles}
 use Rattle.role_record.specs.Record.{recordOf}
 use Rattle.role_record.specs.declared.Sizes.{Sizes}
@@ -32,7 +32,7 @@ bytesFor cuts (accepted F) = cond (cutsOk cuts (F .roles)) (length (minedBytes 2
 
 -- and where scratch is too small
 unfoldable pub neededBytes : (file cuts : List ℕ) → ℕ → ℕ
-neededBytes file cuts scratch = cond (leb 4096 scratch) (bytesFor cuts (readRoles 2 file)) 0
+neededBytes file cuts scratch = cond (leb leastScratch scratch) (bytesFor cuts (readRoles 2 file)) 0
 
 -- the tables and numbers are those of the policy's record
 pub record OfRecord (F : Policy) (known values kinds domains attributes holders permissions : List ℕ) (users resources operations roles : ℕ) : Type 0 where
@@ -91,4 +91,4 @@ Outcome file cuts scratch former r out =
 
 -- the same for every file that states a policy whose roles the cuts may part
 abbrev pub Result : Policy → (cuts former : List ℕ) → Wrote → List ℕ → Type 0
-Result F cuts former r out = (file : List ℕ) (n : ℕ) → 4096 ≤ n → readRoles 2 file ≡ accepted F → Is (cutsOk cuts (F .roles)) → Outcome file cuts n former r out
+Result F cuts former r out = (file : List ℕ) (n : ℕ) → leastScratch ≤ n → readRoles 2 file ≡ accepted F → Is (cutsOk cuts (F .roles)) → Outcome file cuts n former r out

@@ -84,7 +84,9 @@ fn legal(
     let weights = costs::weights(random);
     let mined = mine_world(world, costs::theirs(weights), &theirs(cuts), REV);
     let length = mined.bytes.len();
-    for (scratch, room) in [(4096, length), (4096, length - 1), (4095, length), (4097, length + 9)]
+    let more = 2048 + random.below(2100);
+    for (scratch, room) in
+        [(2048, length), (2048, length - 1), (2047, length), (4096, length + 9), (more, length)]
     {
         roles::mining(file, Lent { cuts, weights, scratch, room }, Ok(&mined), tally)?;
     }
@@ -99,13 +101,13 @@ fn any(file: &[u8], cuts: &[u8], random: &mut Random, tally: &mut Tally) -> Resu
     tally.cuts += 1;
     let weights = costs::weights(random);
     let lent = second_miner::mining::Lent {
-        scratch: 4096,
+        scratch: 2048,
         output: 1 << 22,
         weights: costs::theirs(weights),
         cuts: theirs(cuts),
     };
     let mined = mine(file, &lent, REV).map_err(usize::from);
-    for (scratch, room) in [(4096, 0), (4096, 64), (4095, 64)] {
+    for (scratch, room) in [(2048, 0), (2048, 64), (2047, 64)] {
         let mined = mined.as_ref().map_err(|&refusal| refusal);
         roles::mining(file, Lent { cuts, weights, scratch, room }, mined, tally)?;
     }

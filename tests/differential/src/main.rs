@@ -34,7 +34,7 @@ use std::thread::{available_parallelism, scope};
 use tally::Tally;
 
 /// How many of the change requests have landed: the second miner is asked as of then.
-pub const REV: second_miner::revision::Rev = 12;
+pub const REV: second_miner::revision::Rev = 13;
 
 /// Both sides must say the same.
 pub fn same<T: PartialEq + std::fmt::Debug>(what: &str, ours: T, theirs: T) -> Result<(), String> {

@@ -27,9 +27,11 @@ pub fn compare(
     let mined = mine_world(&world, costs::theirs(weights), &[], REV);
     let length = mined.bytes.len();
     let uncut = |weights, scratch, room| Lent { cuts: &[], weights, scratch, room };
-    mining(file, uncut(weights, 4096, length), Ok(&mined), tally)?;
+    mining(file, uncut(weights, 2048, length), Ok(&mined), tally)?;
     // by other weights: the same bytes, the same counts, and another cost
-    for (scratch, room) in [(4096, length), (4096, length - 1), (4095, length), (4097, length + 9)]
+    let more = 2048 + random.below(2100);
+    for (scratch, room) in
+        [(2048, length), (2048, length - 1), (2047, length), (4096, length + 9), (more, length)]
     {
         let weights = costs::weights(random);
         let cost = costs::of_rules(&world, &mined.bytes, weights);
@@ -48,7 +50,7 @@ fn refused(
     tally: &mut Tally,
 ) -> Result<(), String> {
     role_question(file, questions::FIRST, tally)?;
-    for scratch in [4096, 4095] {
+    for scratch in [2048, 2047] {
         let lent = Lent { cuts: &[], weights: costs::weights(random), scratch, room: 64 };
         mining(file, lent, Err(refusal), tally)?;
     }
@@ -96,14 +98,14 @@ pub struct Lent<'a> {
 }
 
 /// What the second miner's call says with this much memory of what it mined: "8 scratch below 4,096
-/// words ...; then 1 to 7", and 21 behind them, "then 9 output shorter than the rule file". It takes long
-/// to mine anew.
+/// words ...; then 1 to 7", by request 13 below 2,048, and 21 behind them, "then 9 output shorter than the
+/// rule file". It takes long to mine anew.
 fn with_memory<'a>(
     mined: Result<&'a Mined, usize>,
     scratch: usize,
     room: usize,
 ) -> Result<&'a Mined, usize> {
-    if scratch < 4096 {
+    if scratch < 2048 {
         return Err(8);
     }
     mined.and_then(|mined| if room < mined.bytes.len() { Err(9) } else { Ok(mined) })
