@@ -8,7 +8,7 @@
  *     worked_example FILE
  *
  * All memory is set aside beforehand, as firmware would do it: 64 KB for the role file, 64 KB for
- * the rules, 32 KB of scratch, 20 KB for the record and the table of rights.
+ * the rules, 16 KB of scratch, 20 KB for the record and the table of rights.
  */
 #include <inttypes.h>
 #include <stdio.h>

@@ -337,10 +337,11 @@ pub fn denials(file: &[u8], rules: &[u8], log: &[u8], window: usize) -> Result<D
 
 /// Writes the rules of a role file to the front of the output, and says what they cost by these
 /// weights; nothing else depends on them. A refusal leaves the output as it was. Scratch may hold
-/// anything before and after.
+/// anything before and after, and more of it than `SCRATCH_WORDS` changes nothing.
 ///
 /// A cut stands between the role before it and the role of its number. Groups merge within each run of
-/// roles that the cuts make first, and then over all; without a cut there is but one run.
+/// roles that the cuts make first, and then over all; without a cut there is but one run. Cuts ascend
+/// strictly, each from 1 to roles - 1, else they are `Refusal::BadCuts`.
 pub fn mine(
     file: &[u8],
     cuts: &[u8],

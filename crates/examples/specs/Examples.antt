@@ -683,7 +683,7 @@ table =
     ∷ row "A: bytes behind the rules stay" (output fileA 29) (forA ++ rulesA ++ memory 4)
     ∷ row "A: output of 24 bytes is untouched" (output fileA 24) (memory 24)
     -- "8 scratch below 4,096 words of 64 bits; then 1 to 7; then 9 output shorter than the rule file"; by request 13 "2,048 words of scratch and up,
-    -- below that 8"
+    -- and 8 is given below that"
     ∷ row "A: scratch of 2,047 words" (mining fileA 2047 25) (8 ∷ [])
     ∷ row "A: scratch of 2,048 words" (mining fileA 2048 25) (0 ∷ 25 ∷ 2 ∷ 1 ∷ 1 ∷ 2 ∷ [])
     ∷ row "A: scratch of 2,049 words" (mining fileA 2049 25) (0 ∷ 25 ∷ 2 ∷ 1 ∷ 1 ∷ 2 ∷ [])
@@ -1247,7 +1247,7 @@ table =
     ∷ row "renumbered: 01, 02, 06, 07, 08 and 0F have no user" (moved (hex "01 01 01 01 01 02 00 00 06 01 01 01 07 01 01 08 00 00 01 0F")) (hex "01 01 01 01 01 02 00 00 06 01 01 01 07 01 01 08 00 00 01 0F")
     ∷ row "renumbered: command by command" (moved (hex "03 00 00 01 05 00 05 00 01 0F")) (hex "03 00 00 02 05 00 05 00 02 0F")
     ∷ row "renumbered: a file" (moved staff) (hex "01 04 02 01 02 02 00 00 02 00 01 02 01 00 02 01 01 03 00 00 01 09 00 03 00 00 02 08 00 03 00 00 03 07 00 03 00 00 00 08 00 04 00 01 03 03 00 00 00 00 00 00 00 03 01 00 01 05 00 04 01 01 00 03 00 00 00 00 00 00 00 05 00 02 05 01 01 05 01 03 06 00 01 00 06 01 00 00 0F")
-    -- "both mine to the same bytes and the same counts": a rule that names roles, and one that lists the values of users who stand in another order
+    -- "both mine to the same bytes and the same counts": a rule that names roles, and one that lists the values of two users
     ∷ row "renumbered: the bytes before" (output staff 60) (hex "20 04 02 01 02 02 02 21 23 FF 01 00 00 00 00 00 00 00 24 00 05 00 26 01 00 28 00 01 00 29 01 21 22 00 07 00 22 00 09 00 25 01 03 00 00 00 00 00 00 00 26 01 00 28 01 01 00 29 00 2F")
     ∷ row "renumbered: the bytes after" (output (moved staff) 120) (output staff 120)
     ∷ row "renumbered: the counts after" (weighing 3 5 7 11 (moved staff) 60) (weighing 3 5 7 11 staff 60)

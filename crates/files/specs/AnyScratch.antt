@@ -7,8 +7,8 @@ use mathlib.Core.Path.{_≡_}
 use Rattle.files.specs.Calls.{leastScratch, mineAnswer, mineOutput}
 use Rattle.policy.specs.declared.Weights.{Weights}
 
--- "for every amount accepted, bytes and counts equal those made with 4,096": of any two amounts, so also of an amount and 4,096; the answer,
--- be it counts or a refusal, and the output memory afterwards
+-- "For every amount accepted, output bytes and counts are equal, also to those made with 4,096": of any two amounts, so also of an amount and
+-- 4,096; the answer, be it counts or a refusal, and the output memory afterwards
 abbrev pub AnyScratch : ℕ → Type 0
 AnyScratch W =
     (file cuts : List ℕ) (weights : Weights) (m n : ℕ) (former : List ℕ) → leastScratch ≤ m → leastScratch ≤ n

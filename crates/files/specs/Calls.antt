@@ -116,10 +116,11 @@ abbrev pub ascend : List ℕ → Bool
 ascend [] = true
 ascend (c ∷ cs) = all (ltb c) cs && ascend cs
 
+-- legal cuts between so many roles
 unfoldable pub cutsOk : List ℕ → ℕ → Bool
 cutsOk cuts roles = all (λ c. leb 1 c && ltb c roles) cuts && ascend cuts
 
--- request 13: "Mining accepts 2,048 words of scratch and up"
+-- request 13: "Mining now accepts 2,048 words of scratch and up"
 abbrev pub leastScratch : ℕ
 leastScratch = 2048
 
@@ -140,8 +141,8 @@ module _ (W : ℕ) where
       cost = sum (λ g. ruleCost (settingOf F) weights (ruleOf (settingOf F) (rolesIn F) g)) (minedGroups (settingOf F) (rolesIn F) cuts);
     }
 
-  -- "8 scratch below 4,096 words of 64 bits; then 1 to 7; then 9 output shorter than the rule file", by request 13 "below that 8" with
-  -- its 2,048; request 11: "21 for cuts that do not ascend strictly or are out of range, after 1 to 7 and before 9"
+  -- "8 scratch below 4,096 words of 64 bits; then 1 to 7; then 9 output shorter than the rule file"; request 13: "8 is
+  -- given below that", below 2,048; request 11: "21 for cuts that do not ascend strictly or are out of range, after 1 to 7 and before 9"
   unfoldable pub mayMine : List ℕ → List ℕ → ℕ → ℕ → Answer Policy
   mayMine file cuts scratch room =
       unless (leb leastScratch scratch) smallScratch

@@ -3,7 +3,7 @@
 use crate::{costs, roles, roles::Lent, rules, same, tally::Tally, REV};
 use fichtengarn::Verdict;
 use second_miner::mining::{mine, mine_world};
-use second_miner::{random::Random, world::World};
+use second_miner::{properties, random::Random, world::World};
 
 /// A list as the second miner takes it.
 fn theirs(cuts: &[u8]) -> Vec<u64> {
@@ -54,7 +54,7 @@ fn ascending(mut cuts: Vec<u8>) -> Vec<u8> {
 }
 
 /// A legal list with 0, the first number behind the last role, one beyond, any, or one of its own put in
-/// anywhere; turned round; or very long. Few of these are legal.
+/// anywhere; turned round; very long; or up to four numbers at random. Few of these are legal.
 fn wrong(places: usize, random: &mut Random) -> Vec<u8> {
     let mut cuts = some(places, random);
     let at = random.below(cuts.len() + 1);
@@ -92,7 +92,30 @@ fn legal(
     }
     let judged = tally.told(fichtengarn::judge(file, &mined.bytes));
     same(&format!("the judge on rules mined with cuts {cuts:?}"), judged, Ok(Verdict::Sound))?;
+    by_brute_force(file, world, cuts, tally)?;
     Ok(mined.bytes)
+}
+
+/// So many triples at most has a file that is small enough for checks by brute force.
+const SMALL: usize = 48;
+
+/// What is promised of mined files, of rules mined with these cuts: by the second miner's checks on plain
+/// sets of triples, if the file is small.
+fn by_brute_force(
+    file: &[u8],
+    world: &World,
+    cuts: &[u8],
+    tally: &mut Tally,
+) -> Result<(), String> {
+    let policy = &world.policy;
+    if SMALL < policy.users.count * policy.resources.count * policy.operations {
+        return Ok(());
+    }
+    tally.brute += 1;
+    let usual = second_miner::mining::Lent::usual();
+    let lent = second_miner::mining::Lent { cuts: theirs(cuts), ..usual };
+    let checked = properties::check(file, &lent, REV, 2);
+    checked.map(|_| ()).map_err(|what| format!("rules mined with cuts {cuts:?}: {what}"))
 }
 
 /// Any file with any list, as the second miner's own call has it: with room for no byte, and with too

@@ -9,8 +9,8 @@ use second_miner::{makers, random::Random};
 /// Counts and bytes, or the number of a refusal.
 type Answer = Result<(Mined, Vec<u8>), usize>;
 
-/// So many bytes hold every rule file.
-const ENOUGH: usize = 65_536;
+/// More than any maker's file is mined to.
+const ENOUGH: usize = 1 << 22;
 
 /// Mines an accepted file and both others: without cuts, with cuts, and with one more that is refused.
 pub fn compare(file: &[u8], random: &mut Random, tally: &mut Tally) -> Result<(), String> {

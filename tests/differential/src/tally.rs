@@ -9,6 +9,8 @@ pub struct Tally {
     pub minings: usize,
     /// Lists of cuts that a file was mined with.
     pub cuts: usize,
+    /// Of these, lists whose rules were checked by brute force.
+    pub brute: usize,
     pub questions: usize,
     pub shown: usize,
     pub circles: usize,
@@ -39,6 +41,7 @@ impl Tally {
         self.rule_files += other.rule_files;
         self.minings += other.minings;
         self.cuts += other.cuts;
+        self.brute += other.brute;
         self.questions += other.questions;
         self.shown += other.shown;
         self.circles += other.circles;
@@ -61,11 +64,12 @@ impl fmt::Display for Tally {
     fn fmt(&self, f: &mut fmt::Formatter) -> fmt::Result {
         writeln!(
             f,
-            "no disagreement on {} role files, {} rule files, {} minings, {} lists of cuts, {} questions, {} rules shown, {} circles, {} loads, {} edits, {} logs, {} renumbered files",
+            "no disagreement on {} role files, {} rule files, {} minings, {} lists of cuts ({} by brute force), {} questions, {} rules shown, {} circles, {} loads, {} edits, {} logs, {} renumbered files",
             self.role_files,
             self.rule_files,
             self.minings,
             self.cuts,
+            self.brute,
             self.questions,
             self.shown,
             self.circles,
