@@ -337,7 +337,7 @@ typedef struct {
     uint64_t values[768];      /* by side, attribute and user or resource, 64 of these */
     uint64_t assigned[32];     /* by role: the users assigned */
     uint64_t lines[32];        /* by role: its seniors by a line 07 */
-    uint64_t permissions[512]; /* by role and operation, 16 of these: the resources */
+    uint64_t permissions[512]; /* by operation and role, 32 of these: the resources */
     uint64_t seniors[32];      /* by role, worked out: all its seniors */
     uint64_t holders[32];      /* by role, worked out: its holders */
 } fichtengarn_record;

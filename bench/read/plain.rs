@@ -10,7 +10,7 @@ use std::io::Read;
 fn sample(bytes: &[u8], turn: usize) -> u64 {
     match read(black_box(bytes)) {
         Ok(file) => file.values.as_flattened().as_flattened()[turn % 768]
-            .wrapping_add(file.permissions.as_flattened()[turn % 512])
+            .wrapping_add(file.permissions[turn % 32][turn % 512 / 32])
             .wrapping_add(file.seniors[turn % 32])
             .wrapping_add(file.holders[turn % 32]),
         Err(refusal) => refusal as u64,

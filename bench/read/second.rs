@@ -44,7 +44,7 @@ fn sample(bytes: &[u8], turn: usize) -> u64 {
             let role = turn % 32;
             let seniors = mask(policy.seniors(role).into_iter());
             value(&policy, turn % 768)
-                .wrapping_add(permissions(&policy, turn % 512 / 16, turn % 16))
+                .wrapping_add(permissions(&policy, turn % 32, turn % 512 / 32))
                 .wrapping_add(seniors)
                 .wrapping_add(assigned(&policy, seniors | 1 << role))
         }

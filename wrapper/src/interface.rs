@@ -40,7 +40,7 @@ pub struct Record {
     /// By role: the users assigned, and the seniors by a line 07.
     pub assigned: [u64; 32],
     pub lines: [u64; 32],
-    /// By role and operation, 16 of these: the resources.
+    /// By operation and role, 32 of these: the resources.
     pub permissions: [u64; 512],
     /// By role, worked out: all seniors, and the holders.
     pub seniors: [u64; 32],

@@ -1,2 +1,3 @@
-pub mod PartGrid
+pub mod Rows
+pub mod RowsLaws
 pub mod PartGridLaws

@@ -1,95 +1,32 @@
-// What the parts listed under a rule grant, kept as a grid of sets of resources, by user and operation, while the rule's lines are
-// read.
-ghost use lib.ListN.{length, getD};
-ghost use mathlib.Core.Bool.{false};
+// What rules grant together, kept as a grid of sets of resources, by user and operation, while they are read. A rule has no grid of its own:
+// its rows, by user the resources that it leaves the user, and its operations say what it grants.
+ghost use lib.ListN.{length};
 ghost use mathlib.Core.Path.{_≡_};
-ghost use Prim.Native.Nat.{_<_};
-ghost use Rattle.grant_grids.specs.Grid.{gridOf};
-ghost use Rattle.role_record.specs.Cells.{rowCells, userCells};
-ghost use Rattle.grant_blocks.specs.PartGrid.{addedColumn, addedPart, joinedGrid};
-use role_record::ByRole;
-use role_record::ByRoleOperation;
-use role_record::Grid;
+ghost use Prim.Native.Nat.{_≤_, _<_};
+ghost use Rattle.role_record.specs.Cells.{gridCells};
+ghost use Rattle.grant_blocks.specs.Rows.{addedRow, addedRows};
+use role_record::ByMember;
 use role_record::RoleFile;
 
-// Joins, at one operation, the resources that the role is permitted to the word of each user who holds it.
-fn add_column(
-    holding: u64,
-    permissions: &ByRoleOperation,
-    role: usize,
-    operation: usize,
-    grid: &mut [u64],
-)
-    requires { ⌜ (role < 32) × (operation < rowCells) × (length (now grid) ≡ userCells) ⌝ }
-    ensures { λ _. ⌜
-        now (grid .exit) ≡ addedColumn operation (now (permissions .entry)) role holding (now (grid .entry)) ⌝ }
+// Joins each user's row to the user's word of an operation.
+fn add_row(rows: &ByMember, operation: usize, operations: usize, grid: &mut [u64])
+    requires { ⌜ (operation < operations) × (operations ≤ 64) × (length (now grid) ≡ gridCells operations) ⌝ }
+    ensures { λ _. ⌜ now (grid .exit) ≡ addedRow operations (now (rows .entry)) operation (now (grid .entry)) ⌝ }
 {
-    for u in 0..RoleFile::MEMBERS {
-        if sets::has(holding, u) {
-            grid[RoleFile::OPERATIONS * u + operation] = sets::union(
-                grid[RoleFile::OPERATIONS * u + operation],
-                permissions[RoleFile::OPERATIONS * role + operation],
-            );
+    let start = RoleFile::USERS * operation;
+    for u in 0..RoleFile::USERS {
+        grid[start + u] = sets::union(grid[start + u], rows[u]);
+    }
+}
+
+// Joins what a rule grants to a grid: at each of its operations the rows. Most rules have few operations.
+pub fn add_rows(rows: &ByMember, acts: u64, operations: usize, grid: &mut [u64])
+    requires { ⌜ (operations ≤ 64) × (length (now grid) ≡ gridCells operations) ⌝ }
+    ensures { λ _. ⌜ now (grid .exit) ≡ addedRows operations (now (rows .entry)) acts (now (grid .entry)) ⌝ }
+{
+    for o in 0..operations {
+        if sets::has(acts, o) {
+            add_row(rows, o, operations, grid);
         }
     }
-}
-
-// Into a slice, since only a slice tells its length to a proof.
-fn add_columns(
-    holding: u64,
-    permissions: &ByRoleOperation,
-    role: usize,
-    class: u64,
-    grid: &mut [u64],
-)
-    requires { ⌜ (role < 32) × (length (now grid) ≡ userCells) ⌝ }
-    ensures { λ _. ⌜ now (grid .exit) ≡ addedPart holding (now (permissions .entry)) role class (now (grid .entry)) ⌝ }
-{
-    for o in 0..RoleFile::OPERATIONS {
-        // Most classes have few operations, and the words of the others stay as they are.
-        if sets::has(class, o) {
-            add_column(holding, permissions, role, o, grid);
-        }
-    }
-}
-
-// Joins a part's block to a grid: for each holder of the role and each operation of the class, the resources of that operation.
-pub fn add_part<'a>(
-    holders: &'a ByRole,
-    permissions: &'a ByRoleOperation,
-    role: usize,
-    class: u64,
-    grid: &mut Grid,
-)
-    requires { ⌜ role < 32 ⌝ }
-    ensures { λ _. ⌜
-        now (grid .exit)
-        ≡ addedPart (getD (now (holders .entry)) role 0) (now (permissions .entry)) role class
-        (now (grid .entry)) ⌝ }
-{
-    add_columns(holders[role], permissions, role, class, grid);
-}
-
-// The grid of no triples, whatever the table held.
-pub fn clear(grid: &mut Grid)
-    ensures { λ _. ⌜ now (grid .exit) ≡ gridOf (λ u r o. false) ⌝ }
-{
-    grant_grids::fill_none(grid);
-}
-
-// Into a slice, since only a slice tells its length to a proof.
-fn join_words(from: &Grid, to: &mut [u64])
-    requires { ⌜ length (now to) ≡ userCells ⌝ }
-    ensures { λ _. ⌜ now (to .exit) ≡ joinedGrid (now (from .entry)) (now (to .entry)) ⌝ }
-{
-    for i in 0..RoleFile::USERS * RoleFile::OPERATIONS {
-        to[i] = sets::union(to[i], from[i]);
-    }
-}
-
-// Joins the triples of one grid to another.
-pub fn join(from: &Grid, to: &mut Grid)
-    ensures { λ _. ⌜ now (to .exit) ≡ joinedGrid (now (from .entry)) (now (to .entry)) ⌝ }
-{
-    join_words(from, to);
 }

@@ -13,8 +13,8 @@ use mathlib.Core.Path.{_≡_, refl, sym, ap, ap₂, _∙_}
 use native.Mathlib.Nat.{not-suc-le-zero, le-of-suc-le-suc, eq-or-lt-of-le}
 use native.Mathlib.Numerals.{add-one}
 use native.Mathlib.Omega.{arith}
-use Rattle.role_record.specs.Cells.{rowCells, cellAt, cellRow, cellOperation, userCells}
-use Rattle.role_record.specs.CellsLaws.{cell-parts}
+use Rattle.role_record.specs.Cells.{gridAt, gridUser, gridOperation, gridCells}
+use Rattle.role_record.specs.CellsLaws.{grid-parts, grid-again}
 use Rattle.role_record.specs.Record.{Sized, tableOf, recordOf}
 use Rattle.role_admit.specs.RoleTableLaws.{record-grants}
 use Rattle.files.specs.CallLaws.{first-none, triple-in, first-ext}
@@ -30,38 +30,46 @@ use Rattle.sets.specs.LoopLaws.{all-more, table-unique}
 use Rattle.sets.specs.MaskLaws.{mask-same, mask-none}
 use Rattle.sets.specs.Sets.{bit, maskOf}
 use Rattle.sets.specs.SetLaws.{bit-mask}
-use Rattle.sets.specs.Tests.{Is, iff, each, upTo, _isIn_}
-use Rattle.sets.specs.TestLaws.{and-in, and-l, and-r, fails, same, iff-in, all-in, all-out, upTo-in, upTo-out, each-out, map-out, beq-iff}
-use Rattle.grant_grids.specs.Grid.{gridOf, inGrid, grantedBy, tripleList, differAt, sameWords, gridDifference, differenceOf, isSame}
+use Rattle.sets.specs.Tests.{Is, iff, all, each, upTo, _isIn_}
+use Rattle.sets.specs.TestLaws.{and-in, and-l, and-r, fails, same, iff-in, all-out, upTo-in, upTo-out, each-out, map-out, beq-iff}
+use Rattle.grant_grids.specs.Grid.{gridOf, inGrid, grantedBy, tripleList, differAt, sameWords, sameTables, gridDifference, differenceOf, isSame}
 use Rattle.grant_grids.specs.declared.Difference.the-variants.{Same, At}
 
 -- ---- grids
 
-pub in-grid : (G : Block) (u r o : ℕ) → u < 64 → r < 64 → o < rowCells → inGrid (gridOf G) u r o ≡ G u r o
-unfolding inGrid gridOf
-in-grid G u r o hu hr ho =
-    ap (λ (m : ℕ). bit m r) (table-get userCells (λ i. maskOf 64 (λ r. G (cellRow i) r (cellOperation i))) (cellAt u o) (omega arith))
-    ∙ bit-mask 64 (λ r. G (cellRow (cellAt u o)) r (cellOperation (cellAt u o))) r hr
-    ∙ cell-parts (λ x y. G x r y) u o ho
+module _ (n : ℕ) where
+  pub in-grid : (G : Block) (u r o : ℕ) → u < 64 → r < 64 → o < n → inGrid (gridOf n G) u r o ≡ G u r o
+  unfolding inGrid gridOf
+  in-grid G u r o hu hr ho =
+      ap (λ (m : ℕ). bit m r) (table-get (gridCells n) (λ i. maskOf 64 (λ r. G (gridUser i) r (gridOperation i))) (gridAt u o) (omega arith))
+      ∙ bit-mask 64 (λ r. G (gridUser (gridAt u o)) r (gridOperation (gridAt u o))) r hr
+      ∙ grid-parts (λ x y. G x r y) u o hu
 
-pub grid-long : (G : Block) → length (gridOf G) ≡ userCells
-unfolding gridOf
-grid-long G = table-length userCells (λ i. maskOf 64 (λ r. G (cellRow i) r (cellOperation i)))
+  -- the resources of a word
+  pub word-bit : (G : Block) (i r : ℕ) → i < gridCells n → r < 64 → bit (getD (gridOf n G) i 0) r ≡ G (gridUser i) r (gridOperation i)
+  unfolding gridOf
+  word-bit G i r l k = ap (λ (m : ℕ). bit m r) (table-get (gridCells n) (λ i. maskOf 64 (λ r. G (gridUser i) r (gridOperation i))) i l) ∙ bit-mask 64 (λ r. G (gridUser i) r (gridOperation i)) r k
 
-pub grid-unique : (t : List ℕ) (G : Block) → length t ≡ userCells → ((i : ℕ) → i < userCells → getD t i 0 ≡ maskOf 64 (λ r. G (cellRow i) r (cellOperation i))) → t ≡ gridOf G
-unfolding gridOf tableOf
-grid-unique t G e h = table-unique userCells t (λ i. maskOf 64 (λ r. G (cellRow i) r (cellOperation i))) e h
+  pub grid-long : (G : Block) → length (gridOf n G) ≡ gridCells n
+  unfolding gridOf
+  grid-long G = table-length (gridCells n) (λ i. maskOf 64 (λ r. G (gridUser i) r (gridOperation i)))
 
--- a grid of empty sets has no triples
-pub no-triples : (out : List ℕ) → length out ≡ userCells → ((i : ℕ) → i < userCells → getD out i 0 ≡ 0) → out ≡ gridOf (λ u r o. false)
-no-triples out e h = grid-unique out (λ u r o. false) e (λ i l. h i l ∙ sym (mask-none 64 (λ r. false) (λ r k. refl)))
+  pub grid-unique : (t : List ℕ) (G : Block) → length t ≡ gridCells n → ((i : ℕ) → i < gridCells n → getD t i 0 ≡ maskOf 64 (λ r. G (gridUser i) r (gridOperation i))) → t ≡ gridOf n G
+  unfolding gridOf tableOf
+  grid-unique t G e h = table-unique (gridCells n) t (λ i. maskOf 64 (λ r. G (gridUser i) r (gridOperation i))) e h
 
--- sets of triples that agree wherever a grid has room have one grid
-pub grid-same : (G H : Block) → ((u r o : ℕ) → u < 64 → r < 64 → o < rowCells → G u r o ≡ H u r o) → gridOf G ≡ gridOf H
-unfolding gridOf
-grid-same G H h =
-    table-ext userCells (λ i. maskOf 64 (λ r. G (cellRow i) r (cellOperation i))) (λ i. maskOf 64 (λ r. H (cellRow i) r (cellOperation i)))
-    (λ i l. mask-same 64 (λ r. G (cellRow i) r (cellOperation i)) (λ r. H (cellRow i) r (cellOperation i)) (λ r k. h (cellRow i) r (cellOperation i) (omega arith) k (omega arith)))
+  -- a table of empty sets has no triples
+  pub no-triples : (before after : List ℕ) → length before ≡ gridCells n → after ≡ tableOf (length before) (λ i. 0) → after ≡ gridOf n (λ u r o. false)
+  no-triples before after h e =
+      grid-unique after (λ u r o. false) (ap length e ∙ table-length (length before) (λ i. 0) ∙ h)
+      (λ i l. ap (λ (t : List ℕ). getD t i 0) e ∙ table-get (length before) (λ i. 0) i (omega (arith, l, h)) ∙ sym (mask-none 64 (λ r. false) (λ r k. refl)))
+
+  -- sets of triples that agree wherever a grid has room have one grid
+  pub grid-same : (G H : Block) → ((u r o : ℕ) → u < 64 → r < 64 → o < n → G u r o ≡ H u r o) → gridOf n G ≡ gridOf n H
+  unfolding gridOf
+  grid-same G H h =
+      table-ext (gridCells n) (λ i. maskOf 64 (λ r. G (gridUser i) r (gridOperation i))) (λ i. maskOf 64 (λ r. H (gridUser i) r (gridOperation i)))
+      (λ i l. mask-same 64 (λ r. G (gridUser i) r (gridOperation i)) (λ r. H (gridUser i) r (gridOperation i)) (λ r k. h (gridUser i) r (gridOperation i) (omega arith) k (omega arith)))
 
 -- ---- what the roles grant
 
@@ -72,7 +80,7 @@ module _ (F : Policy) (Z : Sized F) where
   granted-means u r o t = record-grants F Z u r o t
 
   pub roles-grid-means : (u r o : ℕ) → Triple (settingOf F) u r o
-      → inGrid (gridOf (grantedBy (recordOf F .holders) (recordOf F .permissions) (F .roles))) u r o ≡ rolesGrant (settingOf F) (rolesIn F) u r o
+      → inGrid (gridOf (F .operations) (grantedBy (recordOf F .holders) (recordOf F .permissions) (F .roles))) u r o ≡ rolesGrant (settingOf F) (rolesIn F) u r o
   unfolding settingOf sideOf
   roles-grid-means u r o t =
       let lu = t .user in
@@ -80,8 +88,7 @@ module _ (F : Policy) (Z : Sized F) where
       let lo = t .op in
       let mu = Z .many user in
       let mr = Z .many resource in
-      let mo = Z .operable in
-      in-grid (grantedBy (recordOf F .holders) (recordOf F .permissions) (F .roles)) u r o (omega arith) (omega arith) (omega arith) ∙ granted-means u r o t
+      in-grid (F .operations) (grantedBy (recordOf F .holders) (recordOf F .permissions) (F .roles)) u r o (omega arith) (omega arith) (omega arith) ∙ granted-means u r o t
 
 -- ---- the first that passes, in lists one after the other
 
@@ -186,8 +193,8 @@ user-skipped a b rs os n h q e = user-passed (inGrid a) (inGrid b) rs os n rs h 
     alike t m =
         let p = each-out (λ r. map (λ o. (n, r, o)) (upTo os)) (upTo rs) m in
         let k = map-out (λ o. (n, p .0, o)) (upTo os) (p .2) in
-        let w = eqb-true (getD a (cellAt n (k .0)) 0) (getD b (cellAt n (k .0)) 0) (all-out (λ o. eqb (getD a (cellAt n o) 0) (getD b (cellAt n o) 0)) words (k .1)) in
-        ap (differAt (inGrid a) (inGrid b)) (k .2) ∙ ap not (iff-in (bit (getD a (cellAt n (k .0)) 0) (p .0)) (bit (getD b (cellAt n (k .0)) 0) (p .0)) (ap (λ (m : ℕ). bit m (p .0)) w))
+        let w = eqb-true (getD a (gridAt n (k .0)) 0) (getD b (gridAt n (k .0)) 0) (all-out (λ o. eqb (getD a (gridAt n o) 0) (getD b (gridAt n o) 0)) words (k .1)) in
+        ap (differAt (inGrid a) (inGrid b)) (k .2) ∙ ap not (iff-in (bit (getD a (gridAt n (k .0)) 0) (p .0)) (bit (getD b (gridAt n (k .0)) 0) (p .0)) (ap (λ (m : ℕ). bit m (p .0)) w))
 
 -- what the code hands back
 module _ (a b : List ℕ) where
@@ -268,7 +275,7 @@ pub grids-same : (P : Setting) (G H : Block) (a b : List ℕ)
     → isSame (differenceOf (gridDifference a b (P .side user .count) (P .side resource .count) (P .slots))) ≡ sameBlock P G H
 grids-same P G H a b p q = ap (λ (d : Option (ℕ × ℕ × ℕ)). isSame (differenceOf d)) (difference-means P G H a b p q) ∙ same-means P G H
 
--- ---- all words of a user at once
+-- ---- many words at once
 
 -- `differences | (x ^ y)` has nothing in it just if nothing differs so far and x is y
 differences-on : (d x y : ℕ) → eqb (bitOr d (bitXor x y)) 0 ≡ (eqb d 0 && eqb x y)
@@ -290,22 +297,35 @@ differences-on d x y = same (eqb (bitOr d (bitXor x y)) 0) (eqb d 0 && eqb x y) 
         eq-eqb (bitOr d (bitXor x y)) 0 (ap₂ (λ (a b : ℕ). bitOr a (bitXor b y)) p q ∙ ap (bitOr 0) (xor-self y))
 
 -- a loop that joins the differences, `differences | (x ^ y)`: there are none just if the words so far are the same
-pub differences-none : (a b : List ℕ) (u : ℕ) → eqb 0 0 ≡ sameWords a b u 0
-unfolding sameWords
-differences-none a b u = refl
+module _ (f g : ℕ → ℕ) where
+  abbrev pub Alike : ℕ → ℕ → Type 0
+  Alike d n = eqb d 0 ≡ all (λ i. eqb (f i) (g i)) (upTo n)
 
-pub differences-more : (a b : List ℕ) (u d d′ n : ℕ) → eqb d 0 ≡ sameWords a b u n → d′ ≡ bitOr d (bitXor (getD a (cellAt u n) 0) (getD b (cellAt u n) 0)) → eqb d′ 0 ≡ sameWords a b u (n + 1)
-unfolding sameWords
-differences-more a b u d d′ n h e =
-    ap (λ (x : ℕ). eqb x 0) e ∙ differences-on d (getD a (cellAt u n) 0) (getD b (cellAt u n) 0) ∙ ap (λ (x : Bool). x && eqb (getD a (cellAt u n) 0) (getD b (cellAt u n) 0)) h
-    ∙ sym (all-more (λ o. eqb (getD a (cellAt u o) 0) (getD b (cellAt u o) 0)) n)
+  pub alike-none : Alike 0 0
+  alike-none = refl
 
-pub differences-end : (a b : List ℕ) (u d n m : ℕ) → eqb d 0 ≡ sameWords a b u n → n ≡ m → eqb d 0 ≡ sameWords a b u m
-differences-end a b u d n m h e = h ∙ ap (sameWords a b u) e
+  pub alike-more : (d d′ n : ℕ) → Alike d n → d′ ≡ bitOr d (bitXor (f n) (g n)) → Alike d′ (n + 1)
+  alike-more d d′ n h e =
+      ap (λ (x : ℕ). eqb x 0) e ∙ differences-on d (f n) (g n) ∙ ap (λ (x : Bool). x && eqb (f n) (g n)) h
+      ∙ sym (all-more (λ i. eqb (f i) (g i)) n)
 
--- where all words are the same, those of fewer operations are
-pub fewer-words : (a b : List ℕ) (u n m : ℕ) {s : Bool} → n ≤ m → s ≡ sameWords a b u m → s ≡ true → true ≡ sameWords a b u n
-unfolding sameWords
-fewer-words a b u n m l e h =
-    sym (all-in (λ o. eqb (getD a (cellAt u o) 0) (getD b (cellAt u o) 0)) (upTo n)
-    (λ o k. let lo = upTo-out n k in all-out (λ o. eqb (getD a (cellAt u o) 0) (getD b (cellAt u o) 0)) (sym e ∙ h) (upTo-in {n = m} {i = o} (omega arith))))
+  pub alike-end : (d n m : ℕ) → Alike d n → n ≡ m → eqb d 0 ≡ all (λ i. eqb (f i) (g i)) (upTo m)
+  alike-end d n m h e = h ∙ ap (λ (x : ℕ). all (λ i. eqb (f i) (g i)) (upTo x)) e
+
+-- tables with the same words differ at none of their triples
+pub all-skipped : (a b : List ℕ) (us rs os : ℕ) {s : Bool} → us ≤ 64 → s ≡ sameTables a b (gridCells os) → s ≡ true → Same ≡ differenceOf (gridDifference a b us rs os)
+unfolding sameTables gridDifference differenceOf tripleList differAt inGrid
+all-skipped a b us rs os few q e = sym (ap differenceOf (first-none (differAt (inGrid a) (inGrid b)) (tripleList us rs os) alike))
+  where
+    words : all (λ i. eqb (getD a i 0) (getD b i 0)) (upTo (gridCells os)) ≡ true
+    words = sym q ∙ e
+
+    alike : (t : ℕ × ℕ × ℕ) → t isIn tripleList us rs os → differAt (inGrid a) (inGrid b) t ≡ false
+    alike t m =
+        let p = each-out (λ u. each (λ r. map (λ o. (u, r, o)) (upTo os)) (upTo rs)) (upTo us) m in
+        let k = each-out (λ r. map (λ o. (p .0, r, o)) (upTo os)) (upTo rs) (p .2) in
+        let j = map-out (λ o. (p .0, k .0, o)) (upTo os) (k .2) in
+        let lu = upTo-out us (p .1) in
+        let lo = upTo-out os (j .1) in
+        let w = eqb-true (getD a (gridAt (p .0) (j .0)) 0) (getD b (gridAt (p .0) (j .0)) 0) (all-out (λ i. eqb (getD a i 0) (getD b i 0)) words (upTo-in {n = gridCells os} {i = gridAt (p .0) (j .0)} (omega arith))) in
+        ap (differAt (inGrid a) (inGrid b)) (j .2) ∙ ap not (iff-in (bit (getD a (gridAt (p .0) (j .0)) 0) (k .0)) (bit (getD b (gridAt (p .0) (j .0)) 0) (k .0)) (ap (λ (m : ℕ). bit m (k .0)) w))

@@ -1,25 +1,26 @@
 -- The laws of tables that loops change word by word.
 -- Assumes nothing.
-use Prim.Native.Nat.{ℕ, _+_, _≤_, _<_}
-use borrow.Author.Tests.{eqb-true, eqb-false, ltb-true, ltb-false, lt-ltb, le-ltb, not-true}
+use Prim.Native.Nat.{ℕ, _+_, _^_, _≤_, _<_}
+use borrow.Author.Tests.{eqb-true, eqb-false, eq-eqb, ne-eqb, ltb-true, ltb-false, lt-ltb, le-ltb, not-true}
 use lib.Dec.{eqb, ltb}
 use lib.ListN.{length, getD, set}
 use mathlib.Core.Bool.{Bool, true, false, cond, _&&_, _||_, not, false≢true, and-false, and-true, or-false}
 use mathlib.Core.List.{List}
 use mathlib.Core.Path.{_≡_, refl, sym, ap, _∙_}
 use native.Mathlib.Omega.{arith}
-use Rattle.role_record.specs.Cells.{rowCells, rowStart, cellAt, cellRow, cellOperation, userCells}
-use Rattle.role_record.specs.CellsLaws.{cell-operation}
+use Rattle.role_record.specs.Cells.{permissionAt, gridAt, gridUser, gridOperation, gridCells}
+use Rattle.role_record.specs.CellsLaws.{grid-parts}
 use Rattle.role_record.specs.Record.{tableOf}
 use Rattle.role_record.specs.RecordLaws.{table-get, table-length, table-ext, table-set}
 use Rattle.sets.specs.LoopLaws.{any-more, table-unique}
 use Rattle.sets.specs.MaskLaws.{mask-same}
-use Rattle.sets.specs.Sets.{bit, maskOf}
-use Rattle.sets.specs.SetLaws.{bit-mask}
-use Rattle.sets.specs.Tests.{any, upTo}
+use Rattle.sets.specs.MemberLaws.{bit-less}
+use Rattle.sets.specs.Sets.{bit, maskOf, lessOne}
+use Rattle.sets.specs.SetLaws.{bit-none, bit-mask}
+use Rattle.sets.specs.Tests.{Is, any, upTo}
 use Rattle.sets.specs.TestLaws.{and-in, and-l, and-r, test, fails, same, not-in, below-next}
 use Rattle.grant_grids.specs.Grid.{gridOf, grantedBy}
-use Rattle.grant_grids.specs.Updates.{updated, span, permittedTo, joinedRow, joinedRole}
+use Rattle.grant_grids.specs.Updates.{updated, span, joinedWord, permittedTo, addedColumn, addedPart}
 
 -- ---- any test
 
@@ -68,6 +69,13 @@ module _ (n : ℕ) (w : ℕ → ℕ → ℕ) where
       table-ext n (λ i. cond (f i) (w i (getD (updated n g w t) i 0)) (getD (updated n g w t) i 0)) (λ i. cond (h i) (w i (getD t i 0)) (getD t i 0))
       (λ i l. ap (λ (x : ℕ). cond (f i) (w i x) x) (updated-get g t i l) ∙ once (g i) (f i) (w i) (getD t i 0) (apart i l) ∙ ap (λ (b : Bool). cond b (w i (getD t i 0)) (getD t i 0)) (either i l))
 
+-- a test of the numbers below a bound: none, and all
+pub below-zero : (b : Bool) (x : ℕ) → (b && ltb x 0) ≡ false
+below-zero b x = ap (λ (c : Bool). b && c) (le-ltb x 0 (omega arith)) ∙ and-false b
+
+pub below-all : (b : Bool) (x n : ℕ) → x < n → (b && ltb x n) ≡ b
+below-all b x n l = ap (λ (c : Bool). b && c) (lt-ltb x n l) ∙ and-true b
+
 -- ---- a loop over the words from s on
 
 pub span-in : (s n i : ℕ) → s ≤ i → i < s + n → span s n i ≡ true
@@ -106,87 +114,156 @@ module _ (n : ℕ) (w : ℕ → ℕ → ℕ) (t : List ℕ) (s : ℕ) where
   pub span-long : (m : ℕ) (out : List ℕ) → out ≡ updated n (span s m) w t → length out ≡ n
   span-long m out e = ap length e ∙ updated-long n w (span s m) t
 
--- ---- the grid of what the roles grant, role by role
+-- ---- words joined to what a role is permitted
 
 -- the word of a user and an operation
-pub word-permitted : (permissions : List ℕ) (role user o old new : ℕ) → o < rowCells → new ≡ maskOf 64 (λ r. bit old r || bit (getD permissions (cellAt role o) 0) r) → new ≡ permittedTo permissions role (cellAt user o) old
-unfolding permittedTo
-word-permitted permissions role user o old new l e = e ∙ ap (λ (x : ℕ). maskOf 64 (λ r. bit old r || bit (getD permissions (cellAt role x) 0) r)) (sym (cell-operation user o l))
+pub word-permitted : (permissions : List ℕ) (role user o old new : ℕ) → user < 64 → new ≡ maskOf 64 (λ r. bit old r || bit (getD permissions (permissionAt role o) 0) r) → new ≡ permittedTo permissions role (gridAt user o) old
+unfolding permittedTo joinedWord
+word-permitted permissions role user o old new l e = e ∙ sym (grid-parts (λ x y. maskOf 64 (λ r. bit old r || bit (getD permissions (permissionAt role y) 0) r)) user o l)
 
-module _ (holding : ℕ) (permissions : List ℕ) (role : ℕ) (grid : List ℕ) where
-  -- a role so far: for the users below n
-  unfoldable pub roleSoFar : ℕ → List ℕ
-  roleSoFar n = updated userCells (λ i. bit holding (cellRow i) && ltb (cellRow i) n) (permittedTo permissions role) grid
+module _ (n : ℕ) (permissions : List ℕ) (role holding : ℕ) (grid : List ℕ) where
+  -- one operation's words so far: for the holders but those that are left
+  abbrev passed : ℕ → ℕ → ℕ → Bool
+  passed o rest i = eqb (gridOperation i) o && (bit holding (gridUser i) && not (bit rest (gridUser i)))
 
-  -- before the first user
-  pub role-none : length grid ≡ userCells → grid ≡ roleSoFar 0
-  unfolding roleSoFar
-  role-none e = updated-none userCells (permittedTo permissions role) (λ i. bit holding (cellRow i) && ltb (cellRow i) 0) grid e (λ i l. ap (λ (b : Bool). bit holding (cellRow i) && b) (le-ltb (cellRow i) 0 (omega arith)) ∙ and-false (bit holding (cellRow i)))
+  unfoldable pub columnSoFar : ℕ → ℕ → List ℕ
+  columnSoFar o rest = updated (gridCells n) (passed o rest) (permittedTo permissions role) grid
 
-  -- a user who holds the role
-  pub role-in : (n : ℕ) (out after : List ℕ) → out ≡ roleSoFar n → bit holding n ≡ true → after ≡ joinedRow permissions role n out → after ≡ roleSoFar (n + 1)
-  unfolding roleSoFar joinedRow
-  role-in n out after e h q =
-      q ∙ ap (updated userCells (span (rowStart n) rowCells) (permittedTo permissions role)) e
-      ∙ updated-twice userCells (permittedTo permissions role) (span (rowStart n) rowCells) (λ i. bit holding (cellRow i) && ltb (cellRow i) n) (λ i. bit holding (cellRow i) && ltb (cellRow i) (n + 1)) grid
-      (λ i l t. let k = ltb-true (cellRow i) n (and-r (bit holding (cellRow i)) (ltb (cellRow i) n) t) in fails (span (rowStart n) rowCells i) (λ g. let a = span-out (rowStart n) rowCells i g in absurd (omega arith)))
-      either
+  -- those left are holders
+  abbrev pub Left : ℕ → Type 0
+  Left rest = (k : ℕ) → Is (bit rest k) → Is (bit holding k)
+
+  pub column-none : (o : ℕ) → length grid ≡ gridCells n → grid ≡ columnSoFar o holding
+  unfolding columnSoFar
+  column-none o e = updated-none (gridCells n) (permittedTo permissions role) (passed o holding) grid e (λ i l. ap (λ (b : Bool). eqb (gridOperation i) o && b) (excluded (bit holding (gridUser i))) ∙ and-false (eqb (gridOperation i) o))
     where
-      either : (i : ℕ) → i < userCells → ((bit holding (cellRow i) && ltb (cellRow i) n) || span (rowStart n) rowCells i) ≡ (bit holding (cellRow i) && ltb (cellRow i) (n + 1))
+      excluded : (b : Bool) → (b && not b) ≡ false
+      excluded true = refl
+      excluded false = refl
+
+  -- one of them
+  pub column-next : (o rest y v : ℕ) (out : List ℕ) → o < n → y < 64 → rest < 2 ^ 64 → Left rest → Is (bit rest y) → out ≡ columnSoFar o rest
+      → v ≡ maskOf 64 (λ r. bit (getD out (gridAt y o) 0) r || bit (getD permissions (permissionAt role o) 0) r) → set out (gridAt y o) v ≡ columnSoFar o (lessOne rest y)
+  unfolding columnSoFar
+  column-next o rest y v out lo ly lt left b e q =
+      ap (λ (t : List ℕ). set t (gridAt y o) v) e
+      ∙ updated-next (gridCells n) (permittedTo permissions role) (passed o rest) (passed o (lessOne rest y)) grid (gridAt y o) v (omega arith)
+      (grid-parts (λ u p. eqb p o && (bit holding u && not (bit rest u))) y o ly ∙ ap (λ (c : Bool). eqb o o && (bit holding y && not c)) b ∙ ap (λ (c : Bool). eqb o o && c) (and-false (bit holding y)) ∙ and-false (eqb o o))
+      (grid-parts (λ u p. eqb p o && (bit holding u && not (bit (lessOne rest y) u))) y o ly ∙ and-in (eq-eqb o o refl) (and-in (left y b) (not-in (bit (lessOne rest y) y) (bit-less rest lt y y ∙ ap (λ (c : Bool). bit rest y && not c) (eq-eqb y y refl) ∙ and-false (bit rest y)))))
+      other
+      (word-permitted permissions role y o _ v ly q ∙ ap (λ (t : List ℕ). permittedTo permissions role (gridAt y o) (getD t (gridAt y o) 0)) e)
+    where
+      other : (j : ℕ) → j < gridCells n → (j ≡ gridAt y o → ⊥) → passed o rest j ≡ passed o (lessOne rest y) j
+      other j l d = test (eqb (gridOperation j) o)
+          (λ t. let k = eqb-true (gridOperation j) o t in
+          ap (λ (c : Bool). eqb (gridOperation j) o && (bit holding (gridUser j) && not c))
+          (sym (bit-less rest lt y (gridUser j) ∙ ap (λ (c : Bool). bit rest (gridUser j) && not c) (ne-eqb (gridUser j) y (λ z. d (omega (arith, k, z)))) ∙ and-true (bit rest (gridUser j)))))
+          (λ t. rw t refl)
+
+  -- those left are fewer
+  pub left-fewer : (rest y : ℕ) → rest < 2 ^ 64 → Left rest → Left (lessOne rest y)
+  left-fewer rest y lt left k b = left k (and-l (bit rest k) (not (eqb k y)) (sym (bit-less rest lt y k) ∙ b))
+
+  -- none is left
+  pub column-end : (o rest : ℕ) (out : List ℕ) → out ≡ columnSoFar o rest → rest ≡ 0 → out ≡ addedColumn n o permissions role holding grid
+  unfolding columnSoFar addedColumn
+  column-end o rest out e z =
+      e ∙ updated-same (gridCells n) (permittedTo permissions role) (passed o rest) (λ i. eqb (gridOperation i) o && bit holding (gridUser i)) grid
+      (λ i l. ap (λ (c : Bool). eqb (gridOperation i) o && (bit holding (gridUser i) && not c)) (ap (λ (m : ℕ). bit m (gridUser i)) z ∙ bit-none (gridUser i)) ∙ ap (λ (c : Bool). eqb (gridOperation i) o && c) (and-true (bit holding (gridUser i))))
+
+  pub column-so-long : (o rest : ℕ) (out : List ℕ) → out ≡ columnSoFar o rest → length out ≡ gridCells n
+  unfolding columnSoFar
+  column-so-long o rest out e = ap length e ∙ updated-long (gridCells n) (permittedTo permissions role) (passed o rest) grid
+
+  -- a part so far: at the operations below m
+  abbrev reached : ℕ → ℕ → ℕ → Bool
+  reached class m i = (bit class (gridOperation i) && bit holding (gridUser i)) && ltb (gridOperation i) m
+
+  unfoldable pub partSoFar : ℕ → ℕ → List ℕ
+  partSoFar class m = updated (gridCells n) (reached class m) (permittedTo permissions role) grid
+
+  pub part-none : (class : ℕ) → length grid ≡ gridCells n → grid ≡ partSoFar class 0
+  unfolding partSoFar
+  part-none class e = updated-none (gridCells n) (permittedTo permissions role) (reached class 0) grid e (λ i l. below-zero (bit class (gridOperation i) && bit holding (gridUser i)) (gridOperation i))
+
+  -- an operation of the class
+  pub part-in : (class m : ℕ) (out after : List ℕ) → out ≡ partSoFar class m → bit class m ≡ true → after ≡ addedColumn n m permissions role holding out → after ≡ partSoFar class (m + 1)
+  unfolding partSoFar addedColumn
+  part-in class m out after e h q =
+      q ∙ ap (updated (gridCells n) (λ i. eqb (gridOperation i) m && bit holding (gridUser i)) (permittedTo permissions role)) e
+      ∙ updated-twice (gridCells n) (permittedTo permissions role) (λ i. eqb (gridOperation i) m && bit holding (gridUser i)) (reached class m) (reached class (m + 1)) grid apart either
+    where
+      apart : (i : ℕ) → i < gridCells n → reached class m i ≡ true → (eqb (gridOperation i) m && bit holding (gridUser i)) ≡ false
+      apart i l t =
+          let k = ltb-true (gridOperation i) m (and-r (bit class (gridOperation i) && bit holding (gridUser i)) (ltb (gridOperation i) m) t) in
+          ap (λ (c : Bool). c && bit holding (gridUser i)) (ne-eqb (gridOperation i) m (λ z. omega (arith, k, z)))
+
+      here : (b c : Bool) → b ≡ true → (((b && c) && false) || (true && c)) ≡ ((b && c) && true)
+      here b c p = rw p (at c)
+        where
+          at : (c : Bool) → (((true && c) && false) || (true && c)) ≡ ((true && c) && true)
+          at true = refl
+          at false = refl
+
+      either : (i : ℕ) → i < gridCells n → (reached class m i || (eqb (gridOperation i) m && bit holding (gridUser i))) ≡ reached class (m + 1) i
       either i l =
-          test (eqb (cellRow i) n)
-          (λ t. let k = eqb-true (cellRow i) n t in
-          ap (λ (b : Bool). (bit holding (cellRow i) && b) || span (rowStart n) rowCells i) (le-ltb (cellRow i) n (omega arith)) ∙ ap (λ (b : Bool). b || span (rowStart n) rowCells i) (and-false (bit holding (cellRow i)))
-          ∙ span-in (rowStart n) rowCells i (omega arith) (omega arith) ∙ sym (and-in (ap (bit holding) k ∙ h) (lt-ltb (cellRow i) (n + 1) (omega arith))))
-          (λ t. let d = eqb-false (cellRow i) n t in
-          ap (λ (b : Bool). (bit holding (cellRow i) && ltb (cellRow i) n) || b) (fails (span (rowStart n) rowCells i) (λ g. let a = span-out (rowStart n) rowCells i g in d (omega arith)))
-          ∙ or-false (bit holding (cellRow i) && ltb (cellRow i) n) ∙ ap (λ (b : Bool). bit holding (cellRow i) && b) (below-next (cellRow i) n d))
+          test (eqb (gridOperation i) m)
+          (λ t. let k = eqb-true (gridOperation i) m t in
+          rw (t, le-ltb (gridOperation i) m (omega arith), lt-ltb (gridOperation i) (m + 1) (omega arith)) (here (bit class (gridOperation i)) (bit holding (gridUser i)) (ap (bit class) k ∙ h)))
+          (λ t. rw t (or-false ((bit class (gridOperation i) && bit holding (gridUser i)) && ltb (gridOperation i) m) ∙ ap (λ (c : Bool). (bit class (gridOperation i) && bit holding (gridUser i)) && c) (below-next (gridOperation i) m (eqb-false (gridOperation i) m t))))
 
-  -- a user who does not
-  pub role-out : (n : ℕ) (out after : List ℕ) → out ≡ roleSoFar n → bit holding n ≡ false → after ≡ out → after ≡ roleSoFar (n + 1)
-  unfolding roleSoFar
-  role-out n out after e h q = q ∙ e ∙ updated-same userCells (permittedTo permissions role) (λ i. bit holding (cellRow i) && ltb (cellRow i) n) (λ i. bit holding (cellRow i) && ltb (cellRow i) (n + 1)) grid at
+  -- an operation outside it
+  pub part-out : (class m : ℕ) (out after : List ℕ) → out ≡ partSoFar class m → bit class m ≡ false → after ≡ out → after ≡ partSoFar class (m + 1)
+  unfolding partSoFar
+  part-out class m out after e h q = q ∙ e ∙ updated-same (gridCells n) (permittedTo permissions role) (reached class m) (reached class (m + 1)) grid at
     where
-      at : (i : ℕ) → i < userCells → (bit holding (cellRow i) && ltb (cellRow i) n) ≡ (bit holding (cellRow i) && ltb (cellRow i) (n + 1))
-      at i l =
-          test (eqb (cellRow i) n)
-          (λ t. let none : bit holding (cellRow i) ≡ false = ap (bit holding) (eqb-true (cellRow i) n t) ∙ h in ap (λ (b : Bool). b && ltb (cellRow i) n) none ∙ sym (ap (λ (b : Bool). b && ltb (cellRow i) (n + 1)) none))
-          (λ t. ap (λ (b : Bool). bit holding (cellRow i) && b) (below-next (cellRow i) n (eqb-false (cellRow i) n t)))
+      at : (j : ℕ) → j < gridCells n → reached class m j ≡ reached class (m + 1) j
+      at j l =
+          test (eqb (gridOperation j) m)
+          (λ t. let none : (bit class (gridOperation j) && bit holding (gridUser j)) ≡ false = ap (λ (c : Bool). c && bit holding (gridUser j)) (ap (bit class) (eqb-true (gridOperation j) m t) ∙ h) in rw none refl)
+          (λ t. ap (λ (c : Bool). (bit class (gridOperation j) && bit holding (gridUser j)) && c) (below-next (gridOperation j) m (eqb-false (gridOperation j) m t)))
 
-  -- all users are passed
-  pub role-end : (n : ℕ) (out : List ℕ) → out ≡ roleSoFar n → n ≡ 64 → out ≡ joinedRole holding permissions role grid
-  unfolding roleSoFar joinedRole
-  role-end n out e q =
-      e ∙ updated-same userCells (permittedTo permissions role) (λ i. bit holding (cellRow i) && ltb (cellRow i) n) (λ i. bit holding (cellRow i)) grid
-      (λ i l. ap (λ (b : Bool). bit holding (cellRow i) && b) (lt-ltb (cellRow i) n (omega arith)) ∙ and-true (bit holding (cellRow i)))
+  pub part-end : (class m : ℕ) (out : List ℕ) → out ≡ partSoFar class m → m ≡ n → out ≡ addedPart n holding permissions role class grid
+  unfolding partSoFar addedPart
+  part-end class m out e q =
+      e ∙ updated-same (gridCells n) (permittedTo permissions role) (reached class m) (λ i. bit class (gridOperation i) && bit holding (gridUser i)) grid
+      (λ i l. below-all (bit class (gridOperation i) && bit holding (gridUser i)) (gridOperation i) m (omega (arith, l, q)))
 
-  -- the length stays
-  pub role-so-long : (n : ℕ) (out : List ℕ) → out ≡ roleSoFar n → length out ≡ userCells
-  unfolding roleSoFar
-  role-so-long n out e = ap length e ∙ updated-long userCells (permittedTo permissions role) (λ i. bit holding (cellRow i) && ltb (cellRow i) n) grid
+  pub part-so-long : (class m : ℕ) (out : List ℕ) → out ≡ partSoFar class m → length out ≡ gridCells n
+  unfolding partSoFar
+  part-so-long class m out e = ap length e ∙ updated-long (gridCells n) (permittedTo permissions role) (reached class m) grid
 
-module _ (holders permissions : List ℕ) where
+-- ---- the grid of what the roles grant, role by role
+
+module _ (n : ℕ) (holders permissions : List ℕ) where
   -- no role grants anything
-  pub roles-none : (out : List ℕ) → out ≡ gridOf (λ u r o. false) → out ≡ gridOf (grantedBy holders permissions 0)
+  pub roles-none : (out : List ℕ) → out ≡ gridOf n (λ u r o. false) → out ≡ gridOf n (grantedBy holders permissions 0)
   unfolding gridOf grantedBy
   roles-none out e = e
 
-  -- one role more
-  pub roles-next : (k : ℕ) (out after : List ℕ) → out ≡ gridOf (grantedBy holders permissions k) → after ≡ joinedRole (getD holders k 0) permissions k out → after ≡ gridOf (grantedBy holders permissions (k + 1))
-  unfolding gridOf grantedBy joinedRole updated permittedTo
-  roles-next k out after e q =
-      q ∙ table-ext userCells (λ i. cond (bit (getD holders k 0) (cellRow i)) (maskOf 64 (λ r. bit (getD out i 0) r || bit (getD permissions (cellAt k (cellOperation i)) 0) r)) (getD out i 0))
-      (λ i. maskOf 64 (λ r. any (λ j. bit (getD holders j 0) (cellRow i) && bit (getD permissions (cellAt j (cellOperation i)) 0) r) (upTo (k + 1))))
-      (λ i l. one-role (bit (getD holders k 0) (cellRow i)) (getD out i 0) (getD permissions (cellAt k (cellOperation i)) 0) (λ r. any (λ j. bit (getD holders j 0) (cellRow i) && bit (getD permissions (cellAt j (cellOperation i)) 0) r) (upTo k))
-      (ap (λ (x : List ℕ). getD x i 0) e ∙ table-get userCells (λ i. maskOf 64 (λ r. any (λ j. bit (getD holders j 0) (cellRow i) && bit (getD permissions (cellAt j (cellOperation i)) 0) r) (upTo k))) i l)
-      ∙ mask-same 64 (λ r. any (λ j. bit (getD holders j 0) (cellRow i) && bit (getD permissions (cellAt j (cellOperation i)) 0) r) (upTo k) || (bit (getD holders k 0) (cellRow i) && bit (getD permissions (cellAt k (cellOperation i)) 0) r))
-      (λ r. any (λ j. bit (getD holders j 0) (cellRow i) && bit (getD permissions (cellAt j (cellOperation i)) 0) r) (upTo (k + 1)))
-      (λ r lr. sym (any-more (λ j. bit (getD holders j 0) (cellRow i) && bit (getD permissions (cellAt j (cellOperation i)) 0) r) k)))
+  -- what the roles below k grant
+  abbrev below : ℕ → ℕ → ℕ → Bool
+  below k i r = any (λ j. bit (getD holders j 0) (gridUser i) && bit (getD permissions (permissionAt j (gridOperation i)) 0) r) (upTo k)
+
+  -- one role more, at all operations
+  pub roles-next : (k class : ℕ) (out after : List ℕ) → n ≤ 64 → out ≡ gridOf n (grantedBy holders permissions k) → class ≡ maskOf 64 (λ o. ltb o n) → after ≡ addedPart n (getD holders k 0) permissions k class out → after ≡ gridOf n (grantedBy holders permissions (k + 1))
+  unfolding gridOf grantedBy addedPart updated permittedTo joinedWord
+  roles-next k class out after h e c q =
+      q ∙ table-ext (gridCells n) (λ i. cond (bit class (gridOperation i) && bit (getD holders k 0) (gridUser i)) (maskOf 64 (λ r. bit (getD out i 0) r || bit (getD permissions (permissionAt k (gridOperation i)) 0) r)) (getD out i 0))
+      (λ i. maskOf 64 (below (k + 1) i))
+      (λ i l. ap (λ (b : Bool). cond (b && bit (getD holders k 0) (gridUser i)) (maskOf 64 (λ r. bit (getD out i 0) r || bit (getD permissions (permissionAt k (gridOperation i)) 0) r)) (getD out i 0)) (in-class (gridOperation i) (omega arith))
+      ∙ one-role (bit (getD holders k 0) (gridUser i)) (getD out i 0) (getD permissions (permissionAt k (gridOperation i)) 0) (below k i)
+      (ap (λ (x : List ℕ). getD x i 0) e ∙ table-get (gridCells n) (λ i. maskOf 64 (below k i)) i l)
+      ∙ mask-same 64 (λ r. below k i r || (bit (getD holders k 0) (gridUser i) && bit (getD permissions (permissionAt k (gridOperation i)) 0) r)) (below (k + 1) i)
+      (λ r lr. sym (any-more (λ j. bit (getD holders j 0) (gridUser i) && bit (getD permissions (permissionAt j (gridOperation i)) 0) r) k)))
     where
+      in-class : (o : ℕ) → o < n → bit class o ≡ true
+      in-class o l = ap (λ (m : ℕ). bit m o) c ∙ bit-mask 64 (λ o. ltb o n) o (omega arith) ∙ lt-ltb o n l
+
       one-role : (b : Bool) (x y : ℕ) (f : ℕ → Bool) → x ≡ maskOf 64 f → cond b (maskOf 64 (λ r. bit x r || bit y r)) x ≡ maskOf 64 (λ r. f r || (b && bit y r))
       one-role true x y f h = mask-same 64 (λ r. bit x r || bit y r) (λ r. f r || bit y r) (λ r l. ap (λ (b : Bool). b || bit y r) (ap (λ (m : ℕ). bit m r) h ∙ bit-mask 64 f r l))
       one-role false x y f h = h ∙ mask-same 64 f (λ r. f r || false) (λ r l. sym (or-false (f r)))
 
   -- all roles are passed
-  pub roles-end : (k n : ℕ) (out : List ℕ) → out ≡ gridOf (grantedBy holders permissions k) → k ≡ n → out ≡ gridOf (grantedBy holders permissions n)
-  roles-end k n out e q = e ∙ ap (λ (x : ℕ). gridOf (grantedBy holders permissions x)) q
+  pub roles-end : (k m : ℕ) (out : List ℕ) → out ≡ gridOf n (grantedBy holders permissions k) → k ≡ m → out ≡ gridOf n (grantedBy holders permissions m)
+  roles-end k m out e q = e ∙ ap (λ (x : ℕ). gridOf n (grantedBy holders permissions x)) q

@@ -1,14 +1,13 @@
-// Grids: which resources a user may act upon, by operation.
+// Grids: which resources a user may act upon, by operation. A grid is made for a number of operations, and has a word of each user for
+// each of them.
 ghost use lib.ListN.{length};
-ghost use mathlib.Core.Bool.{false};
 ghost use mathlib.Core.Path.{_≡_};
 ghost use Prim.Native.Nat.{_≤_, _<_};
 ghost use Rattle.grant_grids.specs.Grid.{gridOf, inGrid, grantedBy};
-ghost use Rattle.grant_grids.specs.Updates.{joinedRow, joinedRole};
-ghost use Rattle.role_record.specs.Cells.{rowCells, userCells};
+ghost use Rattle.grant_grids.specs.Updates.{addedColumn, addedPart};
+ghost use Rattle.role_record.specs.Cells.{mostOperations, gridAt, gridCells};
 use role_record::ByRole;
 use role_record::ByRoleOperation;
-use role_record::Grid;
 use role_record::RoleFile;
 
 pub enum Difference {
@@ -18,71 +17,77 @@ pub enum Difference {
 }
 
 // Whether a grid has a triple.
-pub fn has(grid: &Grid, user: usize, resource: usize, operation: usize) -> bool
-    requires { ⌜ (user < 64) × (operation < rowCells) ⌝ }
+pub fn has(grid: &[u64], user: usize, resource: usize, operation: usize) -> bool
+    requires { ⌜ gridAt user operation < length (now grid) ⌝ }
     ensures { λ r. ⌜ r ≡ inGrid (now (grid .entry)) user resource operation ⌝ }
 {
-    sets::has(grid[RoleFile::OPERATIONS * user + operation], resource)
+    sets::has(grid[RoleFile::USERS * operation + user], resource)
 }
 
-// The grid of no triples, whatever the slice held.
-pub fn fill_none(grid: &mut [u64])
-    requires { ⌜ length (now grid) ≡ userCells ⌝ }
-    ensures { λ _. ⌜ now (grid .exit) ≡ gridOf (λ u r o. false) ⌝ }
+// Joins, at one operation, the resources that a role is permitted to the word of each user who holds it.
+fn add_column(
+    holding: u64,
+    permissions: &ByRoleOperation,
+    role: usize,
+    operation: usize,
+    operations: usize,
+    grid: &mut [u64],
+)
+    requires { ⌜
+        (role < 32)
+        × (operation < operations)
+        × (operations ≤ mostOperations)
+        × (length (now grid) ≡ gridCells operations) ⌝ }
+    ensures { λ _. ⌜
+        now (grid .exit)
+        ≡ addedColumn operations operation (now (permissions .entry)) role holding (now (grid .entry)) ⌝ }
 {
-    role_record::clear(grid);
-}
-
-// Joins what a role is permitted to a user's words.
-fn join_row(permissions: &ByRoleOperation, role: usize, user: usize, grid: &mut [u64])
-    requires { ⌜ (role < 32) × (user < 64) × (length (now grid) ≡ userCells) ⌝ }
-    ensures { λ _. ⌜ now (grid .exit) ≡ joinedRow (now (permissions .entry)) role user (now (grid .entry)) ⌝ }
-{
-    for o in 0..RoleFile::OPERATIONS {
-        grid[RoleFile::OPERATIONS * user + o] = sets::union(
-            grid[RoleFile::OPERATIONS * user + o],
-            permissions[RoleFile::OPERATIONS * role + o],
-        );
+    let resources = permissions[RoleFile::ROLES * operation + role];
+    let mut rest = holding;
+    while 0 < rest {
+        let at = RoleFile::USERS * operation + sets::least(rest);
+        grid[at] = sets::union(grid[at], resources);
+        rest = sets::without_least(rest);
     }
 }
 
-// Joins what a role is permitted to the words of each user who holds it.
-fn join_role(holding: u64, permissions: &ByRoleOperation, role: usize, grid: &mut [u64])
-    requires { ⌜ (role < 32) × (length (now grid) ≡ userCells) ⌝ }
-    ensures { λ _. ⌜ now (grid .exit) ≡ joinedRole holding (now (permissions .entry)) role (now (grid .entry)) ⌝ }
+// Joins a part's block to a grid: for each holder of the role and each operation of the class, the resources of that operation.
+pub fn add_part(
+    holding: u64,
+    permissions: &ByRoleOperation,
+    role: usize,
+    class: u64,
+    operations: usize,
+    grid: &mut [u64],
+)
+    requires { ⌜ (role < 32) × (operations ≤ mostOperations) × (length (now grid) ≡ gridCells operations) ⌝ }
+    ensures { λ _. ⌜
+        now (grid .exit) ≡ addedPart operations holding (now (permissions .entry)) role class (now (grid .entry)) ⌝ }
 {
-    for u in 0..RoleFile::MEMBERS {
-        if sets::has(holding, u) {
-            join_row(permissions, role, u, grid);
+    for o in 0..operations {
+        // Most classes have few operations, and the words of the others stay as they are.
+        if sets::has(class, o) {
+            add_column(holding, permissions, role, o, operations, grid);
         }
     }
 }
 
-// Role by role, since most users hold few roles.
-fn fill_grid<'a>(
-    holders: &'a ByRole,
-    permissions: &'a ByRoleOperation,
-    roles: usize,
-    out: &mut [u64],
-)
-    requires { ⌜ (roles ≤ 32) × (length (now out) ≡ userCells) ⌝ }
-    ensures { λ _. ⌜ now (out .exit) ≡ gridOf (grantedBy (now (holders .entry)) (now (permissions .entry)) roles) ⌝ }
-{
-    fill_none(out);
-    for k in 0..roles {
-        join_role(holders[k], permissions, k, out);
-    }
-}
-
-// The grid of what the roles grant, whatever the table held.
+// The grid of what the roles grant, whatever the table held. Role by role, since most users hold few roles.
 pub fn roles_grid<'a>(
     holders: &'a ByRole,
     permissions: &'a ByRoleOperation,
     roles: usize,
-    out: &mut Grid,
+    operations: usize,
+    out: &mut [u64],
 )
-    requires { ⌜ roles ≤ 32 ⌝ }
-    ensures { λ _. ⌜ now (out .exit) ≡ gridOf (grantedBy (now (holders .entry)) (now (permissions .entry)) roles) ⌝ }
+    requires { ⌜ (roles ≤ 32) × (operations ≤ mostOperations) × (length (now out) ≡ gridCells operations) ⌝ }
+    ensures { λ _. ⌜
+        now (out .exit)
+        ≡ gridOf operations (grantedBy (now (holders .entry)) (now (permissions .entry)) roles) ⌝ }
 {
-    fill_grid(holders, permissions, roles, out);
+    role_record::clear(out);
+    let all = sets::below(operations);
+    for k in 0..roles {
+        add_part(holders[k], permissions, k, all, operations, out);
+    }
 }

@@ -10,7 +10,7 @@ use mathlib.Core.Path.{_≡_, refl, sym, ap, ap₂, _∙_}
 use native.Mathlib.Omega.{arith}
 use Rattle.role_admit.specs.RoleTableLaws.{permittedOn, row-shown, holders-shown, holder-within, rows-alike}
 use Rattle.grant_parts.specs.Parts.{sameRow, classRow, isFirst, isPartIn}
-use Rattle.role_record.specs.Cells.{rowCells, cellAt}
+use Rattle.role_record.specs.Cells.{mostOperations, permissionAt}
 use Rattle.role_record.specs.Record.{Sized, permissionTable, recordWith, recordOf}
 use Rattle.policy.specs.ClassLaws.{part-facts}
 use Rattle.policy.specs.Policy.{Policy, held, sideOf, settingOf, rolesIn}
@@ -26,7 +26,7 @@ use Rattle.sets.specs.TestLaws.{never, test, fails, any-in, any-out, any-ext, u
 -- ---- tests of one operation, one by one
 
 -- the verdict, by the outcome of each test
-pub part-by-tests : (holders permissions : List ℕ) (ops k o : ℕ) (b1 b2 b3 : Bool) → ltb o ops ≡ b1 → eqb (getD holders k 0) 0 ≡ b2 → eqb (getD permissions (cellAt k o) 0) 0 ≡ b3
+pub part-by-tests : (holders permissions : List ℕ) (ops k o : ℕ) (b1 b2 b3 : Bool) → ltb o ops ≡ b1 → eqb (getD holders k 0) 0 ≡ b2 → eqb (getD permissions (permissionAt k o) 0) 0 ≡ b3
     → isPartIn holders permissions ops k o ≡ cond b1 (cond b2 false (cond b3 false (isFirst permissions k o))) false
 unfolding isPartIn
 part-by-tests holders permissions ops k o b1 b2 b3 p q r = rw (p, q, r) refl
@@ -52,11 +52,11 @@ module _ (F : Policy) (Z : Sized F) where
   unfolding rolesIn
   part-role {p} i = let n = Z .few in let l : p .role < F .roles = part-facts (settingOf F) (rolesIn F) i .in-roles in omega arith
 
-  pub part-lead : {p : Part} → p isIn parts (settingOf F) (rolesIn F) → p .lead < rowCells
+  pub part-lead : {p : Part} → p isIn parts (settingOf F) (rolesIn F) → p .lead < mostOperations
   unfolding settingOf
   part-lead {p} i = let n = Z .operable in let l : p .lead < F .operations = part-facts (settingOf F) (rolesIn F) i .in-slots in omega arith
 
-  module _ (k o : ℕ) (hk : k < 32) (ho : o < rowCells) where
+  module _ (k o : ℕ) (hk : k < 32) (ho : o < mostOperations) where
     -- THE LAW of classes
     pub class-shown : classRow (recordOf F .permissions) k (recordOf F .operations) o ≡ classOf (settingOf F) (rolesIn F) (record { role = k; lead = o })
     unfolding recordOf recordWith classRow classOf settingOf
@@ -75,7 +75,7 @@ module _ (F : Policy) (Z : Sized F) where
   unfolding recordOf recordWith isPart leads permittedOn settingOf sideOf rolesIn
   part-shown k o hk ho =
       let n = Z .operable in
-      let l : o < rowCells = omega arith in
+      let l : o < mostOperations = omega arith in
       part-by-tests (recordOf F .holders) (permissionTable F) (F .operations) k o true _ _ (lt-ltb o (F .operations) ho)
       (ap (λ (x : ℕ). eqb x 0) (holders-shown F Z k hk) ∙ mask-empty (held F k) (F .table user .count) (Z .many user) (holder-within F Z k))
       (ap (λ (x : ℕ). eqb x 0) (row-shown F Z k o hk l) ∙ mask-empty (λ r. F .permitted k r o) (F .table resource .count) (Z .many resource) (λ r p. Z .permits k r o p .1))

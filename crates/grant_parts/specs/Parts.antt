@@ -5,13 +5,13 @@ use lib.Dec.{eqb, ltb}
 use lib.ListN.{getD}
 use mathlib.Core.Bool.{Bool, false, cond, not}
 use mathlib.Core.List.{List}
-use Rattle.role_record.specs.Cells.{cellAt}
+use Rattle.role_record.specs.Cells.{permissionAt}
 use Rattle.sets.specs.Sets.{maskOf}
 use Rattle.sets.specs.Tests.{any, upTo}
 
 -- two operations of a role have the same resources
 abbrev pub sameRow : List ℕ → (role o q : ℕ) → Bool
-sameRow permissions role o q = eqb (getD permissions (cellAt role q) 0) (getD permissions (cellAt role o) 0)
+sameRow permissions role o q = eqb (getD permissions (permissionAt role q) 0) (getD permissions (permissionAt role o) 0)
 
 -- the operations of a role that have the same resources as operation o
 unfoldable pub classRow : List ℕ → ℕ → ℕ → ℕ → ℕ
@@ -27,4 +27,4 @@ unfoldable pub isPartIn : (holders permissions : List ℕ) → (ops role o : ℕ
 isPartIn holders permissions ops role o =
     cond (ltb o ops)
     (cond (eqb (getD holders role 0) 0) false
-    (cond (eqb (getD permissions (cellAt role o) 0) 0) false (isFirst permissions role o))) false
+    (cond (eqb (getD permissions (permissionAt role o) 0) 0) false (isFirst permissions role o))) false

@@ -2,7 +2,7 @@
 // the lowest of a part. The word of a role and an operation stands in their cell.
 ghost use mathlib.Core.Path.{_≡_};
 ghost use Prim.Native.Nat.{_≤_, _<_};
-ghost use Rattle.role_record.specs.Cells.{rowCells};
+ghost use Rattle.role_record.specs.Cells.{mostOperations};
 ghost use Rattle.grant_parts.specs.Parts.{classRow, isFirst, isPartIn};
 use role_record::ByRole;
 use role_record::ByRoleOperation;
@@ -10,13 +10,13 @@ use role_record::RoleFile;
 
 // The operations of a role that have the same resources as operation o.
 pub fn class_of(permissions: &ByRoleOperation, role: usize, operations: usize, o: usize) -> u64
-    requires { ⌜ (role < 32) × (operations ≤ 16) × (o < rowCells) ⌝ }
+    requires { ⌜ (role < 32) × (operations ≤ 16) × (o < mostOperations) ⌝ }
     ensures { λ r. ⌜ r ≡ classRow (now (permissions .entry)) role operations o ⌝ }
 {
-    let row = permissions[RoleFile::OPERATIONS * role + o];
+    let row = permissions[RoleFile::ROLES * o + role];
     let mut m: u64 = 0;
     for q in 0..operations {
-        if permissions[RoleFile::OPERATIONS * role + q] == row {
+        if permissions[RoleFile::ROLES * q + role] == row {
             m = sets::with(m, q);
         }
     }
@@ -25,12 +25,12 @@ pub fn class_of(permissions: &ByRoleOperation, role: usize, operations: usize, o
 
 // Whether no operation of a role before operation o has the same resources.
 fn is_first(permissions: &ByRoleOperation, role: usize, o: usize) -> bool
-    requires { ⌜ (role < 32) × (o < rowCells) ⌝ }
+    requires { ⌜ (role < 32) × (o < mostOperations) ⌝ }
     ensures { λ r. ⌜ r ≡ isFirst (now (permissions .entry)) role o ⌝ }
 {
-    let row = permissions[RoleFile::OPERATIONS * role + o];
+    let row = permissions[RoleFile::ROLES * o + role];
     for q in 0..o {
-        if permissions[RoleFile::OPERATIONS * role + q] == row {
+        if permissions[RoleFile::ROLES * q + role] == row {
             return false;
         }
     }
@@ -45,7 +45,7 @@ pub fn is_part<'a>(
     role: usize,
     o: usize,
 ) -> bool
-    requires { ⌜ (role < 32) × (o < rowCells) ⌝ }
+    requires { ⌜ (role < 32) × (o < mostOperations) ⌝ }
     ensures { λ r. ⌜ r ≡ isPartIn (now (holders .entry)) (now (permissions .entry)) operations role o ⌝ }
 {
     if operations <= o {
@@ -54,7 +54,7 @@ pub fn is_part<'a>(
     if holders[role] == 0 {
         return false;
     }
-    if permissions[RoleFile::OPERATIONS * role + o] == 0 {
+    if permissions[RoleFile::ROLES * o + role] == 0 {
         return false;
     }
     is_first(permissions, role, o)

@@ -22,7 +22,7 @@ use Rattle.policy.specs.Policy.{Policy, sideOf, settingOf}
 use Rattle.policy.specs.Rules.{Block}
 use Rattle.role_record.specs.Record.{Sized, recordWith, recordOf}
 use Rattle.rule_file.specs.LegalLaws.{Sound, both-sound}
-use Rattle.rule_reading.specs.BothFiles.{nothingRead, bothOf}
+use Rattle.rule_reading.specs.BothFiles.{nothingRead, bothOf, GridShown}
 use Rattle.rule_steps.specs.GrantedLaws.{in-rules}
 use Rattle.rule_steps.specs.Shows.{grantedWithin}
 use Rattle.sets.specs.Tests.{all, upTo}
@@ -36,12 +36,12 @@ use Rattle.rule_reading.specs.declared.BothFiles.{BothFiles}
 abbrev pub sizesIn : RoleFile → Sizes
 sizesIn f = record { users = f .users; resources = f .resources; operations = f .operations; roles = f .roles }
 
--- the answer from what was read
-unfoldable pub countedBy : BothFiles → List ℕ → ℕ → Denials
-countedBy b log w =
+-- the answer from what was read, and the grid of what the rules grant
+unfoldable pub countedBy : BothFiles → List ℕ → List ℕ → ℕ → Denials
+countedBy b grid log w =
     cond (eqb (b .code) 0)
     (cond (leb 1 w && leb w 64)
-    (cond (eqb (length log % 3) 0) (countedOf (inGrid (b .grid)) (sizesIn (b .file)) log w) (Refused 20)) (Refused 19)) (Refused (b .code))
+    (cond (eqb (length log % 3) 0) (countedOf (inGrid grid) (sizesIn (b .file)) log w) (Refused 20)) (Refused 19)) (Refused (b .code))
 
 module _ (F : Policy) (log : List ℕ) (w : ℕ) where
   -- the tests one after the other, whatever they say
@@ -62,38 +62,38 @@ module _ (F : Policy) (log : List ℕ) (w : ℕ) where
   unfolding logAnswer
   tested-all G = tested G (leb 1 w && leb w 64) (eqb (length log % 3) 0)
 
-  counted : (rules : List Lines) → Sized F → denialNumbers (countedBy (bothOf (accepted (F, rules))) log w) ≡ told worstValues (logAnswer (settingOf F) (rulesGrant (settingOf F) rules) log w)
+  counted : (rules : List Lines) → Sized F → (grid : List ℕ) → grid ≡ gridOf (F .operations) (grantedWithin F rules) → denialNumbers (countedBy (bothOf (accepted (F, rules))) grid log w) ≡ told worstValues (logAnswer (settingOf F) (rulesGrant (settingOf F) rules) log w)
   unfolding countedBy bothOf
-  counted rules Z =
-      tested-all (inGrid (gridOf (grantedWithin F rules)))
-      ∙ ap (told worstValues) (log-same (settingOf F) (inGrid (gridOf (grantedWithin F rules))) (rulesGrant (settingOf F) rules) (in-rules F Z rules) log w)
+  counted rules Z grid e =
+      tested-all (inGrid grid)
+      ∙ ap (told worstValues) (log-same (settingOf F) (inGrid grid) (rulesGrant (settingOf F) rules) (λ u r o t. ap (λ (g : List ℕ). inGrid g u r o) e ∙ in-rules F Z rules u r o t) log w)
 
 -- THE LAW
-pub counted-means : (file rules log : List ℕ) (w : ℕ) → denialNumbers (countedBy (bothOf (readBoth 2 file rules)) log w) ≡ told worstValues (denialAnswer 2 file rules log w)
-unfolding denialAnswer countedBy bothOf nothingRead
-counted-means file rules log w = go (readBoth 2 file rules) (both-sound file rules)
+pub counted-means : (file rules log : List ℕ) (w : ℕ) (grid : List ℕ) → GridShown (readBoth 2 file rules) grid → denialNumbers (countedBy (bothOf (readBoth 2 file rules)) grid log w) ≡ told worstValues (denialAnswer 2 file rules log w)
+unfolding denialAnswer countedBy bothOf nothingRead GridShown
+counted-means file rules log w grid e = go (readBoth 2 file rules) (both-sound file rules) e
   where
-    go : (a : Answer (Policy × List Lines)) → Carries Sound a
-        → denialNumbers (countedBy (bothOf a) log w) ≡ told worstValues (andThen a (λ (p : Policy × List Lines). logAnswer (settingOf (p .0)) (rulesGrant (settingOf (p .0)) (p .1)) log w))
-    go (refused e) z = rw (ne-eqb (numberOf e) 0 (number-positive e)) refl
-    go (accepted p) z = counted (p .0) log w (p .1) (z .sized)
+    go : (a : Answer (Policy × List Lines)) → Carries Sound a → GridShown a grid
+        → denialNumbers (countedBy (bothOf a) grid log w) ≡ told worstValues (andThen a (λ (p : Policy × List Lines). logAnswer (settingOf (p .0)) (rulesGrant (settingOf (p .0)) (p .1)) log w))
+    go (refused e) z g = rw (ne-eqb (numberOf e) 0 (number-positive e)) refl
+    go (accepted p) z g = counted (p .0) log w (p .1) (z .sized) grid g
 
 -- ---- the answer, by the outcome of each test
 
-module _ (b : BothFiles) (log : List ℕ) (w : ℕ) where
-  pub counted-refused : (b .code ≡ 0 → ⊥) → Refused (b .code) ≡ countedBy b log w
+module _ (b : BothFiles) (grid log : List ℕ) (w : ℕ) where
+  pub counted-refused : (b .code ≡ 0 → ⊥) → Refused (b .code) ≡ countedBy b grid log w
   unfolding countedBy
   counted-refused h = rw (ne-eqb (b .code) 0 h) refl
 
-  pub no-window : b .code ≡ 0 → (leb 1 w && leb w 64) ≡ false → Refused 19 ≡ countedBy b log w
+  pub no-window : b .code ≡ 0 → (leb 1 w && leb w 64) ≡ false → Refused 19 ≡ countedBy b grid log w
   unfolding countedBy
   no-window h e = rw (eq-eqb (b .code) 0 h, e) refl
 
-  pub ragged : b .code ≡ 0 → (leb 1 w && leb w 64) ≡ true → (length log % 3 ≡ 0 → ⊥) → Refused 20 ≡ countedBy b log w
+  pub ragged : b .code ≡ 0 → (leb 1 w && leb w 64) ≡ true → (length log % 3 ≡ 0 → ⊥) → Refused 20 ≡ countedBy b grid log w
   unfolding countedBy
   ragged h e d = rw (eq-eqb (b .code) 0 h, e, ne-eqb (length log % 3) 0 d) refl
 
-  pub whole : b .code ≡ 0 → (leb 1 w && leb w 64) ≡ true → length log % 3 ≡ 0 → (x : Denials) → x ≡ countedOf (inGrid (b .grid)) (sizesIn (b .file)) log w → x ≡ countedBy b log w
+  pub whole : b .code ≡ 0 → (leb 1 w && leb w 64) ≡ true → length log % 3 ≡ 0 → (x : Denials) → x ≡ countedOf (inGrid grid) (sizesIn (b .file)) log w → x ≡ countedBy b grid log w
   unfolding countedBy
   whole h e d x k = k ∙ sym (rw (eq-eqb (b .code) 0 h, e, eq-eqb (length log % 3) 0 d) refl)
 

@@ -6,8 +6,7 @@ ghost use Prim.Native.Nat.{_+_, _*_, _<_};
 ghost use Rattle.files.specs.Denials.{ofRecord, deniedBy};
 ghost use Rattle.grant_grids.specs.Grid.{inGrid};
 ghost use Rattle.log_records.specs.Records.{inSizes};
-ghost use Rattle.role_record.specs.Cells.{rowCells};
-use role_record::Grid;
+ghost use Rattle.role_record.specs.Cells.{gridAt};
 use role_record::Sizes;
 
 // How many bytes a record has.
@@ -45,11 +44,10 @@ pub fn within(log: &[u8], i: usize, sizes: Sizes) -> bool
 }
 
 // 1 where a grid does not have what record i asks for, else 0.
-pub fn denied(grid: &Grid, log: &[u8], i: usize) -> usize
+pub fn denied(grid: &[u64], log: &[u8], i: usize) -> usize
     requires { ⌜
         (3 * i + 2 < length (now log))
-        × (getD (now log) (3 * i) 0 < 64)
-        × (getD (now log) (3 * i + 2) 0 < rowCells) ⌝ }
+        × (gridAt (getD (now log) (3 * i) 0) (getD (now log) (3 * i + 2) 0) < length (now grid)) ⌝ }
     ensures { λ r. ⌜ r ≡ cond (deniedBy (inGrid (now (grid .entry))) (now (log .entry)) i) 1 0 ⌝ }
 {
     let at = BYTES * i;

@@ -13,6 +13,7 @@ use Rattle.files.specs.Windows.{plainCount}
 use Rattle.log_records.specs.RecordLaws.{user-inside, operation-inside}
 use Rattle.log_records.specs.Records.{inSizes}
 use Rattle.policy.specs.Rules.{Block}
+use Rattle.role_record.specs.Cells.{gridAt, gridCells}
 use Rattle.role_record.specs.declared.Sizes.{Sizes}
 use Rattle.sets.specs.LoopLaws.{all-none, all-on, all-found, all-end}
 use Rattle.sets.specs.Tests.{Is, all, upTo}
@@ -56,12 +57,12 @@ module _ (s : Sizes) (log : List ℕ) where
   Within i = Is (all (ofRecord (inSizes s) log) (upTo i))
 
   -- so that each of them has a cell in a grid
-  pub has-cell : (i j : ℕ) → j < i → s .users ≤ 64 → s .operations ≤ 16 → Within i → (getD log (3 * j) 0 < 64) × (getD log (3 * j + 2) 0 < 16)
-  has-cell i j l p q h =
+  pub has-cell : (i j n : ℕ) → j < i → s .users ≤ 64 → n ≡ gridCells (s .operations) → Within i → gridAt (getD log (3 * j) 0) (getD log (3 * j + 2) 0) < n
+  has-cell i j n l p q h =
       let a = all-out (ofRecord (inSizes s) log) h (upTo-in l) in
       let u = user-inside s (getD log (3 * j) 0) (getD log (3 * j + 1) 0) (getD log (3 * j + 2) 0) a in
       let o = operation-inside s (getD log (3 * j) 0) (getD log (3 * j + 1) 0) (getD log (3 * j + 2) 0) a in
-      (omega arith, omega arith)
+      omega arith
 
   pub within-none : Within 0
   within-none = all-none (ofRecord (inSizes s) log)

@@ -5,9 +5,8 @@ ghost use Prim.Native.Nat.{ℕ, _+_, _*_, _-_, _≤_, _<_};
 ghost use Rattle.files.specs.Denials.{deniedBy};
 ghost use Rattle.grant_grids.specs.Grid.{inGrid};
 ghost use Rattle.log_windows.specs.Counting.{leavingOf, countedOf};
-ghost use Rattle.role_record.specs.Cells.{rowCells};
+ghost use Rattle.role_record.specs.Cells.{gridAt, gridCells};
 use files::refusal;
-use role_record::Grid;
 use role_record::Sizes;
 
 // A refusal's number; or the most denials in a window, and the lowest record from which a window has so many.
@@ -17,11 +16,10 @@ pub enum Denials {
 }
 
 // 1 where a denied record leaves the window when record i comes, else 0.
-fn leaving(grid: &Grid, log: &[u8], window: usize, i: usize) -> usize
+fn leaving(grid: &[u64], log: &[u8], window: usize, i: usize) -> usize
     requires { ⌜
         (3 * i + 2 < length (now log))
-        × (getD (now log) (3 * (i - window)) 0 < 64)
-        × (getD (now log) (3 * (i - window) + 2) 0 < rowCells) ⌝ }
+        × (gridAt (getD (now log) (3 * (i - window)) 0) (getD (now log) (3 * (i - window) + 2) 0) < length (now grid)) ⌝ }
     ensures { λ r. ⌜ r ≡ leavingOf (deniedBy (inGrid (now (grid .entry))) (now (log .entry))) window i ⌝ }
 {
     if i < window {
@@ -42,8 +40,9 @@ fn start_of(records: usize, window: usize) -> usize
 
 // By a grid of what is granted. While the log's first window is not full its count is that of a part of it, no more than the whole has, and
 // both start at 0; so no window needs a case of its own, and a log shorter than one is the last of these parts.
-pub fn count(grid: &Grid, sizes: Sizes, log: &[u8], window: usize) -> Denials
-    requires { ⌜ (sizes .users ≤ 64) × (sizes .operations ≤ rowCells) ⌝ }
+pub fn count(grid: &[u64], sizes: Sizes, log: &[u8], window: usize) -> Denials
+    requires { ⌜
+        (sizes .users ≤ 64) × (length (now grid) ≡ gridCells (sizes .operations)) ⌝ }
     ensures { λ r. ⌜ r ≡ countedOf (inGrid (now (grid .entry))) sizes (now (log .entry)) window ⌝ }
 {
     let records = log.len() / log_records::BYTES;

@@ -11,7 +11,7 @@ use Rattle.mine_parts.specs.Layout.{usersAt, resourcesAt, operationsAt, restAt,
 use Rattle.mine_theory.specs.Words.Words.{Words}
 use Rattle.mine_words.specs.PartWords.{atomsOf}
 use Rattle.policy.specs.Roles.{Part}
-use Rattle.role_record.specs.Cells.{cellAt}
+use Rattle.role_record.specs.Cells.{permissionAt}
 use Rattle.sets.specs.Tests.{each, only, upTo}
 
 -- ---- the parts, by the tables
@@ -33,9 +33,9 @@ module _ (holders permissions : List ℕ) (operations : ℕ) where
 unfoldable pub partWords : (links attributes holders permissions : List ℕ) → ℕ → Part → Words
 partWords links attributes holders permissions operations p = record {
   users = getD holders (p .role) 0;
-  resources = getD permissions (cellAt (p .role) (p .lead)) 0;
+  resources = getD permissions (permissionAt (p .role) (p .lead)) 0;
   ops = classRow permissions (p .role) operations (p .lead);
-  atoms = atomsOf links attributes (getD holders (p .role) 0) (getD permissions (cellAt (p .role) (p .lead)) 0);
+  atoms = atomsOf links attributes (getD holders (p .role) 0) (getD permissions (permissionAt (p .role) (p .lead)) 0);
 }
 
 -- ---- the words of scratch memory

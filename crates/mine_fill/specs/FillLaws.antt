@@ -16,7 +16,7 @@ use Rattle.mine_parts.specs.LayoutLaws.{stored-long, stored-users, stored-resou
 use Rattle.mine_theory.specs.Words.Words.{Words}
 use Rattle.mine_words.specs.PartWords.{atomsOf}
 use Rattle.policy.specs.Roles.{Part}
-use Rattle.role_record.specs.Cells.{rowCells}
+use Rattle.role_record.specs.Cells.{mostOperations}
 use Rattle.sets.specs.ListLaws.{each-more, length-each, sum-most, from-length}
 use Rattle.sets.specs.LoopLaws.{store-next}
 use Rattle.sets.specs.LowestLaws.{lowest-most}
@@ -65,13 +65,13 @@ module _ (holders permissions : List ℕ) (operations : ℕ) where
   parts-more k = each-more (λ j. leadsBefore holders permissions operations j operations) k
 
   -- of all roles no more than this
-  pub parts-most : (k : ℕ) → operations ≤ rowCells → length (partsBefore holders permissions operations k) ≤ rowCells * k
+  pub parts-most : (k : ℕ) → operations ≤ mostOperations → length (partsBefore holders permissions operations k) ≤ mostOperations * k
   unfolding partsBefore
   parts-most k h =
       within (length-each (λ j. leadsBefore holders permissions operations j operations) (upTo k))
-      (sum-most rowCells (λ j. length (leadsBefore holders permissions operations j operations)) (upTo k) (λ j _. let m = leads-most j operations in omega arith)) (from-length 0 k)
+      (sum-most mostOperations (λ j. length (leadsBefore holders permissions operations j operations)) (upTo k) (λ j _. let m = leads-most j operations in omega arith)) (from-length 0 k)
     where
-      within : {a b c : ℕ} → a ≡ b → b ≤ rowCells * c → c ≡ k → a ≤ rowCells * k
+      within : {a b c : ℕ} → a ≡ b → b ≤ mostOperations * c → c ≡ k → a ≤ mostOperations * k
       within p q r = omega arith
 
 module _ (links matches known attributes holders permissions : List ℕ) (users resources operations : ℕ) where
@@ -206,5 +206,5 @@ module _ (links matches known attributes holders permissions : List ℕ) (users 
       ends G = (G .count, G .filled, start-noted l G)
 
   -- so many parts there may be
-  pub fill-most : {t starts : List ℕ} {n k : ℕ} → operations ≤ rowCells → FilledTo links matches known attributes holders permissions users resources operations t starts n k → n ≤ rowCells * k
+  pub fill-most : {t starts : List ℕ} {n k : ℕ} → operations ≤ mostOperations → FilledTo links matches known attributes holders permissions users resources operations t starts n k → n ≤ mostOperations * k
   fill-most {t} {starts} {n} {k} h F = let m = parts-most holders permissions operations k h in let e = F .count in omega arith

@@ -6,7 +6,7 @@ ghost use Prim.Native.Nat.{ℕ, _+_, _≤_, _<_};
 ghost use Rattle.mine_fill.specs.Fill.{partsBefore, partWords, FilledWith, FilledBy, RoleTo, StartsTo};
 ghost use Rattle.mine_corners.specs.Pairing.{wordsIn};
 ghost use Rattle.mine_parts.specs.Layout.{mostParts, roomIn};
-ghost use Rattle.role_record.specs.Cells.{rowCells};
+ghost use Rattle.role_record.specs.Cells.{mostOperations};
 ghost use Rattle.role_record.specs.Record.{WithinLimits};
 use mine_corners::Group;
 use mine_parts::PartWords;
@@ -29,14 +29,14 @@ fn group_of<'a>(
     role: usize,
     lead: usize,
 ) -> Group
-    requires { ⌜ (operations ≤ 16) × (role < 32) × (lead < rowCells) ⌝ }
+    requires { ⌜ (operations ≤ 16) × (role < 32) × (lead < mostOperations) ⌝ }
     ensures { λ g. ⌜
         wordsIn g
         ≡ partWords (now (links .entry)) (now (attributes .entry)) (now (holders .entry)) (now (permissions .entry))
         operations (record { role = role; lead = lead }) ⌝ }
 {
     let users = holders[role];
-    let resources = permissions[RoleFile::OPERATIONS * role + lead];
+    let resources = permissions[RoleFile::ROLES * lead + role];
     let class = grant_parts::class_of(permissions, role, operations, lead);
     let atoms = mine_words::atoms_of(links, attributes, users, resources);
     Group {
@@ -65,7 +65,7 @@ fn words_of<'a>(
         × (getD (now attributes) 0 0 ≤ 6)
         × (getD (now attributes) 1 0 ≤ 6)
         × (role < 32)
-        × (lead < rowCells)
+        × (lead < mostOperations)
         × (i < mostParts) ⌝ }
     ensures { λ s. ⌜
         FilledWith (now (links .entry)) (now (matches .entry)) (now (knowing .entry)) (now (attributes .entry))
@@ -113,7 +113,7 @@ fn fill_part<'a>(
         × (getD (now attributes) 0 0 ≤ 6)
         × (getD (now attributes) 1 0 ≤ 6)
         × (role < 32)
-        × (lead < rowCells)
+        × (lead < mostOperations)
         × (i < roomIn (now scratch)) ⌝ }
     ensures { λ n. ⌜
         (length (now (scratch .exit)) ≡ length (now (scratch .entry)))
@@ -162,7 +162,7 @@ fn fill_role<'a>(
         × (getD (now attributes) 0 0 ≤ 6)
         × (getD (now attributes) 1 0 ≤ 6)
         × (role < 32)
-        × (first + rowCells ≤ roomIn (now scratch)) ⌝ }
+        × (first + mostOperations ≤ roomIn (now scratch)) ⌝ }
     ensures { λ n. ⌜
         RoleTo (now (links .entry)) (now (matches .entry)) (now (knowing .entry)) (now (attributes .entry))
         (now (holders .entry)) (now (permissions .entry)) (sizes .users) (sizes .resources) (sizes .operations)

@@ -23,26 +23,26 @@ pub struct Window {
     pub end: usize,
 }
 
-// How many of so many parts have their mark in a word.
-fn marks_in(parts: usize, word: usize) -> usize
+// How many of the parts before one have their mark in a word.
+fn marks_in(before: usize, word: usize) -> usize
     requires { ⌜ word < markWords ⌝ }
-    ensures { λ n. ⌜ n ≡ min 64 (parts - 64 * word) ⌝ }
+    ensures { λ n. ⌜ n ≡ min 64 (before - 64 * word) ⌝ }
 {
-    if parts <= 64 * word {
+    if before <= 64 * word {
         return 0;
     }
-    if 64 <= parts - 64 * word {
+    if 64 <= before - 64 * word {
         return 64;
     }
-    parts - 64 * word
+    before - 64 * word
 }
 
-// The heads among so many parts whose marks are in a word.
-fn heads_in(scratch: &[u64], parts: usize, word: usize) -> u64
-    requires { ⌜ (word < markWords) × (parts ≤ roomIn (now scratch)) ⌝ }
-    ensures { λ m. ⌜ m ≡ maskOf 64 (λ k. ltb (64 * word + k) parts && isHeadAt (now (scratch .entry)) (64 * word + k)) ⌝ }
+// The heads among the parts before one whose marks are in a word.
+fn heads_in(scratch: &[u64], before: usize, word: usize) -> u64
+    requires { ⌜ (word < markWords) × (before ≤ roomIn (now scratch)) ⌝ }
+    ensures { λ m. ⌜ m ≡ maskOf 64 (λ k. ltb (64 * word + k) before && isHeadAt (now (scratch .entry)) (64 * word + k)) ⌝ }
 {
-    let end = marks_in(parts, word);
+    let end = marks_in(before, word);
     let mut m: u64 = 0;
     for k in 0..end {
         if mine_parts::is_head(scratch, 64 * word + k) {

@@ -4,7 +4,7 @@ use Prim.Native.Nat.{ℕ, _^_, _<_}
 use borrow.Author.Tests.{eqb-true, eq-eqb}
 use lib.Dec.{eqb}
 use lib.ListN.{length}
-use mathlib.Core.Bool.{Bool, true, cond, or-false}
+use mathlib.Core.Bool.{Bool, cond, or-false}
 use mathlib.Core.List.{List, [], _∷_}
 use mathlib.Core.Path.{_≡_, sym, ap, ap₂, _∙_, subst}
 use native.Mathlib.Omega.{arith}
@@ -21,7 +21,6 @@ use Rattle.mine_pairs.specs.PairLevelLaws.{group-means}
 use Rattle.mine_pairs.specs.PairLevels.{groupLevel}
 use Rattle.mine_parts.specs.Layout.{usersAt, resourcesAt, operationsAt, restAt, atomsIn, levelIn, nameIn, headIn, restOf, nameOf, wordsAt}
 use Rattle.mine_parts.specs.LayoutLaws.{atoms-packed, level-packed, name-packed, head-packed, name-low, named-so}
-use Rattle.mine_theory.specs.Search.Frontier.{Groups}
 use Rattle.mine_theory.specs.Words.WordLaws.{words-same}
 use Rattle.mine_theory.specs.Words.Words.{Words, wordsOf}
 use Rattle.mine_words.specs.PartWordLaws.{table-words}

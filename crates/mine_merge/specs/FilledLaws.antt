@@ -21,7 +21,7 @@ use Rattle.policy.specs.Mined.{partCount, partAt}
 use Rattle.policy.specs.Policy.{Policy, settingOf, rolesIn}
 use Rattle.policy.specs.Roles.{Part, alike, isPart, leads, parts}
 use Rattle.policy.specs.Rules.{user, resource}
-use Rattle.role_record.specs.Cells.{rowCells}
+use Rattle.role_record.specs.Cells.{mostOperations}
 use Rattle.role_record.specs.Record.{Sized, recordWith, recordOf}
 use Rattle.sets.specs.ListLaws.{each-fewer, each-none, each-same, each-append, from-split}
 use Rattle.sets.specs.Tests.{_isIn_, any, each, only, from, upTo}
@@ -121,7 +121,7 @@ module _ (F : Policy) (Z : Sized F) where
 
 -- ---- where the parts of each role stand
 
-module _ (links matches known attributes holders permissions : List ℕ) (users resources operations : ℕ) (few : operations ≤ rowCells) (n : ℕ) (t starts : List ℕ) (e : n ≡ length (partsBefore holders permissions operations 32))
+module _ (links matches known attributes holders permissions : List ℕ) (users resources operations : ℕ) (few : operations ≤ mostOperations) (n : ℕ) (t starts : List ℕ) (e : n ≡ length (partsBefore holders permissions operations 32))
     (f : FilledBy links matches known attributes holders permissions users resources operations t (partsBefore holders permissions operations 32)) (s : StartsTo holders permissions operations starts 33) where
   abbrev count : ℕ → ℕ
   count k = length (partsBefore holders permissions operations k)
@@ -132,7 +132,7 @@ module _ (links matches known attributes holders permissions : List ℕ) (users 
       let r = lead-role holders permissions operations k operations p m in
       let l = lead-low holders permissions operations k operations p m in
       let low : p .role < 32 = omega arith in
-      let lead : p .lead < rowCells = omega arith in
+      let lead : p .lead < mostOperations = omega arith in
       let W = partWords links attributes holders permissions operations p in
       let atoms = part-atoms links matches known attributes holders permissions users resources operations {W = W} p refl in
       let level = part-level links matches known attributes holders permissions users resources operations W refl in

@@ -6,7 +6,7 @@ ghost use mathlib.Core.List.{List};
 ghost use mathlib.Core.Path.{_≡_};
 ghost use Prim.Native.Nat.{ℕ, _+_, _≤_, _<_};
 ghost use Rattle.files.specs.Calls.{cutsOk};
-ghost use Rattle.mine_parts.specs.Layout.{mostParts, roomIn, restAt, nameIn};
+ghost use Rattle.mine_parts.specs.Layout.{mostParts, roomIn, restAt, nameIn, isHeadAt};
 ghost use Rattle.role_record.specs.Record.{Sized, WithinLimits};
 ghost use Rattle.mine_merge.specs.Progress.{Settled, Leading};
 ghost use Rattle.mine_merge.specs.Steps.{Paired, Tables, headCount};
@@ -50,7 +50,8 @@ fn settle_head<'a>(
         × (window .first ≤ start)
         × (start < window .end)
         × (window .end ≤ roomIn (now scratch))
-        × Marked (window .first) (window .end) (now heads) (now scratch) ⌝ }
+        × Marked (window .first) (window .end) (now heads) (now scratch)
+        × Is (isHeadAt (now scratch) start) ⌝ }
     ensures { λ n. ⌜
         (length (now (scratch .exit)) ≡ length (now (scratch .entry)))
         × (n + headCount (now (scratch .exit)) ≤ headCount (now (scratch .entry)))

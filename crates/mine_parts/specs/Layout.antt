@@ -9,7 +9,7 @@ use mathlib.Core.List.{List}
 use mathlib.Core.Path.{_≡_}
 use Rattle.mine_theory.specs.Words.Words.{Words}
 use Rattle.policy.specs.Roles.{Part}
-use Rattle.role_record.specs.Cells.{rowCells, roleCells}
+use Rattle.role_record.specs.Cells.{mostOperations, roleCells}
 
 -- ---- how many parts there are
 
@@ -64,7 +64,7 @@ abbrev pub roleAt : List ℕ → ℕ → ℕ
 roleAt t i = nameIn (restAt t i) % 32
 
 abbrev pub leadAt : List ℕ → ℕ → ℕ
-leadAt t i = nameIn (restAt t i) / 32 % rowCells
+leadAt t i = nameIn (restAt t i) / 32 % mostOperations
 
 abbrev pub namedAt : List ℕ → ℕ → Part
 namedAt t i = record { role = roleAt t i; lead = leadAt t i }

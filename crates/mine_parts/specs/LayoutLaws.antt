@@ -10,7 +10,7 @@ use native.Mathlib.Nat.{mod-lt}
 use native.Mathlib.Omega.{arith}
 use Rattle.mine_parts.specs.Layout.{usersAt, resourcesAt, operationsAt, restAt, atomsIn, levelIn, headIn, restOf, wordsAt, storedPart, lowIn, headTaken, Kept, membersAt, roomIn, nameIn, nameOf, namedAt}
 use Rattle.mine_theory.specs.Words.Words.{Words}
-use Rattle.role_record.specs.Cells.{rowCells}
+use Rattle.role_record.specs.Cells.{mostOperations}
 
 -- ---- the last word of a part
 
@@ -32,14 +32,14 @@ module _ (atoms level name head : ℕ) (a : atoms < 2 ^ 36) (l : level < 4) (n :
   head-packed = omega arith
 
 -- a name is small, and it is the part's
-module _ (role lead : ℕ) (r : role < 32) (l : lead < rowCells) where
+module _ (role lead : ℕ) (r : role < 32) (l : lead < mostOperations) where
   pub name-low : nameOf role lead < 2 ^ 11
   name-low = omega arith
 
   role-back : (n : ℕ) → n ≡ nameOf role lead → n % 32 ≡ role
   role-back n e = omega arith
 
-  lead-back : (n : ℕ) → n ≡ nameOf role lead → n / 32 % rowCells ≡ lead
+  lead-back : (n : ℕ) → n ≡ nameOf role lead → n / 32 % mostOperations ≡ lead
   lead-back n e = omega arith
 
   pub named-so : (t : List ℕ) (i : ℕ) → nameIn (restAt t i) ≡ nameOf role lead → namedAt t i ≡ record { role = role; lead = lead }
@@ -47,7 +47,7 @@ module _ (role lead : ℕ) (r : role < 32) (l : lead < rowCells) where
 
 -- parts of one name are the same
 pub named-same : (u t : List ℕ) (i : ℕ) → nameIn (restAt u i) ≡ nameIn (restAt t i) → namedAt u i ≡ namedAt t i
-named-same u t i e = ap (λ (n : ℕ). record { role = n % 32; lead = n / 32 % rowCells }) e
+named-same u t i e = ap (λ (n : ℕ). record { role = n % 32; lead = n / 32 % mostOperations }) e
 
 -- the atoms of a part are 36
 pub atoms-low : {W : Words} (t : List ℕ) (i : ℕ) → W ≡ wordsAt t i → W .atoms < 2 ^ 36

@@ -4,7 +4,7 @@
 ghost use mathlib.Core.Path.{_≡_};
 ghost use Prim.Native.Nat.{_+_, _*_, _^_, _<_};
 ghost use Rattle.mine_corners.specs.Pairing.{wordsIn};
-ghost use Rattle.role_record.specs.Cells.{rowCells};
+ghost use Rattle.role_record.specs.Cells.{mostOperations};
 ghost use Rattle.mine_parts.specs.Layout.{mostParts, roomIn, usersAt, resourcesAt, operationsAt, restAt, membersAt, levelIn, nameIn, headIn, restOf, nameOf, roleAt, leadAt, wordsAt, isHeadAt, storedPart, lowIn, headTaken};
 use mine_corners::Group;
 use role_record::RoleFile;
@@ -148,7 +148,7 @@ pub fn is_head(scratch: &[u64], i: usize) -> bool
 
 // The name of the part of a role and its lowest operation.
 pub fn name_of(role: usize, lead: usize) -> usize
-    requires { ⌜ (role < 32) × (lead < rowCells) ⌝ }
+    requires { ⌜ (role < 32) × (lead < mostOperations) ⌝ }
     ensures { λ n. ⌜ n ≡ nameOf role lead ⌝ }
 {
     role + RoleFile::ROLES * lead

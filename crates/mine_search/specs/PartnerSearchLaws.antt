@@ -101,9 +101,9 @@ module _ (links matches known attributes : List ℕ) (users resources operations
   no-partner e f k = ap (λ (b : Bool). b && (isHeadAt t k && ltb (partnerLevel links matches known attributes users resources operations t c k) 4)) (sym e ∙ f)
 
   -- of two heads the level decides
-  pub partner-told : {p : Bool} {l : ℕ} (k : ℕ) → p ≡ isHeadAt t c → p ≡ true → Is (isHeadAt t k) → l ≡ partnerLevel links matches known attributes users resources operations t c k → partnerAt links matches known attributes users resources operations t c k ≡ ltb l 4
+  pub partner-told : {l : ℕ} (k : ℕ) → Is (isHeadAt t c) → Is (isHeadAt t k) → l ≡ partnerLevel links matches known attributes users resources operations t c k → partnerAt links matches known attributes users resources operations t c k ≡ ltb l 4
   unfolding partnerAt
-  partner-told k e f g r = ap₂ _&&_ (sym e ∙ f) (ap₂ _&&_ g (ap (λ (x : ℕ). ltb x 4) (sym r)))
+  partner-told k h g r = ap₂ _&&_ h (ap₂ _&&_ g (ap (λ (x : ℕ). ltb x 4) (sym r)))
 
   -- a group that is not near is none's partner
   far-partner : (k : ℕ) → (reaches (wordsAt t c) (wordsAt t k) && reaches (wordsAt t k) (wordsAt t c)) ≡ false → ltb (partnerLevel links matches known attributes users resources operations t c k) 4 ≡ false
@@ -305,12 +305,12 @@ module _ (end : ℕ) (links matches known attributes : List ℕ) (users resource
     }
 
   -- k is refused
-  pub looking-on : {p : Bool} {k l : ℕ} → p ≡ isHeadAt t c → p ≡ true → Looking k → k < end → l ≡ partnerLevel links matches known attributes users resources operations t c k → 4 ≤ l → NoneIn (partnerAt links matches known attributes users resources operations t c) from (k + 1)
-  looking-on {p} {k} {l} e f L h r d = none-on (partnerAt links matches known attributes users resources operations t c) from k (L .none) (partner-told links matches known attributes users resources operations t c k e f (L .head h .1) r ∙ le-ltb l 4 d)
+  pub looking-on : {k l : ℕ} → Is (isHeadAt t c) → Looking k → k < end → l ≡ partnerLevel links matches known attributes users resources operations t c k → 4 ≤ l → NoneIn (partnerAt links matches known attributes users resources operations t c) from (k + 1)
+  looking-on {k} {l} a L h r d = none-on (partnerAt links matches known attributes users resources operations t c) from k (L .none) (partner-told links matches known attributes users resources operations t c k a (L .head h .1) r ∙ le-ltb l 4 d)
 
   -- k is the partner
-  pub looking-found : {p : Bool} {k l : ℕ} → p ≡ isHeadAt t c → p ≡ true → Looking k → k < end → l ≡ partnerLevel links matches known attributes users resources operations t c k → l < 4 → Finds end links matches known attributes users resources operations t c from k l
-  looking-found {p} {k} {l} e f L h r d = record { first = inr (L .head h .0, h, partner-told links matches known attributes users resources operations t c k e f (L .head h .1) r ∙ lt-ltb l 4 d, L .none); leveled = λ _. r }
+  pub looking-found : {k l : ℕ} → Is (isHeadAt t c) → Looking k → k < end → l ≡ partnerLevel links matches known attributes users resources operations t c k → l < 4 → Finds end links matches known attributes users resources operations t c from k l
+  looking-found {k} {l} a L h r d = record { first = inr (L .head h .0, h, partner-told links matches known attributes users resources operations t c k a (L .head h .1) r ∙ lt-ltb l 4 d, L .none); leveled = λ _. r }
 
   -- there is none
   pub looking-end : {k : ℕ} → Looking k → end ≤ k → Finds end links matches known attributes users resources operations t c from end 4

@@ -7,7 +7,7 @@ ghost use Rattle.mine_matches.specs.Matches.{bothMembers, SidesMet};
 ghost use Rattle.mine_heads.specs.Heads.{markWords, MarkedBelow, Open};
 ghost use Rattle.mine_search.specs.PartnerSearch.{joinedLevel, partnerLevel, FirstIn, Finds, nearAt, nearHead, GroupMet};
 ghost use Rattle.mine_corners.specs.Pairing.{wordsIn};
-ghost use Rattle.mine_parts.specs.Layout.{roomIn, usersAt, resourcesAt};
+ghost use Rattle.mine_parts.specs.Layout.{roomIn, usersAt, resourcesAt, isHeadAt};
 ghost use Rattle.sets.specs.Sets.{bit};
 ghost use Rattle.sets.specs.Tests.{Is};
 ghost use Rattle.role_record.specs.Record.{WithinLimits};
@@ -188,37 +188,35 @@ pub fn first_partner<'a>(
         × (seeking .from ≤ window .end)
         × (window .end ≤ roomIn (now scratch))
         × Open (window .first) (window .end) (now ready) (now scratch) (seeking .head)
-        × GroupMet (now matches) (now scratch) (seeking .head) (now met) ⌝ }
+        × GroupMet (now matches) (now scratch) (seeking .head) (now met)
+        × Is (isHeadAt (now scratch) (seeking .head)) ⌝ }
     ensures { λ r. ⌜
         Finds (window .end) (now (links .entry)) (now (matches .entry)) (now (knowing .entry)) (now (attributes .entry))
         (sizes .users) (sizes .resources) (sizes .operations) (now (scratch .entry)) (seeking .head) (seeking .from)
         (r .head) (r .level) ⌝ }
 {
     let end = window.end;
-    // Most parts are no heads.
-    if mine_parts::is_head(scratch, seeking.head) {
-        let g = mine_parts::group_at(scratch, seeking.head);
-        let mut k = next_near(scratch, end, ready, g, seeking.from);
-        while k < end {
-            let level = level_beside(
-                scratch,
-                links,
-                matches,
-                met,
-                knowing,
-                attributes,
-                sizes,
-                seeking.head,
-                k,
-            );
-            if level < mine_pairs::NO_LEVEL {
-                return Found {
-                    head: k,
-                    level: level,
-                };
-            }
-            k = next_near(scratch, end, ready, g, k + 1);
+    let g = mine_parts::group_at(scratch, seeking.head);
+    let mut k = next_near(scratch, end, ready, g, seeking.from);
+    while k < end {
+        let level = level_beside(
+            scratch,
+            links,
+            matches,
+            met,
+            knowing,
+            attributes,
+            sizes,
+            seeking.head,
+            k,
+        );
+        if level < mine_pairs::NO_LEVEL {
+            return Found {
+                head: k,
+                level: level,
+            };
         }
+        k = next_near(scratch, end, ready, g, k + 1);
     }
     Found {
         head: end,

@@ -7,7 +7,7 @@ use lib.ListN.{getD}
 use mathlib.Core.Bool.{Bool, _&&_}
 use mathlib.Core.Path.{_≡_, refl, sym, ap, ap₂, _∙_}
 use native.Mathlib.Omega.{arith}
-use Rattle.role_record.specs.Cells.{rowCells, cellAt}
+use Rattle.role_record.specs.Cells.{mostOperations, permissionAt}
 use Rattle.role_record.specs.Record.{Sized, attributeTable, recordWith, recordOf}
 use Rattle.role_record.specs.RecordLaws.{side-room}
 use Rattle.role_admit.specs.RoleTableLaws.{permittedOn, row-shown, holders-shown, holder-within}
@@ -31,9 +31,9 @@ use Rattle.mine_theory.specs.Words.Words.{Words, wordsOf, partAtom}
 abbrev pub tableWords : Policy → Part → Words
 tableWords F p = record {
   users = getD (recordOf F .holders) (p .role) 0;
-  resources = getD (recordOf F .permissions) (cellAt (p .role) (p .lead)) 0;
+  resources = getD (recordOf F .permissions) (permissionAt (p .role) (p .lead)) 0;
   ops = classRow (recordOf F .permissions) (p .role) (recordOf F .operations) (p .lead);
-  atoms = atomsOf (linksOf F) (recordOf F .attributes) (getD (recordOf F .holders) (p .role) 0) (getD (recordOf F .permissions) (cellAt (p .role) (p .lead)) 0);
+  atoms = atomsOf (linksOf F) (recordOf F .attributes) (getD (recordOf F .holders) (p .role) 0) (getD (recordOf F .permissions) (permissionAt (p .role) (p .lead)) 0);
 }
 
 -- a set of 64 that has only numbers below n
@@ -79,7 +79,7 @@ module _ (F : Policy) (Z : Sized F) where
   holders-word k h = holders-shown F Z k h ∙ narrower (F .table user .count) (held F k) (Z .many user) (holder-within F Z k)
 
   -- its resources
-  pub resources-word : (k o : ℕ) → k < 32 → o < rowCells → getD (recordOf F .permissions) (cellAt k o) 0 ≡ maskOf (settingOf F .side resource .count) (λ r. rolesIn F .gives k r o)
+  pub resources-word : (k o : ℕ) → k < 32 → o < mostOperations → getD (recordOf F .permissions) (permissionAt k o) 0 ≡ maskOf (settingOf F .side resource .count) (λ r. rolesIn F .gives k r o)
   unfolding recordOf recordWith permittedOn settingOf sideOf rolesIn
   resources-word k o hk ho = row-shown F Z k o hk ho ∙ narrower (F .table resource .count) (λ r. F .permitted k r o) (Z .many resource) (λ r p. Z .permits k r o p .1)
 
@@ -111,8 +111,8 @@ module _ (F : Policy) (Z : Sized F) where
       resources = maskOf (settingOf F .side resource .count) (λ r. rolesIn F .gives (p .role) r (p .lead))
 
   -- the atoms true of all its holders and resources
-  pub atoms-word : (p : Part) → p .role < 32 → p .lead < rowCells
-      → atomsOf (linksOf F) (recordOf F .attributes) (getD (recordOf F .holders) (p .role) 0) (getD (recordOf F .permissions) (cellAt (p .role) (p .lead)) 0) ≡ maskOf 36 (λ i. partAtom (settingOf F) (rolesIn F) p (i / 6) (i % 6))
+  pub atoms-word : (p : Part) → p .role < 32 → p .lead < mostOperations
+      → atomsOf (linksOf F) (recordOf F .attributes) (getD (recordOf F .holders) (p .role) 0) (getD (recordOf F .permissions) (permissionAt (p .role) (p .lead)) 0) ≡ maskOf 36 (λ i. partAtom (settingOf F) (rolesIn F) p (i / 6) (i % 6))
   atoms-word p hk ho = ap₂ (atomsOf (linksOf F) (recordOf F .attributes)) (holders-word (p .role) hk) (resources-word (p .role) (p .lead) hk ho) ∙ atoms-shown p
 
   -- THE LAW of the words of a part

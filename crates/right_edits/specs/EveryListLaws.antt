@@ -26,7 +26,7 @@ use Rattle.right_words.specs.Rights.{rightsWord, rightsTable, refreshed}
 use Rattle.role_file.specs.Reading.{loadedOf}
 use Rattle.role_file.specs.SettleLaws.{assigned-shown, seniors-shown, holders-shown}
 use Rattle.role_file.specs.SizedLaws.{accepted-sized}
-use Rattle.role_record.specs.Cells.{cellAt, cellRow, cellOperation, userCells}
+use Rattle.role_record.specs.Cells.{permissionAt, cellRow, cellOperation, userCells}
 use Rattle.role_record.specs.Record.{Sized, tableOf, knownTable, valueTable, assignedTable, lineTable, permissionTable, attributeTable, kindTable, domainTable, recordWith, recordOf}
 use Rattle.role_record.specs.RecordLaws.{table-get, table-ext}
 use Rattle.role_record.specs.declared.RoleFile.{RoleFile}
@@ -61,8 +61,8 @@ module _ (a s : List ℕ) (n : ℕ) (few : n ≤ 32) (e : Edit) (v : ℕ) (other
   granted-kept : (p : List ℕ) (r o : ℕ) → grantedBy (heldTable (assignedAs a e) s n) p n v r o ≡ grantedBy (heldTable a s n) p n v r o
   unfolding grantedBy
   granted-kept p r o =
-      any-ext (λ k. among (heldTable (assignedAs a e) s n) k v && bit (getD p (cellAt k o) 0) r) (λ k. among (heldTable a s n) k v && bit (getD p (cellAt k o) 0) r) (upTo n)
-      (λ k m. let h = upTo-out n m in ap (λ (b : Bool). b && bit (getD p (cellAt k o) 0) r) (held-kept k (omega (arith, h, few))))
+      any-ext (λ k. among (heldTable (assignedAs a e) s n) k v && bit (getD p (permissionAt k o) 0) r) (λ k. among (heldTable a s n) k v && bit (getD p (permissionAt k o) 0) r) (upTo n)
+      (λ k m. let h = upTo-out n m in ap (λ (b : Bool). b && bit (getD p (permissionAt k o) 0) r) (held-kept k (omega (arith, h, few))))
 
 -- a record within the limits, and its filled table: an edit leaves the filled table of the new record
 module _ (f : RoleFile) (few : f .roles ≤ 32) (e : Edit) where

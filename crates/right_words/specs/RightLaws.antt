@@ -13,7 +13,7 @@ use Rattle.grant_grids.specs.Updates.{updated, span}
 use Rattle.grant_grids.specs.UpdateLaws.{updated-long, updated-none, updated-same, updated-twice, span-in, span-out}
 use Rattle.grant_values.specs.PlaceValues.{heldRoles}
 use Rattle.right_words.specs.Rights.{rightsWord, rightsTable, refreshed, heldWithin, permittedBy, wordBy}
-use Rattle.role_record.specs.Cells.{rowCells, rowStart, cellAt, cellRow, cellOperation, userCells}
+use Rattle.role_record.specs.Cells.{permissionAt, rowCells, rowStart, cellAt, cellRow, cellOperation, userCells}
 use Rattle.role_record.specs.CellsLaws.{cell-parts}
 use Rattle.role_record.specs.Record.{WithinLimits}
 use Rattle.role_record.specs.RecordLaws.{table-ext, table-length}
@@ -47,33 +47,33 @@ module _ (n : Sizes) (W : WithinLimits n) (holders permissions : List ℕ) where
   permitted-granted : (u r o : ℕ) → ltb u (n .users) ≡ true → r < 64 → bit (permittedBy (heldWithin n holders u) permissions o) r ≡ grantedBy holders permissions (n .roles) u r o
   unfolding permittedBy grantedBy
   permitted-granted u r o h l =
-      bit-mask 64 (λ r. any (λ k. bit (heldWithin n holders u) k && bit (getD permissions (cellAt k o) 0) r) (upTo 64)) r l
-      ∙ same (any (λ k. bit (heldWithin n holders u) k && bit (getD permissions (cellAt k o) 0) r) (upTo 64)) (any (λ k. bit (getD holders k 0) u && bit (getD permissions (cellAt k o) 0) r) (upTo (n .roles))) there back
+      bit-mask 64 (λ r. any (λ k. bit (heldWithin n holders u) k && bit (getD permissions (permissionAt k o) 0) r) (upTo 64)) r l
+      ∙ same (any (λ k. bit (heldWithin n holders u) k && bit (getD permissions (permissionAt k o) 0) r) (upTo 64)) (any (λ k. bit (getD holders k 0) u && bit (getD permissions (permissionAt k o) 0) r) (upTo (n .roles))) there back
     where
-      there : Is (any (λ k. bit (heldWithin n holders u) k && bit (getD permissions (cellAt k o) 0) r) (upTo 64)) → Is (any (λ k. bit (getD holders k 0) u && bit (getD permissions (cellAt k o) 0) r) (upTo (n .roles)))
+      there : Is (any (λ k. bit (heldWithin n holders u) k && bit (getD permissions (permissionAt k o) 0) r) (upTo 64)) → Is (any (λ k. bit (getD holders k 0) u && bit (getD permissions (permissionAt k o) 0) r) (upTo (n .roles)))
       there p =
-          let t = any-out (λ k. bit (heldWithin n holders u) k && bit (getD permissions (cellAt k o) 0) r) (upTo 64) p in
+          let t = any-out (λ k. bit (heldWithin n holders u) k && bit (getD permissions (permissionAt k o) 0) r) (upTo 64) p in
           let k = t .0 in
-          let held = sym (held-bit u k h) ∙ and-l (bit (heldWithin n holders u) k) (bit (getD permissions (cellAt k o) 0) r) (t .2) in
-          any-in (λ k. bit (getD holders k 0) u && bit (getD permissions (cellAt k o) 0) r) (upTo-in (ltb-true k (n .roles) (and-l (ltb k (n .roles)) (bit (getD holders k 0) u) held)))
-          (and-in (and-r (ltb k (n .roles)) (bit (getD holders k 0) u) held) (and-r (bit (heldWithin n holders u) k) (bit (getD permissions (cellAt k o) 0) r) (t .2)))
+          let held = sym (held-bit u k h) ∙ and-l (bit (heldWithin n holders u) k) (bit (getD permissions (permissionAt k o) 0) r) (t .2) in
+          any-in (λ k. bit (getD holders k 0) u && bit (getD permissions (permissionAt k o) 0) r) (upTo-in (ltb-true k (n .roles) (and-l (ltb k (n .roles)) (bit (getD holders k 0) u) held)))
+          (and-in (and-r (ltb k (n .roles)) (bit (getD holders k 0) u) held) (and-r (bit (heldWithin n holders u) k) (bit (getD permissions (permissionAt k o) 0) r) (t .2)))
 
-      back : Is (any (λ k. bit (getD holders k 0) u && bit (getD permissions (cellAt k o) 0) r) (upTo (n .roles))) → Is (any (λ k. bit (heldWithin n holders u) k && bit (getD permissions (cellAt k o) 0) r) (upTo 64))
+      back : Is (any (λ k. bit (getD holders k 0) u && bit (getD permissions (permissionAt k o) 0) r) (upTo (n .roles))) → Is (any (λ k. bit (heldWithin n holders u) k && bit (getD permissions (permissionAt k o) 0) r) (upTo 64))
       back p =
-          let t = any-out (λ k. bit (getD holders k 0) u && bit (getD permissions (cellAt k o) 0) r) (upTo (n .roles)) p in
+          let t = any-out (λ k. bit (getD holders k 0) u && bit (getD permissions (permissionAt k o) 0) r) (upTo (n .roles)) p in
           let k = t .0 in
           let low = upTo-out (n .roles) (t .1) in
           let few = W .3 in
-          any-in (λ k. bit (heldWithin n holders u) k && bit (getD permissions (cellAt k o) 0) r) (upTo-in {n = 64} {i = k} (omega (arith, low, few)))
-          (and-in (held-bit u k h ∙ and-in (lt-ltb k (n .roles) low) (and-l (bit (getD holders k 0) u) (bit (getD permissions (cellAt k o) 0) r) (t .2))) (and-r (bit (getD holders k 0) u) (bit (getD permissions (cellAt k o) 0) r) (t .2)))
+          any-in (λ k. bit (heldWithin n holders u) k && bit (getD permissions (permissionAt k o) 0) r) (upTo-in {n = 64} {i = k} (omega (arith, low, few)))
+          (and-in (held-bit u k h ∙ and-in (lt-ltb k (n .roles) low) (and-l (bit (getD holders k 0) u) (bit (getD permissions (permissionAt k o) 0) r) (t .2))) (and-r (bit (getD holders k 0) u) (bit (getD permissions (permissionAt k o) 0) r) (t .2)))
 
   -- no role, nothing permitted
   none-permitted : (r o : ℕ) → r < 64 → bit (permittedBy 0 permissions o) r ≡ false
   unfolding permittedBy
   none-permitted r o l =
-      bit-mask 64 (λ r. any (λ k. bit 0 k && bit (getD permissions (cellAt k o) 0) r) (upTo 64)) r l
-      ∙ fails (any (λ k. bit 0 k && bit (getD permissions (cellAt k o) 0) r) (upTo 64))
-      (λ p. let t = any-out (λ k. bit 0 k && bit (getD permissions (cellAt k o) 0) r) (upTo 64) p in never (and-l (bit 0 (t .0)) (bit (getD permissions (cellAt (t .0) o) 0) r) (t .2)) (bit-none (t .0)))
+      bit-mask 64 (λ r. any (λ k. bit 0 k && bit (getD permissions (permissionAt k o) 0) r) (upTo 64)) r l
+      ∙ fails (any (λ k. bit 0 k && bit (getD permissions (permissionAt k o) 0) r) (upTo 64))
+      (λ p. let t = any-out (λ k. bit 0 k && bit (getD permissions (permissionAt k o) 0) r) (upTo 64) p in never (and-l (bit 0 (t .0)) (bit (getD permissions (permissionAt (t .0) o) 0) r) (t .2)) (bit-none (t .0)))
 
   none-held : (u : ℕ) → ltb u (n .users) ≡ false → heldWithin n holders u ≡ 0
   unfolding heldWithin

@@ -8,7 +8,7 @@ use mathlib.Core.Bool.{cond, _&&_}
 use mathlib.Core.List.{List}
 use Rattle.grant_grids.specs.Grid.{grantedBy}
 use Rattle.grant_values.specs.PlaceValues.{heldRoles}
-use Rattle.role_record.specs.Cells.{cellAt, cellRow, cellOperation, userCells}
+use Rattle.role_record.specs.Cells.{permissionAt, cellRow, cellOperation, userCells}
 use Rattle.role_record.specs.Record.{tableOf}
 use Rattle.role_record.specs.declared.Sizes.{Sizes}
 use Rattle.sets.specs.Sets.{bit, maskOf}
@@ -39,7 +39,7 @@ heldWithin n holders u = cond (ltb u (n .users)) (heldRoles holders (n .roles) u
 
 unfoldable pub permittedBy : ℕ → List ℕ → ℕ → ℕ
 permittedBy held permissions o =
-    maskOf 64 (λ r. any (λ k. bit held k && bit (getD permissions (cellAt k o) 0) r) (upTo 64))
+    maskOf 64 (λ r. any (λ k. bit held k && bit (getD permissions (permissionAt k o) 0) r) (upTo 64))
 
 -- within the sizes
 unfoldable pub wordBy : Sizes → ℕ → List ℕ → ℕ → ℕ

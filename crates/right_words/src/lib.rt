@@ -4,7 +4,7 @@ ghost use lib.ListN.{length};
 ghost use mathlib.Core.Path.{_≡_};
 ghost use Prim.Native.Nat.{_^_, _<_};
 ghost use Rattle.right_words.specs.Rights.{permittedBy, heldWithin, wordBy, refreshed, rightsTable};
-ghost use Rattle.role_record.specs.Cells.{rowCells, userCells};
+ghost use Rattle.role_record.specs.Cells.{mostOperations, rowCells, userCells};
 ghost use Rattle.role_record.specs.Record.{WithinLimits};
 use role_record::ByRole;
 use role_record::ByRoleOperation;
@@ -14,14 +14,14 @@ use role_record::Sizes;
 // What some roles are permitted under an operation, taken together. Most users hold few roles, and only those are looked
 // at.
 fn permitted(held: u64, permissions: &ByRoleOperation, operation: usize) -> u64
-    requires { ⌜ (held < 2 ^ 32) × (operation < rowCells) ⌝ }
+    requires { ⌜ (held < 2 ^ 32) × (operation < mostOperations) ⌝ }
     ensures { λ r. ⌜ r ≡ permittedBy held (now (permissions .entry)) operation ⌝ }
 {
     let mut all: u64 = 0;
     let mut rest = held;
     while 0 < rest {
         let k = sets::least(rest);
-        all = sets::union(all, permissions[RoleFile::OPERATIONS * k + operation]);
+        all = sets::union(all, permissions[RoleFile::ROLES * operation + k]);
         rest = sets::without_least(rest);
     }
     all

@@ -8,8 +8,8 @@ use mathlib.Core.Bool.{false, _&&_}
 use mathlib.Core.Logic.{_⊎_, inl, inr}
 use mathlib.Core.Path.{_≡_, sym, ap, ap₂, _∙_}
 use native.Mathlib.Omega.{arith}
-use Rattle.role_record.specs.Cells.{rowCells, cellAt, cellRow, cellOperation, roleCells}
-use Rattle.role_record.specs.CellsLaws.{cell-parts}
+use Rattle.role_record.specs.Cells.{mostOperations, permissionAt, permissionRole, permissionOperation, permissionCells}
+use Rattle.role_record.specs.CellsLaws.{permission-parts}
 use Rattle.role_record.specs.Record.{Sized, permissionTable, recordWith, recordOf}
 use Rattle.role_record.specs.RecordLaws.{table-get}
 use Rattle.policy.specs.PartLaws.{alike-out, alike-in}
@@ -28,11 +28,11 @@ unfoldable pub permittedOn : Policy → ℕ → ℕ → ℕ
 permittedOn F k o = maskOf 64 (λ r. F .permitted k r o)
 
 module _ (F : Policy) (Z : Sized F) where
-  pub row-shown : (k o : ℕ) → k < 32 → o < rowCells → getD (permissionTable F) (cellAt k o) 0 ≡ permittedOn F k o
+  pub row-shown : (k o : ℕ) → k < 32 → o < mostOperations → getD (permissionTable F) (permissionAt k o) 0 ≡ permittedOn F k o
   unfolding permissionTable permittedOn
   row-shown k o hk ho =
-      table-get roleCells (λ i. maskOf 64 (λ r. F .permitted (cellRow i) r (cellOperation i))) (cellAt k o) (omega arith)
-      ∙ cell-parts (λ x y. maskOf 64 (λ r. F .permitted x r y)) k o ho
+      table-get (permissionCells mostOperations) (λ i. maskOf 64 (λ r. F .permitted (permissionRole i) r (permissionOperation i))) (permissionAt k o) (omega arith)
+      ∙ permission-parts (λ x y. maskOf 64 (λ r. F .permitted x r y)) k o hk
 
   pub holders-shown : (k : ℕ) → k < 32 → getD (recordOf F .holders) k 0 ≡ maskOf 64 (held F k)
   unfolding recordOf recordWith
@@ -61,8 +61,8 @@ module _ (F : Policy) (Z : Sized F) where
 
   -- ---- what the tables grant
 
-  role-grants : (u r o k : ℕ) → u < 64 → r < 64 → o < rowCells → k < 32
-      → (bit (getD (recordOf F .holders) k 0) u && bit (getD (recordOf F .permissions) (cellAt k o) 0) r) ≡ (held F k u && F .permitted k r o)
+  role-grants : (u r o k : ℕ) → u < 64 → r < 64 → o < mostOperations → k < 32
+      → (bit (getD (recordOf F .holders) k 0) u && bit (getD (recordOf F .permissions) (permissionAt k o) 0) r) ≡ (held F k u && F .permitted k r o)
   unfolding recordOf recordWith permittedOn
   role-grants u r o k hu hr ho hk =
       ap₂ _&&_
@@ -71,7 +71,7 @@ module _ (F : Policy) (Z : Sized F) where
 
   -- some role that the user holds has the permission, by the tables
   pub record-grants : (u r o : ℕ) → Triple (settingOf F) u r o
-      → any (λ k. bit (getD (recordOf F .holders) k 0) u && bit (getD (recordOf F .permissions) (cellAt k o) 0) r) (upTo (F .roles)) ≡ rolesGrant (settingOf F) (rolesIn F) u r o
+      → any (λ k. bit (getD (recordOf F .holders) k 0) u && bit (getD (recordOf F .permissions) (permissionAt k o) 0) r) (upTo (F .roles)) ≡ rolesGrant (settingOf F) (rolesIn F) u r o
   unfolding settingOf sideOf
   record-grants u r o t =
       let lu = t .user in
@@ -81,6 +81,6 @@ module _ (F : Policy) (Z : Sized F) where
       let mr = Z .many resource in
       let mo = Z .operable in
       let mk = Z .few in
-      any-ext (λ k. bit (getD (recordOf F .holders) k 0) u && bit (getD (recordOf F .permissions) (cellAt k o) 0) r) (λ k. held F k u && F .permitted k r o) (upTo (F .roles))
+      any-ext (λ k. bit (getD (recordOf F .holders) k 0) u && bit (getD (recordOf F .permissions) (permissionAt k o) 0) r) (λ k. held F k u && F .permitted k r o) (upTo (F .roles))
       (λ k m. let l = upTo-out (F .roles) m in role-grants u r o k (omega arith) (omega arith) (omega arith) (omega arith))
       ∙ sym (granted F u r o t)

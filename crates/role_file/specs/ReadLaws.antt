@@ -11,7 +11,7 @@ use mathlib.Core.Option.{some}
 use mathlib.Core.Path.{_≡_, refl, sym, ap, ap₂, _∙_, subst}
 use native.Mathlib.Omega.{arith}
 use Rattle.role_admit.specs.AdmitLaws.{phaseCode, side-attributes}
-use Rattle.role_record.specs.Cells.{rowCells}
+use Rattle.role_record.specs.Cells.{mostOperations}
 use Rattle.role_record.specs.Record.{Sized, knownTable, valueTable, assignedTable, lineTable, permissionTable, attributeTable, kindTable, domainTable, recordWith, recordSoFar, setKinds, setValues, setAssigned, setLines, setPermissions}
 use Rattle.role_commands.specs.DecodeLaws.{meaning}
 use Rattle.files.specs.Answer.{Answer, unless, andThen, outOfPlace, beyond, wrongKind, accepted}
@@ -137,7 +137,7 @@ module _ (F : Policy) where
   unfolding applied storedBy recordSoFar recordWith
   assign-shows k u h = ap (λ (l : List ℕ). setAssigned (recordSoFar F) l) (assigned-marked F k u h) ∙ assigned-else F k u
 
-  permit-shows : (k r o : ℕ) → k < 32 → o < rowCells → applied (recordSoFar F) (Permit k r o) ≡ recordSoFar (withPermitted F k r o)
+  permit-shows : (k r o : ℕ) → k < 32 → o < mostOperations → applied (recordSoFar F) (Permit k r o) ≡ recordSoFar (withPermitted F k r o)
   unfolding applied storedBy recordSoFar recordWith
   permit-shows k r o h l = ap (λ (t : List ℕ). setPermissions (recordSoFar F) t) (permission-marked F k r o h l) ∙ permitted-else F k r o
 
@@ -208,7 +208,7 @@ module _ (F : Policy) (Z : Sized F) where
       let lk = ltb-true k (F .roles) (a .0) in
       let lo = ltb-true o (F .operations) (a .2) in
       let hk : k < 32 = omega arith in
-      let ho : o < rowCells = omega arith in
+      let ho : o < mostOperations = omega arith in
       ((hk, ho), permit-shows F k r o hk ho, record { many = Z .many; declared = Z .declared; operable = Z .operable; few = Z .few; lined = Z .lined; assigned-to = Z .assigned-to; permits = more k r o lk (ltb-true r (F .table resource .count) (a .1)) lo })
     where
       more : (k r o : ℕ) → k < F .roles → r < F .table resource .count → o < F .operations → (j q v : ℕ) → Is ((eqb j k && (eqb q r && eqb v o)) || F .permitted j q v) → (j < F .roles) × (q < F .table resource .count) × (v < F .operations)

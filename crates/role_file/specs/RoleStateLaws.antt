@@ -10,7 +10,7 @@ use mathlib.Core.Path.{_≡_, refl, sym, ap, ap₂, _∙_, subst}
 use native.Mathlib.Omega.{arith}
 use Rattle.role_admit.specs.Admit.{admitOf}
 use Rattle.role_admit.specs.AdmitLaws.{phaseCode, admit-means}
-use Rattle.role_record.specs.Cells.{roleCells}
+use Rattle.role_record.specs.Cells.{mostOperations, permissionCells}
 use Rattle.role_record.specs.Record.{Sized, emptyRecord, tableOf, knownTable, valueTable, assignedTable, lineTable, permissionTable, attributeTable, kindTable, recordWith, recordSoFar, setValues, setAssigned, setLines, setPermissions, setKinds, domainTable}
 use Rattle.role_commands.specs.Decode.{decodedOf}
 use Rattle.role_commands.specs.DecodeLaws.{meaning, turn-short, turn-unknown, Front, turn-whole}
@@ -81,7 +81,7 @@ too-long s h = rw (lt-leb (length s) 65535 h) refl
 
 empty-shows : emptyRecord ≡ recordSoFar (blank 0 0 0 0)
 unfolding emptyRecord recordSoFar recordWith attributeTable kindTable domainTable knownTable valueTable assignedTable lineTable permissionTable blank maskOf
-empty-shows = ap (λ (d : List ℕ). setKinds emptyRecord (emptyRecord .attributes) (emptyRecord .kinds) d) (table-none 12) ∙ ap₂ (λ (k v : List ℕ). setValues domainless k v) (table-none 12) (table-none 768) ∙ ap₂ (λ (a l : List ℕ). setLines (setAssigned (setValues domainless (tableOf 12 (λ i. 0)) (tableOf 768 (λ i. 0))) a) l) (table-none 32) (table-none 32) ∙ ap (λ (l : List ℕ). setPermissions (setLines (setAssigned (setValues domainless (tableOf 12 (λ i. 0)) (tableOf 768 (λ i. 0))) (tableOf 32 (λ i. 0))) (tableOf 32 (λ i. 0))) l) (table-none roleCells)
+empty-shows = ap (λ (d : List ℕ). setKinds emptyRecord (emptyRecord .attributes) (emptyRecord .kinds) d) (table-none 12) ∙ ap₂ (λ (k v : List ℕ). setValues domainless k v) (table-none 12) (table-none 768) ∙ ap₂ (λ (a l : List ℕ). setLines (setAssigned (setValues domainless (tableOf 12 (λ i. 0)) (tableOf 768 (λ i. 0))) a) l) (table-none 32) (table-none 32) ∙ ap (λ (l : List ℕ). setPermissions (setLines (setAssigned (setValues domainless (tableOf 12 (λ i. 0)) (tableOf 768 (λ i. 0))) (tableOf 32 (λ i. 0))) (tableOf 32 (λ i. 0))) l) (table-none (permissionCells mostOperations))
   where
     domainless : RoleFile
     domainless = setKinds emptyRecord (emptyRecord .attributes) (emptyRecord .kinds) (tableOf 12 (λ i. 0))

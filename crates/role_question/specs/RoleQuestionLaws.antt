@@ -7,7 +7,7 @@ use lib.ListN.{getD}
 use mathlib.Core.Bool.{Bool, true, false, cond, _&&_}
 use mathlib.Core.List.{List, _∷_}
 use mathlib.Core.Path.{_≡_, refl, sym, ap, _∙_, subst}
-use Rattle.role_record.specs.Cells.{cellAt}
+use Rattle.role_record.specs.Cells.{permissionAt}
 use Rattle.role_record.specs.Record.{Sized, recordWith, recordOf}
 use Rattle.role_admit.specs.RoleTableLaws.{record-grants}
 use Rattle.files.specs.Answer.{Refusal, numberOf, Answer, told, unless, andThen, beyond, refused, accepted}
@@ -33,7 +33,7 @@ asked l u r o =
     (cond (ltb u (l .file .users))
     (cond (ltb r (l .file .resources))
     (cond (ltb o (l .file .operations))
-    (cond (any (λ k. bit (getD (l .file .holders) k 0) u && bit (getD (l .file .permissions) (cellAt k o) 0) r) (upTo (l .file .roles))) Yes No)
+    (cond (any (λ k. bit (getD (l .file .holders) k 0) u && bit (getD (l .file .permissions) (permissionAt k o) 0) r) (upTo (l .file .roles))) Yes No)
     (Refused 5)) (Refused 5)) (Refused 5)) (Refused (l .code))
 
 -- yes or no in numbers
@@ -47,7 +47,7 @@ module _ (F : Policy) (Z : Sized F) where
   answered u r o = go (ltb u (F .table user .count)) refl (ltb r (F .table resource .count)) refl (ltb o (F .operations)) refl
     where
       grants : Bool
-      grants = any (λ k. bit (getD (recordOf F .holders) k 0) u && bit (getD (recordOf F .permissions) (cellAt k o) 0) r) (upTo (F .roles))
+      grants = any (λ k. bit (getD (recordOf F .holders) k 0) u && bit (getD (recordOf F .permissions) (permissionAt k o) 0) r) (upTo (F .roles))
 
       inside : ltb u (F .table user .count) ≡ true → ltb r (F .table resource .count) ≡ true → ltb o (F .operations) ≡ true → grants ≡ rolesGrant (settingOf F) (rolesIn F) u r o
       inside p q s = record-grants F Z u r o (record { user = ltb-true u (F .table user .count) p; resource = ltb-true r (F .table resource .count) q; op = ltb-true o (F .operations) s })
@@ -79,7 +79,7 @@ module _ (l : Loaded) (u r o : ℕ) where
   asked-refused h = rw (ne-eqb (l .code) 0 h) refl
 
   pub asked-by : (a b c d : Bool) → l .code ≡ 0 → ltb u (l .file .users) ≡ a → ltb r (l .file .resources) ≡ b → ltb o (l .file .operations) ≡ c
-      → any (λ k. bit (getD (l .file .holders) k 0) u && bit (getD (l .file .permissions) (cellAt k o) 0) r) (upTo (l .file .roles)) ≡ d
+      → any (λ k. bit (getD (l .file .holders) k 0) u && bit (getD (l .file .permissions) (permissionAt k o) 0) r) (upTo (l .file .roles)) ≡ d
       → asked l u r o ≡ cond a (cond b (cond c (cond d Yes No) (Refused 5)) (Refused 5)) (Refused 5)
   unfolding asked
   asked-by a b c d h p q s t = rw (eq-eqb (l .code) 0 h, p, q, s, t) refl

@@ -5,7 +5,7 @@ ghost use Prim.Native.Nat.{_≤_, _<_};
 ghost use lib.ListN.{getD};
 ghost use Rattle.files.specs.Answer.{told};
 ghost use Rattle.files.specs.Calls.{yesNo, roleQuestion};
-ghost use Rattle.role_record.specs.Cells.{rowCells, cellAt};
+ghost use Rattle.role_record.specs.Cells.{mostOperations, permissionAt};
 ghost use Rattle.sets.specs.Sets.{bit};
 ghost use Rattle.sets.specs.Tests.{any, upTo};
 ghost use Rattle.role_question.specs.Reply.{replyNumbers};
@@ -39,20 +39,20 @@ fn granted<'a>(
     resource: usize,
     operation: usize,
 ) -> bool
-    requires { ⌜ (roles ≤ 32) × (operation < rowCells) ⌝ }
+    requires { ⌜ (roles ≤ 32) × (operation < mostOperations) ⌝ }
     ensures { λ r. ⌜
         r
         ≡ any
         (λ k.
         bit (getD (now (holders .entry)) k 0) user
-        && bit (getD (now (permissions .entry)) (cellAt k operation) 0) resource)
+        && bit (getD (now (permissions .entry)) (permissionAt k operation) 0) resource)
         (upTo roles) ⌝ }
 {
     for k in 0..roles {
         if in_both(
             holders[k],
             user,
-            permissions[RoleFile::OPERATIONS * k + operation],
+            permissions[RoleFile::ROLES * operation + k],
             resource,
         ) {
             return true;

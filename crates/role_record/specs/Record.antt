@@ -7,7 +7,7 @@ use mathlib.Core.Bool.{Bool, true, false, cond, _||_}
 use mathlib.Core.List.{List, [], _∷_, map}
 use mathlib.Core.Option.{Option, none, some}
 use Rattle.files.specs.RuleFile.{operations}
-use Rattle.role_record.specs.Cells.{cellRow, cellOperation, roleCells}
+use Rattle.role_record.specs.Cells.{mostOperations, permissionRole, permissionOperation, permissionCells}
 use Rattle.role_record.specs.declared.RoleFile.{RoleFile}
 use Rattle.role_record.specs.declared.Sizes.{Sizes}
 use Rattle.policy.specs.Covering.{known}
@@ -30,7 +30,7 @@ emptyRecord = record {
   values = replicate 768 0;
   assigned = replicate 32 0;
   lines = replicate 32 0;
-  permissions = replicate roleCells 0;
+  permissions = replicate (permissionCells mostOperations) 0;
   seniors = replicate 32 0;
   holders = replicate 32 0;
 }
@@ -78,7 +78,7 @@ module _ (F : Policy) where
   lineTable = tableOf 32 (λ k. maskOf 64 (F .line k))
 
   unfoldable pub permissionTable : List ℕ
-  permissionTable = tableOf roleCells (λ i. maskOf 64 (λ r. F .permitted (cellRow i) r (cellOperation i)))
+  permissionTable = tableOf (permissionCells mostOperations) (λ i. maskOf 64 (λ r. F .permitted (permissionRole i) r (permissionOperation i)))
 
   unfoldable pub attributeTable : List ℕ
   attributeTable = length (F .table user .kinds) ∷ length (F .table resource .kinds) ∷ []

@@ -10,8 +10,8 @@ use mathlib.Core.Option.{Option, some}
 use mathlib.Core.Path.{_≡_, refl, sym, ap, ap₂, _∙_, subst}
 use native.Mathlib.Omega.{arith}
 use Rattle.files.specs.RoleFile.{sideBy, sameSide, withTable, withKind, withValue, withAssigned, withPermitted, withLine}
-use Rattle.role_record.specs.Cells.{rowCells, cellAt, cellRow, cellOperation, roleCells}
-use Rattle.role_record.specs.CellsLaws.{cell-same}
+use Rattle.role_record.specs.Cells.{mostOperations, permissionAt, permissionRole, permissionOperation, permissionCells}
+use Rattle.role_record.specs.CellsLaws.{permission-same}
 use Rattle.role_record.specs.Record.{tableOf, columnSide, numberOr, marked, markedIf, knownTable, valueTable, assignedTable, lineTable, permissionTable, attributeTable, kindTable, Sized, domainTable, sameDomain}
 use Rattle.policy.specs.Policy.{Table, Policy, kindOf, one, settingOf, sideOf}
 use Rattle.policy.specs.Rules.{Which, user, resource}
@@ -107,13 +107,13 @@ module _ (F : Policy) where
   unfolding lineTable withLine
   line-marked j s h = table-mark 32 (F .line) j s h
 
-  pub permission-marked : (k r o : ℕ) → k < 32 → o < rowCells → set (permissionTable F) (cellAt k o) (marked (getD (permissionTable F) (cellAt k o) 0) r) ≡ permissionTable (withPermitted F k r o)
+  pub permission-marked : (k r o : ℕ) → k < 32 → o < mostOperations → set (permissionTable F) (permissionAt k o) (marked (getD (permissionTable F) (permissionAt k o) 0) r) ≡ permissionTable (withPermitted F k r o)
   unfolding permissionTable withPermitted
   permission-marked k r o hk ho =
-      table-mark roleCells (λ i q. F .permitted (cellRow i) q (cellOperation i)) (cellAt k o) r (omega arith)
-      ∙ table-ext roleCells (λ i. maskOf 64 (λ v. (eqb i (cellAt k o) && eqb v r) || F .permitted (cellRow i) v (cellOperation i))) (λ i. maskOf 64 (λ q. (eqb (cellRow i) k && (eqb q r && eqb (cellOperation i) o)) || F .permitted (cellRow i) q (cellOperation i)))
-      (λ i l. mask-same 64 (λ v. (eqb i (cellAt k o) && eqb v r) || F .permitted (cellRow i) v (cellOperation i)) (λ q. (eqb (cellRow i) k && (eqb q r && eqb (cellOperation i) o)) || F .permitted (cellRow i) q (cellOperation i))
-      (λ q m. ap (λ (b : Bool). b || F .permitted (cellRow i) q (cellOperation i)) (ap (λ (b : Bool). b && eqb q r) (cell-same i k o ho) ∙ shuffled (eqb (cellRow i) k) (eqb (cellOperation i) o) (eqb q r))))
+      table-mark (permissionCells mostOperations) (λ i q. F .permitted (permissionRole i) q (permissionOperation i)) (permissionAt k o) r (omega arith)
+      ∙ table-ext (permissionCells mostOperations) (λ i. maskOf 64 (λ v. (eqb i (permissionAt k o) && eqb v r) || F .permitted (permissionRole i) v (permissionOperation i))) (λ i. maskOf 64 (λ q. (eqb (permissionRole i) k && (eqb q r && eqb (permissionOperation i) o)) || F .permitted (permissionRole i) q (permissionOperation i)))
+      (λ i l. mask-same 64 (λ v. (eqb i (permissionAt k o) && eqb v r) || F .permitted (permissionRole i) v (permissionOperation i)) (λ q. (eqb (permissionRole i) k && (eqb q r && eqb (permissionOperation i) o)) || F .permitted (permissionRole i) q (permissionOperation i))
+      (λ q m. ap (λ (b : Bool). b || F .permitted (permissionRole i) q (permissionOperation i)) (ap (λ (b : Bool). b && eqb q r) (permission-same i k o hk) ∙ shuffled (eqb (permissionRole i) k) (eqb (permissionOperation i) o) (eqb q r))))
     where
       shuffled : (a b c : Bool) → (a && b && c) ≡ (a && (c && b))
       shuffled true true true = refl

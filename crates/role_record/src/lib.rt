@@ -38,7 +38,7 @@ pub struct Sizes {
 }
 
 // Tables, each named by what its words belong to. Sides are 0 for users and 1 for resources; of two or more things the last goes
-// fastest: role k and operation o have word OPERATIONS * k + o.
+// fastest, but that operations go slowest: role k and operation o have word ROLES * o + k.
 pub type CountBySide = [usize; RoleFile::SIDES];
 
 pub type BySide = [u64; RoleFile::SIDES];
@@ -59,7 +59,7 @@ pub type ByMember = [u64; RoleFile::MEMBERS];
 // By attribute and member.
 pub type Values = [u64; RoleFile::SIDES * RoleFile::ATTRIBUTES * RoleFile::MEMBERS];
 
-// By user and operation: a set of resources.
+// By user and operation: a set of resources. User u and operation o have word USERS * o + u.
 pub type Grid = [u64; RoleFile::USERS * RoleFile::OPERATIONS];
 
 // By atom and user: the resources that the atom joins with the user.

@@ -6,7 +6,7 @@ use lib.ListN.{getD, set}
 use mathlib.Core.Bool.{Bool}
 use mathlib.Core.List.{List}
 use mathlib.Core.Path.{_≡_, refl, ap, ap₂, _∙_}
-use Rattle.role_record.specs.Cells.{cellAt}
+use Rattle.role_record.specs.Cells.{permissionAt}
 use Rattle.role_record.specs.Record.{markedIf}
 use Rattle.role_commands.specs.declared.Command.the-variants.{Sizes, Declare, Give, Assign, Permit, Line, End}
 use Rattle.role_store.specs.Storing.{added, tabled, storedBy}
@@ -29,7 +29,7 @@ module _ (cs ks ds ns vs us ls ps : List ℕ) where
   unfolding storedBy
   assign-stored k u t e = ap (λ (x : List ℕ). tabled cs ks ds ns vs x ls ps) e
 
-  pub permit-stored : (k r o : ℕ) (t : List ℕ) → t ≡ added ps (cellAt k o) r → tabled cs ks ds ns vs us ls t ≡ storedBy (tabled cs ks ds ns vs us ls ps) (Permit k r o)
+  pub permit-stored : (k r o : ℕ) (t : List ℕ) → t ≡ added ps (permissionAt k o) r → tabled cs ks ds ns vs us ls t ≡ storedBy (tabled cs ks ds ns vs us ls ps) (Permit k r o)
   unfolding storedBy
   permit-stored k r o t e = ap (λ (x : List ℕ). tabled cs ks ds ns vs us ls x) e
 

@@ -3,7 +3,7 @@
 use Prim.Native.Nat.{ℕ, _+_, _*_, _<_}
 use lib.Dec.{eqb}
 use lib.ListN.{getD, set}
-use Rattle.role_record.specs.Cells.{rowCells, cellAt}
+use Rattle.role_record.specs.Cells.{mostOperations, permissionAt}
 use Rattle.role_record.specs.Record.{emptyRecord, marked, markedIf, setSizes, setKinds, setValues, setAssigned, setLines, setPermissions}
 use Rattle.role_record.specs.declared.RoleFile.{RoleFile}
 use Rattle.role_commands.specs.declared.Command.{Command}
@@ -17,7 +17,7 @@ Bounded attributes (Sizes u r o k) = Unit {0}
 Bounded attributes (Declare side kind domain) = (side < 2) × (getD attributes side 0 < 6)
 Bounded attributes (Give kind side a x v) = (side < 2) × (a < 6) × (x < 64)
 Bounded attributes (Assign k u) = k < 32
-Bounded attributes (Permit k r o) = (k < 32) × (o < rowCells)
+Bounded attributes (Permit k r o) = (k < 32) × (o < mostOperations)
 Bounded attributes (Line j k) = j < 32
 Bounded attributes End = Unit {0}
 
@@ -41,7 +41,7 @@ storedBy f (Declare side kind domain) =
     (set (f .domains) (6 * side + getD (f .attributes) side 0) domain)
 storedBy f (Give kind side a x v) = setValues f (added (f .known) (6 * side + a) x) (set (f .values) (64 * (6 * side + a) + x) v)
 storedBy f (Assign k u) = setAssigned f (added (f .assigned) k u)
-storedBy f (Permit k r o) = setPermissions f (added (f .permissions) (cellAt k o) r)
+storedBy f (Permit k r o) = setPermissions f (added (f .permissions) (permissionAt k o) r)
 storedBy f (Line j s) = setLines f (added (f .lines) j s)
 storedBy f End = f
 

@@ -122,7 +122,7 @@ pub fn store(
             resource,
             operation,
         } => {
-            let i = RoleFile::OPERATIONS * role + operation;
+            let i = RoleFile::ROLES * operation + role;
             add(permissions, i, resource);
             phase::TELLING
         }

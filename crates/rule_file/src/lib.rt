@@ -1,11 +1,13 @@
 // Reads a role file and, beside it, a rule file of any length.
+ghost use lib.ListN.{length, take};
 ghost use mathlib.Core.Path.{_≡_};
+ghost use Prim.Native.Nat.{_≤_};
 ghost use Rattle.files.specs.Calls.{readBoth};
 ghost use Rattle.policy.specs.Policy.{Policy};
-ghost use Rattle.rule_reading.specs.BothFiles.{nothingRead, bothOf};
+ghost use Rattle.role_record.specs.Cells.{mostOperations, gridCells};
+ghost use Rattle.rule_reading.specs.BothFiles.{nothingRead, bothOf, GridShown};
 ghost use Rattle.rule_reading.specs.Turns.{bothWith, Tabled, readBeside};
 use role_record::ByRole;
-use role_record::Grid;
 use role_record::Links;
 use role_record::RoleFile;
 use role_record::Sizes;
@@ -21,7 +23,6 @@ fn refuse(n: usize) -> BothFiles
         code: n,
         file: e,
         rules: 0,
-        grid: [0u64; RoleFile::USERS * RoleFile::OPERATIONS],
         strays: false,
         stray: 0,
         seen: [0u64; RoleFile::ROLES],
@@ -30,14 +31,13 @@ fn refuse(n: usize) -> BothFiles
 }
 
 // A rule file that was read to its end.
-fn accept(f: RoleFile, k: Tally, grid: Grid, seen: ByRole, again: ByRole) -> BothFiles
-    ensures { λ r. ⌜ r ≡ bothWith f k grid seen again ⌝ }
+fn accept(f: RoleFile, k: Tally, seen: ByRole, again: ByRole) -> BothFiles
+    ensures { λ r. ⌜ r ≡ bothWith f k seen again ⌝ }
 {
     BothFiles {
         code: 0,
         file: f,
         rules: k.rules,
-        grid: grid,
         strays: k.strays,
         stray: k.stray,
         seen: seen,
@@ -45,17 +45,31 @@ fn accept(f: RoleFile, k: Tally, grid: Grid, seen: ByRole, again: ByRole) -> Bot
     }
 }
 
-// One pass over what stands behind the first command of a rule file, beside a role file's record, sizes and links: each line is summed up where it stands, and what a rule grants
-// is worked out when it is closed.
-fn read_rules(f: RoleFile, sizes: Sizes, links: &Links, rules: &[u8]) -> BothFiles
-    requires { ⌜ ((F : Policy) × Tabled F f sizes (now links)) ⌝ }
+// One pass over what stands behind the first command of a rule file, beside a role file's record, sizes and links: each line is summed up where
+// it stands, and what a rule grants is worked out when it is closed. Two grids for the operations declared are lent, whatever they hold: that of
+// the parts that the open rule lists, and that of what the rules grant together.
+fn read_rules(
+    f: RoleFile,
+    sizes: Sizes,
+    links: &Links,
+    rules: &[u8],
+    listed: &mut [u64],
+    grid: &mut [u64],
+) -> BothFiles
+    requires { ⌜
+        ((F : Policy) × Tabled F f sizes (now links))
+        × (length (now listed) ≡ gridCells (sizes .operations))
+        × (length (now grid) ≡ gridCells (sizes .operations)) ⌝ }
     ensures { λ r. ⌜
-        ((F : Policy) → Tabled F f sizes (now (links .entry)) → r ≡ bothOf (readBeside F (now (rules .entry)))) ⌝ }
+        ((F : Policy)
+        → Tabled F f sizes (now (links .entry))
+        → (r ≡ bothOf (readBeside F (now (rules .entry))))
+        × GridShown (readBeside F (now (rules .entry))) (now (grid .exit))) ⌝ }
 {
     let mut k = rule_steps::begun();
     let mut met = [0u64; RoleFile::PLACES];
-    let mut listed = [0u64; RoleFile::USERS * RoleFile::OPERATIONS];
-    let mut grid = [0u64; RoleFile::USERS * RoleFile::OPERATIONS];
+    role_record::clear(listed);
+    role_record::clear(grid);
     let mut seen = [0u64; RoleFile::ROLES];
     let mut again = [0u64; RoleFile::ROLES];
     let mut at: usize = 0;
@@ -75,28 +89,35 @@ fn read_rules(f: RoleFile, sizes: Sizes, links: &Links, rules: &[u8]) -> BothFil
             }
             Turn::Opens(w) => {
                 at = at + w;
-                k = rule_steps::finish(k, &met, &listed, &f.kinds, links, sizes, &mut grid);
+                k = rule_steps::finish(k, &met, listed, &f.kinds, links, sizes, grid);
                 k = rule_steps::opened(k);
                 met = [0u64; RoleFile::PLACES];
-                grant_blocks::clear(&mut listed);
+                role_record::clear(listed);
             }
             Turn::Ends => {
-                k = rule_steps::finish(k, &met, &listed, &f.kinds, links, sizes, &mut grid);
-                return accept(f, k, grid, seen, again);
+                k = rule_steps::finish(k, &met, listed, &f.kinds, links, sizes, grid);
+                return accept(f, k, seen, again);
             }
             Turn::Line(c, b, x, y, w) => {
                 at = at + w;
                 k = rule_notes::note(k, c, b, x, y);
                 rule_notes::meet_line(c, sizes, &f.known, &f.values, &f.holders, &mut met);
-                rule_steps::join_part(c, &f.holders, &f.permissions, &mut listed);
+                rule_steps::join_part(c, &f.holders, &f.permissions, sizes.operations, listed);
                 rule_steps::list_part(c, &mut seen, &mut again);
             }
         }
     }
 }
 
-pub fn read(file: &[u8], rules: &[u8]) -> BothFiles
-    ensures { λ r. ⌜ r ≡ bothOf (readBoth 2 (now (file .entry)) (now (rules .entry))) ⌝ }
+// Two tables are lent, whatever they hold. Of the second the words of the operations declared come to be the grid of what the rules grant
+// together; the first has the parts that a rule lists, while it is read.
+pub fn read_into(file: &[u8], rules: &[u8], listed: &mut [u64], grid: &mut [u64]) -> BothFiles
+    requires { ⌜
+        (gridCells mostOperations ≤ length (now listed)) × (gridCells mostOperations ≤ length (now grid)) ⌝ }
+    ensures { λ r. ⌜
+        (r ≡ bothOf (readBoth 2 (now (file .entry)) (now (rules .entry))))
+        × GridShown (readBoth 2 (now (file .entry)) (now (rules .entry)))
+        (take (gridCells (r .file .operations)) (now (grid .exit))) ⌝ }
 {
     let l = role_file::read(file);
     if l.code != 0 {
@@ -125,5 +146,22 @@ pub fn read(file: &[u8], rules: &[u8]) -> BothFiles
         f.roles,
         &mut links,
     );
-    read_rules(f, sizes, &links, &rules[rule_opening::BYTES..])
+    let words = RoleFile::USERS * f.operations;
+    read_rules(
+        f,
+        sizes,
+        &links,
+        &rules[rule_opening::BYTES..],
+        &mut listed[0..words],
+        &mut grid[0..words],
+    )
+}
+
+// Where nobody asks what the rules grant.
+pub fn read(file: &[u8], rules: &[u8]) -> BothFiles
+    ensures { λ r. ⌜ r ≡ bothOf (readBoth 2 (now (file .entry)) (now (rules .entry))) ⌝ }
+{
+    let mut listed = [0u64; RoleFile::USERS * RoleFile::OPERATIONS];
+    let mut grid = [0u64; RoleFile::USERS * RoleFile::OPERATIONS];
+    read_into(file, rules, &mut listed, &mut grid)
 }

@@ -1,3 +1,3 @@
-pub mod RuleGrid
-pub mod RuleGridLaws
-pub mod SummaryGridLaws
+pub mod RuleRows
+pub mod RuleRowsLaws
+pub mod SummaryLaws

@@ -1,7 +1,10 @@
 // The judge of rule files: whether a rule file, read beside a role file, grants what the roles do, rule by rule and part by part.
+ghost use lib.ListN.{length};
 ghost use mathlib.Core.Path.{_≡_};
+ghost use Prim.Native.Nat.{_≤_};
 ghost use Rattle.files.specs.Answer.{told};
 ghost use Rattle.files.specs.Calls.{judge, verdictTold};
+ghost use Rattle.role_record.specs.Cells.{mostOperations, gridCells};
 ghost use Rattle.rule_judge.specs.Judgement.{judgementNumbers};
 use grant_grids::Difference;
 use role_record::RoleFile;
@@ -18,19 +21,28 @@ pub enum Judgement {
     Refused(usize),
 }
 
-pub fn judge(file: &[u8], rules: &[u8]) -> Judgement
+// With two tables for grids, whatever they hold: the second comes to have what the rules grant, and the first, once they are read, what the roles do.
+fn judge_in(file: &[u8], rules: &[u8], listed: &mut [u64], grid: &mut [u64]) -> Judgement
+    requires { ⌜
+        (gridCells mostOperations ≤ length (now listed)) × (gridCells mostOperations ≤ length (now grid)) ⌝ }
     ensures { λ r. ⌜ judgementNumbers r ≡ told verdictTold (judge 2 (now (file .entry)) (now (rules .entry))) ⌝ }
 {
-    let b = rule_file::read(file, rules);
+    let b = rule_file::read_into(file, rules, listed, grid);
     if b.code != 0 {
         return Judgement::Refused(b.code);
     }
     let f = b.file;
-    let mut granted = [0u64; RoleFile::USERS * RoleFile::OPERATIONS];
-    grant_grids::roles_grid(&f.holders, &f.permissions, f.roles, &mut granted);
+    let words = RoleFile::USERS * f.operations;
+    grant_grids::roles_grid(
+        &f.holders,
+        &f.permissions,
+        f.roles,
+        f.operations,
+        &mut listed[0..words],
+    );
     match grant_differences::first_difference(
-        &granted,
-        &b.grid,
+        &listed[0..words],
+        &grid[0..words],
         f.users,
         f.resources,
         f.operations,
@@ -53,4 +65,12 @@ pub fn judge(file: &[u8], rules: &[u8]) -> Judgement
             }
         }
     }
+}
+
+pub fn judge(file: &[u8], rules: &[u8]) -> Judgement
+    ensures { λ r. ⌜ judgementNumbers r ≡ told verdictTold (judge 2 (now (file .entry)) (now (rules .entry))) ⌝ }
+{
+    let mut listed = [0u64; RoleFile::USERS * RoleFile::OPERATIONS];
+    let mut grid = [0u64; RoleFile::USERS * RoleFile::OPERATIONS];
+    judge_in(file, rules, &mut listed, &mut grid)
 }

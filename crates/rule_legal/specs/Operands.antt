@@ -7,7 +7,7 @@ use mathlib.Core.Bool.{Bool, true, false, cond, not}
 use mathlib.Core.List.{List}
 use Rattle.grant_parts.specs.Parts.{classRow}
 use Rattle.policy.specs.Rules.{own}
-use Rattle.role_record.specs.Cells.{cellAt}
+use Rattle.role_record.specs.Cells.{permissionAt}
 use Rattle.role_record.specs.Record.{sameDomain}
 use Rattle.sets.specs.Lowest.{lowestFrom}
 use Rattle.sets.specs.Sets.{bit}
@@ -30,4 +30,4 @@ partLegal role m roles ops holders permissions =
     cond (ltb role roles)
     (cond (eqb (getD holders role 0) 0) false
     (cond (ltb o ops)
-    (cond (eqb (getD permissions (cellAt role o) 0) 0) false (eqb (classRow permissions role ops o) m)) false)) false
+    (cond (eqb (getD permissions (permissionAt role o) 0) 0) false (eqb (classRow permissions role ops o) m)) false)) false

@@ -130,7 +130,7 @@ pub fn part_legal<'a>(
     if operations <= o {
         return false;
     }
-    if permissions[RoleFile::OPERATIONS * k + o] == 0 {
+    if permissions[RoleFile::ROLES * o + k] == 0 {
         return false;
     }
     grant_parts::class_of(permissions, k, operations, o) == m

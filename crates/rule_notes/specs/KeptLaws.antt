@@ -8,16 +8,14 @@ use mathlib.Core.Bool.{Bool, true, false, _&&_, _||_, not, and-true, and-false, 
 use mathlib.Core.List.{List}
 use mathlib.Core.Path.{_≡_, refl, sym, ap, ap₂, _∙_}
 use native.Mathlib.Omega.{arith}
-use Rattle.grant_grids.specs.Grid.{gridDifference, differenceOf, isSame}
 use Rattle.role_record.specs.Record.{marked}
-use Rattle.grant_blocks.specs.PartGrid.{joinedGrid}
+use Rattle.grant_blocks.specs.Rows.{addedRows, sameRows}
 use Rattle.rule_commands.specs.Raw.{rawBefore}
 use Rattle.rule_levels.specs.Levels.{levelFor}
-use Rattle.rule_notes.specs.Tally.{tallied, countedWith, ruleGrid, closedWith, finishedWith, finishedGrid, mayClose, isSecond, followsWith, levelledWith}
+use Rattle.rule_notes.specs.Tally.{tallied, countedWith, openRows, closedWith, finishedWith, finishedGrid, mayClose, isSecond, followsWith, levelledWith}
 use Rattle.rule_notes.specs.LineSteps.{placeBy, pairNumber, tallyWith, notedWith, metMore}
 use Rattle.sets.specs.Sets.{bit, maskOf}
 use Rattle.sets.specs.TestLaws.{test}
-use Rattle.grant_grids.specs.declared.Difference.{Difference}
 use Rattle.rule_commands.specs.declared.RuleCommand.{RuleCommand}
 use Rattle.rule_notes.specs.declared.Tally.{Tally}
 
@@ -33,12 +31,11 @@ pub counted-first : (k : Tally) (b : Bool) → b ≡ false → k .strays ≡ fal
 unfolding countedWith
 counted-first k b e f = rw e (rw f refl)
 
--- the same of a grid that is the rule's
-pub closed-by : (k : Tally) (met listed links : List ℕ) (users resources acts : ℕ) (own : List ℕ) (d : Difference) (b : Bool) (r : Tally) → own ≡ ruleGrid k met links users resources
-    → d ≡ differenceOf (gridDifference own listed users resources acts) → b ≡ isSame d → r ≡ countedWith k b → r ≡ closedWith k met listed links users resources acts
+-- the same of rows that are the rule's
+pub closed-by : (k : Tally) (met listed links : List ℕ) (users resources n : ℕ) (rows : List ℕ) (b : Bool) (r : Tally) → rows ≡ openRows k met links users resources
+    → b ≡ sameRows n rows (k .operations) listed → r ≡ countedWith k b → r ≡ closedWith k met listed links users resources n
 unfolding closedWith
-closed-by k met listed links users resources acts own d b r e f g h =
-    h ∙ ap (countedWith k) (g ∙ ap isSame (f ∙ ap (λ t. differenceOf (gridDifference t listed users resources acts)) e))
+closed-by k met listed links users resources n rows b r e f g = g ∙ ap (countedWith k) (f ∙ ap (λ t. sameRows n t (k .operations) listed) e)
 
 -- ---- where commands may stand
 
@@ -59,12 +56,12 @@ module _ (k : Tally) where
   unfolding mayClose
   close-inside e z l = rw (e, ne-eqb (k .operations) 0 z, l) (sym (and-true (k .listing)))
 
-  module _ (met listed links : List ℕ) (users resources acts : ℕ) (grid : List ℕ) where
-    pub finish-inside : k .inside ≡ true → (closedWith k met listed links users resources acts ≡ finishedWith k met listed links users resources acts) × (joinedGrid (ruleGrid k met links users resources) grid ≡ finishedGrid k met links users resources grid)
+  module _ (met listed links : List ℕ) (users resources n : ℕ) (grid : List ℕ) where
+    pub finish-inside : k .inside ≡ true → (closedWith k met listed links users resources n ≡ finishedWith k met listed links users resources n) × (addedRows n (openRows k met links users resources) (k .operations) grid ≡ finishedGrid k met links users resources n grid)
     unfolding finishedWith finishedGrid
     finish-inside e = (rw e refl, rw e refl)
 
-    pub finish-outside : k .inside ≡ false → (k ≡ finishedWith k met listed links users resources acts) × (grid ≡ finishedGrid k met links users resources grid)
+    pub finish-outside : k .inside ≡ false → (k ≡ finishedWith k met listed links users resources n) × (grid ≡ finishedGrid k met links users resources n grid)
     unfolding finishedWith finishedGrid
     finish-outside e = (rw e refl, rw e refl)
 

@@ -8,7 +8,7 @@ use mathlib.Core.List.{List}
 use Rattle.rule_listings.specs.Listed.{seenAfter, againAfter}
 use Rattle.role_record.specs.Record.{marked}
 use Rattle.rule_meeting.specs.Meeting.{meetingOf, countBy}
-use Rattle.grant_blocks.specs.PartGrid.{addedPart}
+use Rattle.grant_grids.specs.Updates.{addedPart}
 use Rattle.sets.specs.Sets.{bit, maskOf}
 use Rattle.rule_commands.specs.declared.Atom.{Atom}
 use Rattle.rule_commands.specs.declared.RuleCommand.{RuleCommand}
@@ -73,15 +73,15 @@ PartWithin (Part k m) = k < 32
 PartWithin (Level l) = Unit {0}
 PartWithin Ends = Unit {0}
 
--- the part listed joins the grid of those listed before; which parts were listed, and listed again
-unfoldable pub listedAfter : List ℕ → List ℕ → List ℕ → RuleCommand → List ℕ
-listedAfter holders permissions listed Opens = listed
-listedAfter holders permissions listed (Value v) = listed
-listedAfter holders permissions listed (Operations m) = listed
-listedAfter holders permissions listed (Link t) = listed
-listedAfter holders permissions listed (Part k m) = addedPart (getD holders k 0) permissions k m listed
-listedAfter holders permissions listed (Level l) = listed
-listedAfter holders permissions listed Ends = listed
+-- the part listed joins the grid, for n operations, of those listed before; which parts were listed, and listed again
+unfoldable pub listedAfter : ℕ → List ℕ → List ℕ → List ℕ → RuleCommand → List ℕ
+listedAfter n holders permissions listed Opens = listed
+listedAfter n holders permissions listed (Value v) = listed
+listedAfter n holders permissions listed (Operations m) = listed
+listedAfter n holders permissions listed (Link t) = listed
+listedAfter n holders permissions listed (Part k m) = addedPart n (getD holders k 0) permissions k m listed
+listedAfter n holders permissions listed (Level l) = listed
+listedAfter n holders permissions listed Ends = listed
 
 unfoldable pub seenBy : List ℕ → RuleCommand → List ℕ
 seenBy seen Opens = seen

@@ -4,10 +4,9 @@ use Prim.Native.Nat.{ℕ, _+_}
 use lib.Dec.{eqb}
 use mathlib.Core.Bool.{Bool, true, false, cond, _&&_, _||_, not}
 use mathlib.Core.List.{List}
-use Rattle.grant_grids.specs.Grid.{gridOf, gridDifference, differenceOf, isSame}
-use Rattle.grant_blocks.specs.PartGrid.{joinedGrid}
+use Rattle.grant_blocks.specs.Rows.{addedRows, sameRows}
 use Rattle.rule_commands.specs.Raw.{rawBefore}
-use Rattle.rule_grants.specs.RuleGrid.{summaryGrants}
+use Rattle.rule_grants.specs.RuleRows.{ruleRows}
 use Rattle.rule_levels.specs.Levels.{levelFor}
 use Rattle.sets.specs.Sets.{bit}
 use Rattle.rule_notes.specs.declared.Tally.{Tally}
@@ -27,20 +26,21 @@ unfoldable pub countedWith : Tally → Bool → Tally
 countedWith k true = tallied k (k .strays) (k .stray)
 countedWith k false = cond (k .strays) (tallied k (k .strays) (k .stray)) (tallied k true (k .rules))
 
--- the grid of the open rule, from its summary
-unfoldable pub ruleGrid : Tally → List ℕ → List ℕ → ℕ → ℕ → List ℕ
-ruleGrid k met links users resources = gridOf (summaryGrants met (k .asked) (k .atoms) (k .operations) links users resources)
+-- the rows of the open rule, from its summary
+unfoldable pub openRows : Tally → List ℕ → List ℕ → ℕ → ℕ → List ℕ
+openRows k met links users resources = ruleRows met (k .asked) (k .atoms) links users resources
 
--- the open rule closed: it is stray if its grid differs from that of the parts listed under it
+-- the open rule closed, with n operations declared: it is stray unless the grid of the parts listed under it has just its rows at its operations
 unfoldable pub closedWith : Tally → List ℕ → List ℕ → List ℕ → ℕ → ℕ → ℕ → Tally
-closedWith k met listed links users resources acts = countedWith k (isSame (differenceOf (gridDifference (ruleGrid k met links users resources) listed users resources acts)))
+closedWith k met listed links users resources n = countedWith k (sameRows n (openRows k met links users resources) (k .operations) listed)
 
 -- the open rule closed, if there is one
 unfoldable pub finishedWith : Tally → List ℕ → List ℕ → List ℕ → ℕ → ℕ → ℕ → Tally
-finishedWith k met listed links users resources acts = cond (k .inside) (closedWith k met listed links users resources acts) k
+finishedWith k met listed links users resources n = cond (k .inside) (closedWith k met listed links users resources n) k
 
-unfoldable pub finishedGrid : Tally → List ℕ → List ℕ → ℕ → ℕ → List ℕ → List ℕ
-finishedGrid k met links users resources grid = cond (k .inside) (joinedGrid (ruleGrid k met links users resources) grid) grid
+-- the grid of what the rules grant, with the open rule's rows joined at its operations
+unfoldable pub finishedGrid : Tally → List ℕ → List ℕ → ℕ → ℕ → ℕ → List ℕ → List ℕ
+finishedGrid k met links users resources n grid = cond (k .inside) (addedRows n (openRows k met links users resources) (k .operations) grid) grid
 
 -- ---- where commands may stand
 

@@ -7,7 +7,7 @@ use lib.ListN.{getD}
 use mathlib.Core.Bool.{Bool, true, false, cond, _&&_, false≢true}
 use mathlib.Core.Path.{_≡_, refl, sym, ap, _∙_, subst}
 use native.Mathlib.Omega.{arith}
-use Rattle.role_record.specs.Cells.{rowCells, cellAt}
+use Rattle.role_record.specs.Cells.{mostOperations, permissionAt}
 use Rattle.role_record.specs.Record.{Sized, permissionTable, recordWith, recordOf}
 use Rattle.role_admit.specs.RoleTableLaws.{permittedOn, row-shown, holders-shown, holder-within}
 use Rattle.files.specs.Beside.{besideOf}
@@ -35,24 +35,24 @@ some-bit n f h = test (any f (upTo n)) (λ e. let t = any-out f (upTo n) e in (t
 
 module _ (F : Policy) (Z : Sized F) where
   -- the class of an operation, from the record's table
-  class-here : (k o : ℕ) → k < 32 → o < rowCells → classRow (permissionTable F) k (F .operations) o ≡ classOf (settingOf F) (rolesIn F) (record { role = k; lead = o })
+  class-here : (k o : ℕ) → k < 32 → o < mostOperations → classRow (permissionTable F) k (F .operations) o ≡ classOf (settingOf F) (rolesIn F) (record { role = k; lead = o })
   unfolding recordOf recordWith
   class-here = class-shown F Z
 
   -- ---- a legal line names a part
 
   names-by : (k m low : ℕ) → ((q : ℕ) → q < low → bit m q ≡ false)
-      → Is (cond (ltb k (F .roles)) (cond (eqb (getD (recordOf F .holders) k 0) 0) false (cond (ltb low (F .operations)) (cond (eqb (getD (permissionTable F) (cellAt k low) 0) 0) false (eqb (classRow (permissionTable F) k (F .operations) low) m)) false)) false)
+      → Is (cond (ltb k (F .roles)) (cond (eqb (getD (recordOf F .holders) k 0) 0) false (cond (ltb low (F .operations)) (cond (eqb (getD (permissionTable F) (permissionAt k low) 0) 0) false (eqb (classRow (permissionTable F) k (F .operations) low) m)) false)) false)
       → Is (any (λ p. eqb k (p .role) && eqb m (classOf (settingOf F) (rolesIn F) p)) (parts (settingOf F) (rolesIn F)))
   unfolding classOf settingOf permittedOn rolesIn sideOf
-  names-by k m low misses h = go (ltb k (F .roles)) refl (eqb (getD (recordOf F .holders) k 0) 0) refl (ltb low (F .operations)) refl (eqb (getD (permissionTable F) (cellAt k low) 0) 0) refl h
+  names-by k m low misses h = go (ltb k (F .roles)) refl (eqb (getD (recordOf F .holders) k 0) 0) refl (ltb low (F .operations)) refl (eqb (getD (permissionTable F) (permissionAt k low) 0) 0) refl h
     where
-      part-there : k < F .roles → (getD (recordOf F .holders) k 0 ≡ 0 → ⊥) → low < F .operations → (getD (permissionTable F) (cellAt k low) 0 ≡ 0 → ⊥) → classRow (permissionTable F) k (F .operations) low ≡ m → record { role = k; lead = low } isIn parts (settingOf F) (rolesIn F)
+      part-there : k < F .roles → (getD (recordOf F .holders) k 0 ≡ 0 → ⊥) → low < F .operations → (getD (permissionTable F) (permissionAt k low) 0 ≡ 0 → ⊥) → classRow (permissionTable F) k (F .operations) low ≡ m → record { role = k; lead = low } isIn parts (settingOf F) (rolesIn F)
       part-there lk hh lo hp e =
           let n = Z .few in
           let j = Z .operable in
           let hk : k < 32 = omega arith in
-          let ho : low < rowCells = omega arith in
+          let ho : low < mostOperations = omega arith in
           let someone = some-bit 64 (held F k) (λ z. hh (holders-shown F Z k hk ∙ z)) in
           let something = some-bit 64 (λ r. F .permitted k r low) (λ z. hp (row-shown F Z k low hk ho ∙ z)) in
           parts-in (settingOf F) (rolesIn F) k low lk lo
@@ -67,7 +67,7 @@ module _ (F : Policy) (Z : Sized F) where
           class-bit : (q : ℕ) → q < F .operations → Is (alike (settingOf F) (rolesIn F) k q low) → Is (bit (classOf (settingOf F) (rolesIn F) (record { role = k; lead = low })) q)
           class-bit q l a = bit-mask (F .operations) (alike (settingOf F) (rolesIn F) k low) q l ∙ alike-in (settingOf F) (rolesIn F) k low q (λ r lr. sym (alike-out (settingOf F) (rolesIn F) k q low r lr a))
 
-      go : (b1 : Bool) → ltb k (F .roles) ≡ b1 → (b2 : Bool) → eqb (getD (recordOf F .holders) k 0) 0 ≡ b2 → (b3 : Bool) → ltb low (F .operations) ≡ b3 → (b4 : Bool) → eqb (getD (permissionTable F) (cellAt k low) 0) 0 ≡ b4
+      go : (b1 : Bool) → ltb k (F .roles) ≡ b1 → (b2 : Bool) → eqb (getD (recordOf F .holders) k 0) 0 ≡ b2 → (b3 : Bool) → ltb low (F .operations) ≡ b3 → (b4 : Bool) → eqb (getD (permissionTable F) (permissionAt k low) 0) 0 ≡ b4
           → Is (cond b1 (cond b2 false (cond b3 (cond b4 false (eqb (classRow (permissionTable F) k (F .operations) low) m)) false)) false) → Is (any (λ p. eqb k (p .role) && eqb m (classOf (settingOf F) (rolesIn F) p)) (parts (settingOf F) (rolesIn F)))
       go true p false q true r false s h =
           let lk = ltb-true k (F .roles) p in
@@ -75,7 +75,7 @@ module _ (F : Policy) (Z : Sized F) where
           let e = eqb-true (classRow (permissionTable F) k (F .operations) low) m h in
           let n = Z .few in
           let j = Z .operable in
-          any-in (λ p. eqb k (p .role) && eqb m (classOf (settingOf F) (rolesIn F) p)) (part-there lk (eqb-false (getD (recordOf F .holders) k 0) 0 q) lo (eqb-false (getD (permissionTable F) (cellAt k low) 0) 0 s) e)
+          any-in (λ p. eqb k (p .role) && eqb m (classOf (settingOf F) (rolesIn F) p)) (part-there lk (eqb-false (getD (recordOf F .holders) k 0) 0 q) lo (eqb-false (getD (permissionTable F) (permissionAt k low) 0) 0 s) e)
           (and-in (eq-eqb k k refl) (eq-eqb m (classOf (settingOf F) (rolesIn F) (record { role = k; lead = low })) (sym e ∙ class-here k low (omega arith) (omega arith))))
       go true p false q true r true s h = absurd (false≢true h)
       go true p false q false r b4 s h = absurd (false≢true h)
@@ -93,7 +93,7 @@ module _ (F : Policy) (Z : Sized F) where
   lead-lowest m low lead p misses l q = test (ltb low lead) (λ e. never q (misses low (ltb-true low lead e))) (λ e. let n = ltb-false low lead e in omega arith)
 
   line-by : (k o m low : ℕ) → low ≡ o → k < F .roles → o < F .operations → (u : ℕ) × (u < F .table user .count) × Is (held F k u) → (r : ℕ) × (r < F .table resource .count) × Is (F .permitted k r o) → m ≡ classOf (settingOf F) (rolesIn F) (record { role = k; lead = o })
-      → Is (cond (ltb k (F .roles)) (cond (eqb (getD (recordOf F .holders) k 0) 0) false (cond (ltb low (F .operations)) (cond (eqb (getD (permissionTable F) (cellAt k low) 0) 0) false (eqb (classRow (permissionTable F) k (F .operations) low) m)) false)) false)
+      → Is (cond (ltb k (F .roles)) (cond (eqb (getD (recordOf F .holders) k 0) 0) false (cond (ltb low (F .operations)) (cond (eqb (getD (permissionTable F) (permissionAt k low) 0) 0) false (eqb (classRow (permissionTable F) k (F .operations) low) m)) false)) false)
   unfolding permittedOn
   line-by k o m low e lk lo hu hr em =
       let n = Z .few in
@@ -101,7 +101,7 @@ module _ (F : Policy) (Z : Sized F) where
       let mu = Z .many user in
       let mr = Z .many resource in
       let hk : k < 32 = omega arith in
-      let ho : o < rowCells = omega arith in
+      let ho : o < mostOperations = omega arith in
       let holders-some = mask-some 64 (held F k) (hu .0) (omega (arith, hu .1)) (hu .2) in
       let row-some = mask-some 64 (λ r. F .permitted k r o) (hr .0) (omega (arith, hr .1)) (hr .2) in
       rw (e, lt-ltb k (F .roles) lk, holders-shown F Z k hk, row-shown F Z k o hk ho, ne-eqb (maskOf 64 (held F k)) 0 (λ z. omega arith), lt-ltb o (F .operations) lo, ne-eqb (maskOf 64 (λ r. F .permitted k r o)) 0 (λ z. omega arith))

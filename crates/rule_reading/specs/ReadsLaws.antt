@@ -7,14 +7,15 @@ use lib.ListN.{length, drop, replicate, length-drop}
 use mathlib.Core.Bool.{true, false}
 use mathlib.Core.List.{List}
 use mathlib.Core.Path.{_≡_, refl, sym, ap, ap₂, _∙_, subst}
-use Rattle.role_record.specs.Cells.{userCells}
-use Rattle.role_record.specs.Record.{emptyRecord, attributeTable, recordWith, recordOf, WithinLimits, FewAttributes}
+use Rattle.role_record.specs.Cells.{gridCells}
+use Rattle.role_record.specs.Record.{tableOf, emptyRecord, attributeTable, recordWith, recordOf, WithinLimits, FewAttributes}
 use Rattle.files.specs.Beside.{besideOf}
 use Rattle.files.specs.Answer.{Answer, andThen, refused, accepted}
 use Rattle.files.specs.Calls.{readBoth}
 use Rattle.files.specs.RoleFile.{readRoles}
-use Rattle.files.specs.RuleFile.{ruleFormat, readRules}
+use Rattle.files.specs.RuleFile.{Lines, ruleFormat, readRules}
 use Rattle.grant_grids.specs.Grid.{gridOf}
+use Rattle.grant_grids.specs.GridLaws.{grid-long, no-triples}
 use Rattle.grant_grids.specs.Links.{linkTable, linksOf}
 use Rattle.rule_operands.specs.Checked.{checkedOf, checkedBeside}
 use Rattle.policy.specs.Policy.{Policy, settingOf, rolesIn}
@@ -22,7 +23,7 @@ use Rattle.policy.specs.Rules.{user, resource}
 use Rattle.role_file.specs.Reading.{refusal, loadedOf}
 use Rattle.role_file.specs.SizedLaws.{loaded-policy}
 use Rattle.rule_commands.specs.Raw.{rawOf, Sided}
-use Rattle.rule_reading.specs.BothFiles.{nothingRead, bothOf}
+use Rattle.rule_reading.specs.BothFiles.{nothingRead, bothOf, GridShown}
 use Rattle.rule_reading.specs.RuleStateLaws.{State, begin, turn-cut, turn-strange, some-bytes, not-past, close-refused, opened, ended-late, ended, line-refused, line-illegal, line-unlevelled, line-legal, line-added, start, outcome, outcome-beside, line-sided}
 use Rattle.rule_notes.specs.Tally.{begunWith, openedWith, finishedWith, finishedGrid}
 use Rattle.rule_notes.specs.LineSteps.{notedWith, metAfter, PartWithin, listedAfter, seenBy, againBy}
@@ -35,6 +36,7 @@ use native.Mathlib.Omega.{arith}
 use Rattle.files.specs.Bytes.{read}
 use Rattle.rule_reading.specs.TurnLaws.{Refuses, cut, strange, unfinished, late, misplaced, illegal, unlevelled, Closing, Lining}
 use Rattle.rule_reading.specs.Turns.{closesRule, sizesOf, Tabled, bothWith, readBeside}
+use Rattle.rule_reading.specs.declared.BothFiles.{BothFiles}
 use Rattle.role_record.specs.declared.Sizes.{Sizes}
 use Rattle.rule_commands.specs.declared.Raw.the-variants.{Whole}
 
@@ -46,9 +48,9 @@ closes-opening b e = rw e refl
 pub closes-other : (b : ℕ) → (b ≡ 0x21 → ⊥) → eqb b 0x2F ≡ closesRule b
 closes-other b e = rw (ne-eqb b 0x21 e) refl
 
-pub refused-with : (n : ℕ) (f : RoleFile) → f ≡ emptyRecord → record { code = n; file = f; rules = 0; grid = replicate userCells 0; strays = false; stray = 0; seen = replicate 32 0; again = replicate 32 0 } ≡ nothingRead n
+pub refused-with : (n : ℕ) (f : RoleFile) → f ≡ emptyRecord → record { code = n; file = f; rules = 0; strays = false; stray = 0; seen = replicate 32 0; again = replicate 32 0 } ≡ nothingRead n
 unfolding nothingRead
-refused-with n f e = ap (λ (g : RoleFile). record { code = n; file = g; rules = 0; grid = replicate userCells 0; strays = false; stray = 0; seen = replicate 32 0; again = replicate 32 0 }) e
+refused-with n f e = ap (λ (g : RoleFile). record { code = n; file = g; rules = 0; strays = false; stray = 0; seen = replicate 32 0; again = replicate 32 0 }) e
 
 -- ---- the role file
 
@@ -77,8 +79,11 @@ module _ (file rules : List ℕ) (l : Loaded) (e : l ≡ loadedOf (readRoles 2 f
 
 -- ---- the rule file
 
-pub reads-begun : (F : Policy) (rules : List ℕ) (k : Tally) → k ≡ begunWith → State F rules k (replicate 14 0) (replicate userCells 0) (replicate userCells 0) (replicate 32 0) (replicate 32 0) 0
-reads-begun F rules k p = subst (λ (n : Tally). State F rules n (replicate 14 0) (replicate userCells 0) (replicate userCells 0) (replicate 32 0) (replicate 32 0) 0) (sym p) (begin F rules)
+-- a refusal shows no grid
+pub nothing-shown : (a : Answer (Policy × List Lines)) (n : ℕ) (grid : List ℕ) → nothingRead n ≡ bothOf a → (n ≡ 0 → ⊥) → GridShown a grid
+unfolding nothingRead bothOf GridShown
+nothing-shown (refused e) n grid q z = tt
+nothing-shown (accepted p) n grid q z = absurd (z (ap (λ (b : BothFiles). b .code) q))
 
 module _ (F : Policy) (f : RoleFile) (sizes : Sizes) (links : List ℕ) (v : Tabled F f sizes links) where
   -- what holds for the record, the sizes and the links of the policy holds for those of the code
@@ -92,6 +97,16 @@ module _ (F : Policy) (f : RoleFile) (sizes : Sizes) (links : List ℕ) (v : Tab
   unfolding recordOf recordWith
   within-limits = at-record (λ g n l. WithinLimits n) (v .sized .many user, v .sized .many resource, v .sized .operable, v .sized .few)
 
+  -- a table that was cleared is the grid of no triples
+  cleared : (before after : List ℕ) → length before ≡ gridCells (sizes .operations) → after ≡ tableOf (length before) (λ i. 0) → after ≡ gridOf (F .operations) (λ u r o. false)
+  unfolding recordOf recordWith
+  cleared before after = at-record (λ g n l. length before ≡ gridCells (n .operations) → after ≡ tableOf (length before) (λ i. 0) → after ≡ gridOf (F .operations) (λ u r o. false)) (no-triples (F .operations) before after)
+
+  pub reads-begun : (rules : List ℕ) (k : Tally) (listed₀ grid₀ listed grid : List ℕ) → k ≡ begunWith → length listed₀ ≡ gridCells (sizes .operations) → length grid₀ ≡ gridCells (sizes .operations)
+      → listed ≡ tableOf (length listed₀) (λ i. 0) → grid ≡ tableOf (length grid₀) (λ i. 0) → State F rules k (replicate 14 0) listed grid (replicate 32 0) (replicate 32 0) 0
+  reads-begun rules k listed₀ grid₀ listed grid p a b q r =
+      subst (λ (n : Tally). State F rules n (replicate 14 0) listed grid (replicate 32 0) (replicate 32 0) 0) (sym p) (begin F rules listed grid (cleared listed₀ listed a q) (cleared grid₀ grid b r))
+
   pub few-attributes : FewAttributes (f .attributes)
   unfolding recordOf recordWith attributeTable
   few-attributes = at-record (λ g n l. FewAttributes (g .attributes)) (v .sized .declared user, v .sized .declared resource)
@@ -99,6 +114,11 @@ module _ (F : Policy) (f : RoleFile) (sizes : Sizes) (links : List ℕ) (v : Tab
   module _ (rules : List ℕ) (k : Tally) (met listed grid seen again : List ℕ) (at : ℕ) (t : State F rules k met listed grid seen again at) where
     pub inside : (at ≤ length rules) × (k .rules ≤ at)
     inside = (t .within, t .few)
+
+    -- the tables have the words of the operations declared
+    pub tables-long : (length listed ≡ gridCells (sizes .operations)) × (length grid ≡ gridCells (sizes .operations))
+    unfolding recordOf recordWith
+    tables-long = at-record (λ g n l. (length listed ≡ gridCells (n .operations)) × (length grid ≡ gridCells (n .operations))) (ap length (t .shows .listed-shown) ∙ grid-long (F .operations) _, ap length (t .shows .grid-shown) ∙ grid-long (F .operations) _)
 
     -- a command takes some bytes, and no more than there are
     pub command-bytes : (b x y w : ℕ) → rawOf (drop at rules) ≡ Whole b x y w → (0 < w) × (w ≤ length rules - at)
@@ -115,10 +135,19 @@ module _ (F : Policy) (f : RoleFile) (sizes : Sizes) (links : List ℕ) (v : Tab
     unfolding recordOf recordWith
     checked b x y = at-record (λ g n l. checkedBeside F b x y ≡ checkedOf b x y (n .resources) (n .operations) (n .roles) (g .attributes) (g .kinds) (g .domains) (g .holders) (g .permissions)) refl
 
-    pub reads-refused : (n : ℕ) → Refuses k (drop at rules) sizes (f .attributes) (f .kinds) (f .domains) (f .holders) (f .permissions) n → nothingRead n ≡ bothOf (readBeside F rules)
-    reads-refused n r = go n r ∙ outcome-beside F rules
+    pub reads-refused : (n : ℕ) → Refuses k (drop at rules) sizes (f .attributes) (f .kinds) (f .domains) (f .holders) (f .permissions) n → (g : List ℕ) → (nothingRead n ≡ bothOf (readBeside F rules)) × GridShown (readBeside F rules) g
+    reads-refused n r g = let e = go n r ∙ ap bothOf (outcome-beside F rules) in (e, nothing-shown (readBeside F rules) n g e (some n r))
       where
-        go : (n : ℕ) → Refuses k (drop at rules) sizes (f .attributes) (f .kinds) (f .domains) (f .holders) (f .permissions) n → nothingRead n ≡ outcome F (read (ruleFormat 2 (besideOf F)) start rules)
+        some : (n : ℕ) → Refuses k (drop at rules) sizes (f .attributes) (f .kinds) (f .domains) (f .holders) (f .permissions) n → n ≡ 0 → ⊥
+        some _ (cut e) z = omega arith
+        some _ (strange e) z = omega arith
+        some _ (unfinished b x y w e h m) z = omega arith
+        some _ (late b x y w e h y₁ d) z = omega arith
+        some _ (misplaced b x y w e n h) z = omega arith
+        some _ (illegal b x y w e n h i) z = omega arith
+        some _ (unlevelled b x y w c e n h i u) z = omega arith
+
+        go : (n : ℕ) → Refuses k (drop at rules) sizes (f .attributes) (f .kinds) (f .domains) (f .holders) (f .permissions) n → nothingRead n ≡ bothOf (outcome F (read (ruleFormat 2 (besideOf F)) start rules))
         go _ (cut e) = turn-cut F (v .sized) rules k met listed grid seen again at t e
         go _ (strange e) = turn-strange F (v .sized) rules k met listed grid seen again at t e
         go _ (unfinished b x y w e h m) = close-refused F (v .sized) rules k met listed grid seen again at t b x y w e h m
@@ -129,29 +158,34 @@ module _ (F : Policy) (f : RoleFile) (sizes : Sizes) (links : List ℕ) (v : Tab
 
     -- ---- a 21 or 2F
 
-    module _ (n : Tally) (g : List ℕ) (p : n ≡ finishedWith k met listed links (sizes .users) (sizes .resources) (sizes .operations)) (q : g ≡ finishedGrid k met links (sizes .users) (sizes .resources) grid) where
+    module _ (n : Tally) (g : List ℕ) (p : n ≡ finishedWith k met listed links (sizes .users) (sizes .resources) (sizes .operations)) (q : g ≡ finishedGrid k met links (sizes .users) (sizes .resources) (sizes .operations) grid) where
       rule-opened : (w : ℕ) → Closing k (drop at rules) sizes (f .attributes) (f .kinds) (f .domains) (f .holders) (f .permissions) 0x21 w
-          → State F rules (openedWith (finishedWith k met listed links (sizes .users) (sizes .resources) (sizes .operations))) (replicate 14 0) (gridOf (λ u r o. false)) (finishedGrid k met links (sizes .users) (sizes .resources) grid) seen again (at + w)
+          → State F rules (openedWith (finishedWith k met listed links (sizes .users) (sizes .resources) (sizes .operations))) (replicate 14 0) (gridOf (F .operations) (λ u r o. false)) (finishedGrid k met links (sizes .users) (sizes .resources) (sizes .operations) grid) seen again (at + w)
       unfolding recordOf recordWith
       rule-opened w c =
           at-record
-          (λ r z l. State F rules (openedWith (finishedWith k met listed l (z .users) (z .resources) (z .operations))) (replicate 14 0) (gridOf (λ u r o. false)) (finishedGrid k met l (z .users) (z .resources) grid) seen again (at + w))
+          (λ r z l. State F rules (openedWith (finishedWith k met listed l (z .users) (z .resources) (z .operations))) (replicate 14 0) (gridOf (F .operations) (λ u r o. false)) (finishedGrid k met l (z .users) (z .resources) (z .operations) grid) seen again (at + w))
           (opened F (v .sized) rules k met listed grid seen again at t 0x21 (c .x) (c .y) w (c .front) (c .closable) refl)
 
-      pub reads-opened : (w : ℕ) → Closing k (drop at rules) sizes (f .attributes) (f .kinds) (f .domains) (f .holders) (f .permissions) 0x21 w → (m : Tally) (blank : List ℕ) → m ≡ openedWith n → blank ≡ gridOf (λ u r o. false)
+      pub reads-opened : (w : ℕ) → Closing k (drop at rules) sizes (f .attributes) (f .kinds) (f .domains) (f .holders) (f .permissions) 0x21 w → (m : Tally) (blank : List ℕ) → m ≡ openedWith n → blank ≡ tableOf (length listed) (λ i. 0)
           → State F rules m (replicate 14 0) blank g seen again (at + w)
       reads-opened w c m blank i j =
           subst (λ (l : List ℕ). State F rules m (replicate 14 0) blank l seen again (at + w)) (sym q)
-          (subst (λ (l : List ℕ). State F rules m (replicate 14 0) l (finishedGrid k met links (sizes .users) (sizes .resources) grid) seen again (at + w)) (sym j)
-          (subst (λ (z : Tally). State F rules z (replicate 14 0) (gridOf (λ u r o. false)) (finishedGrid k met links (sizes .users) (sizes .resources) grid) seen again (at + w)) (sym (i ∙ ap openedWith p)) (rule-opened w c)))
+          (subst (λ (l : List ℕ). State F rules m (replicate 14 0) l (finishedGrid k met links (sizes .users) (sizes .resources) (sizes .operations) grid) seen again (at + w)) (sym (cleared listed blank (tables-long .0) j))
+          (subst (λ (z : Tally). State F rules z (replicate 14 0) (gridOf (F .operations) (λ u r o. false)) (finishedGrid k met links (sizes .users) (sizes .resources) (sizes .operations) grid) seen again (at + w)) (sym (i ∙ ap openedWith p)) (rule-opened w c)))
 
-      pub reads-ended : Closing k (drop at rules) sizes (f .attributes) (f .kinds) (f .domains) (f .holders) (f .permissions) 0x2F (length (drop at rules)) → bothWith f n g seen again ≡ bothOf (readBeside F rules)
+      rules-ended : Closing k (drop at rules) sizes (f .attributes) (f .kinds) (f .domains) (f .holders) (f .permissions) 0x2F (length (drop at rules))
+          → (bothWith f (finishedWith k met listed links (sizes .users) (sizes .resources) (sizes .operations)) seen again ≡ bothOf (readBeside F rules)) × GridShown (readBeside F rules) (finishedGrid k met links (sizes .users) (sizes .resources) (sizes .operations) grid)
       unfolding recordOf recordWith
-      reads-ended c =
-          ap₂ (λ (m : Tally) (l : List ℕ). bothWith f m l seen again) p q
-          ∙ at-record
-          (λ r z l. bothWith r (finishedWith k met listed l (z .users) (z .resources) (z .operations)) (finishedGrid k met l (z .users) (z .resources) grid) seen again ≡ bothOf (readBeside F rules))
-          (ended F (v .sized) rules k met listed grid seen again at t 0x2F (c .x) (c .y) _ (c .front) (c .closable) refl (at-end _ refl) ∙ outcome-beside F rules)
+      rules-ended c =
+          let e = ended F (v .sized) rules k met listed grid seen again at t 0x2F (c .x) (c .y) _ (c .front) (c .closable) refl (at-end _ refl) in
+          let o = outcome-beside F rules in
+          at-record
+          (λ r z l. (bothWith r (finishedWith k met listed l (z .users) (z .resources) (z .operations)) seen again ≡ bothOf (readBeside F rules)) × GridShown (readBeside F rules) (finishedGrid k met l (z .users) (z .resources) (z .operations) grid))
+          (e .0 ∙ ap bothOf o, subst (λ (a : Answer (Policy × List Lines)). GridShown a (finishedGrid k met (linksOf F) (F .table user .count) (F .table resource .count) (F .operations) grid)) o (e .1))
+
+      pub reads-ended : Closing k (drop at rules) sizes (f .attributes) (f .kinds) (f .domains) (f .holders) (f .permissions) 0x2F (length (drop at rules)) → (bothWith f n seen again ≡ bothOf (readBeside F rules)) × GridShown (readBeside F rules) g
+      reads-ended c = let e = rules-ended c in (ap (λ (m : Tally). bothWith f m seen again) p ∙ e .0, subst (GridShown (readBeside F rules)) (sym q) (e .1))
 
     -- ---- a line
 
@@ -162,18 +196,18 @@ module _ (F : Policy) (f : RoleFile) (sizes : Sizes) (links : List ℕ) (v : Tab
         part-within F (v .sized) c (line-legal F (v .sized) rules k met listed grid seen again at t b x y w (d .front) (d .lines) (d .placed) c (checked b x y ∙ d .made)),
       )
 
-      line-read : State F rules (notedWith k c b x y) (metAfter (sizes .users) (sizes .resources) (sizes .roles) (f .known) (f .values) (f .holders) met c) (listedAfter (f .holders) (f .permissions) listed c) grid (seenBy seen c) (againBy seen again c) (at + w)
+      line-read : State F rules (notedWith k c b x y) (metAfter (sizes .users) (sizes .resources) (sizes .roles) (f .known) (f .values) (f .holders) met c) (listedAfter (sizes .operations) (f .holders) (f .permissions) listed c) grid (seenBy seen c) (againBy seen again c) (at + w)
       unfolding recordOf recordWith
       line-read =
           at-record
-          (λ g z l. State F rules (notedWith k c b x y) (metAfter (z .users) (z .resources) (z .roles) (g .known) (g .values) (g .holders) met c) (listedAfter (g .holders) (g .permissions) listed c) grid (seenBy seen c) (againBy seen again c) (at + w))
+          (λ g z l. State F rules (notedWith k c b x y) (metAfter (z .users) (z .resources) (z .roles) (g .known) (g .values) (g .holders) met c) (listedAfter (z .operations) (g .holders) (g .permissions) listed c) grid (seenBy seen c) (againBy seen again c) (at + w))
           (line-added F (v .sized) rules k met listed grid seen again at t b x y w (d .front) (d .lines) (d .placed) c (checked b x y ∙ d .made) (d .told))
 
-      pub reads-line : (m : Tally) (met₁ listed₁ seen₁ again₁ : List ℕ) → m ≡ notedWith k c b x y → met₁ ≡ metAfter (sizes .users) (sizes .resources) (sizes .roles) (f .known) (f .values) (f .holders) met c → listed₁ ≡ listedAfter (f .holders) (f .permissions) listed c
+      pub reads-line : (m : Tally) (met₁ listed₁ seen₁ again₁ : List ℕ) → m ≡ notedWith k c b x y → met₁ ≡ metAfter (sizes .users) (sizes .resources) (sizes .roles) (f .known) (f .values) (f .holders) met c → listed₁ ≡ listedAfter (sizes .operations) (f .holders) (f .permissions) listed c
           → seen₁ ≡ seenBy seen c → again₁ ≡ againBy seen again c → State F rules m met₁ listed₁ grid seen₁ again₁ (at + w)
       reads-line m met₁ listed₁ seen₁ again₁ p q r s u =
           subst (λ (n : Tally). State F rules n met₁ listed₁ grid seen₁ again₁ (at + w)) (sym p)
           (subst (λ (l : List ℕ). State F rules (notedWith k c b x y) l listed₁ grid seen₁ again₁ (at + w)) (sym q)
           (subst (λ (l : List ℕ). State F rules (notedWith k c b x y) (metAfter (sizes .users) (sizes .resources) (sizes .roles) (f .known) (f .values) (f .holders) met c) l grid seen₁ again₁ (at + w)) (sym r)
-          (subst (λ (l : List ℕ). State F rules (notedWith k c b x y) (metAfter (sizes .users) (sizes .resources) (sizes .roles) (f .known) (f .values) (f .holders) met c) (listedAfter (f .holders) (f .permissions) listed c) grid l again₁ (at + w)) (sym s)
-          (subst (λ (l : List ℕ). State F rules (notedWith k c b x y) (metAfter (sizes .users) (sizes .resources) (sizes .roles) (f .known) (f .values) (f .holders) met c) (listedAfter (f .holders) (f .permissions) listed c) grid (seenBy seen c) l (at + w)) (sym u) line-read))))
+          (subst (λ (l : List ℕ). State F rules (notedWith k c b x y) (metAfter (sizes .users) (sizes .resources) (sizes .roles) (f .known) (f .values) (f .holders) met c) (listedAfter (sizes .operations) (f .holders) (f .permissions) listed c) grid l again₁ (at + w)) (sym s)
+          (subst (λ (l : List ℕ). State F rules (notedWith k c b x y) (metAfter (sizes .users) (sizes .resources) (sizes .roles) (f .known) (f .values) (f .holders) met c) (listedAfter (sizes .operations) (f .holders) (f .permissions) listed c) grid (seenBy seen c) l (at + w)) (sym u) line-read))))

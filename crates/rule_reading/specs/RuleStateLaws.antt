@@ -10,7 +10,6 @@ use mathlib.Core.List.{List, [], _∷_, _++_}
 use mathlib.Core.Option.{Option, none, some}
 use mathlib.Core.Path.{_≡_, refl, sym, ap, ap₂, _∙_, subst}
 use native.Mathlib.Omega.{arith}
-use Rattle.role_record.specs.Cells.{userCells}
 use Rattle.role_record.specs.Record.{Sized, knownTable, valueTable, permissionTable, recordOf}
 use Rattle.files.specs.Beside.{Beside, besideOf}
 use Rattle.files.specs.Answer.{Answer, unless, andThen, rulesOrder, rulesOperand, wrongLevel, refused, accepted}
@@ -21,24 +20,23 @@ use Rattle.grant_grids.specs.Grid.{gridOf}
 use Rattle.role_record.specs.RecordLaws.{table-none}
 use Rattle.rule_operands.specs.Checked.{checkedBeside}
 use Rattle.rule_operands.specs.CheckedLaws.{checked-illegal, checked-legal}
-use Rattle.grant_blocks.specs.PartGrid.{joinedGrid}
+use Rattle.grant_blocks.specs.Rows.{addedRows}
 use Rattle.policy.specs.Policy.{Policy, settingOf, rolesIn}
 use Rattle.policy.specs.Rules.{user, resource}
 use Rattle.rule_commands.specs.CommandOrderLaws.{order-more}
 use Rattle.rule_commands.specs.Raw.{InOrder, rawOf, rawBefore, commandOf, ruleMeaning, Shape, shape-opens, shape-user-single, shape-user-set, shape-resource-single, shape-resource-set, shape-operations, shape-link, shape-part, shape-level, shape-ends, Sided}
 use Rattle.rule_commands.specs.RawLaws.{raw-short, raw-unknown, RawFront, raw-whole, again-refused}
-use Rattle.rule_reading.specs.BothFiles.{nothingRead, bothOf}
-use Rattle.rule_notes.specs.Tally.{begunWith, openedWith, ruleGrid, closedWith, finishedWith, finishedGrid, mayClose, isSecond, followsWith, levelledWith}
+use Rattle.rule_reading.specs.BothFiles.{nothingRead, bothOf, GridShown}
+use Rattle.rule_notes.specs.Tally.{begunWith, openedWith, openRows, closedWith, finishedWith, finishedGrid, mayClose, isSecond, followsWith, levelledWith}
 use Rattle.rule_notes.specs.KeptLaws.{finish-inside, finish-outside}
 use Rattle.rule_notes.specs.LineSteps.{notedWith, metAfter, listedAfter, seenBy, againBy}
 use Rattle.rule_steps.specs.Shows.{Stored, Shows}
 use Rattle.grant_grids.specs.Links.{linksOf}
-use Rattle.rule_steps.specs.ShowsLaws.{nothing-granted, stored-begun, shows-opened, stored-closed, stored-outside, may-close-means, follows-means, levelled-means, shows-line}
+use Rattle.rule_steps.specs.ShowsLaws.{stored-begun, shows-opened, stored-closed, stored-outside, may-close-means, follows-means, levelled-means, shows-line}
 use Rattle.sets.specs.ListLaws.{length-none}
 use Rattle.sets.specs.Tests.{Is, all, any, isSome}
 use Rattle.sets.specs.TestLaws.{and-l, and-r, or-l, or-r, never, test, fails}
 use Rattle.rule_commands.specs.declared.RuleCommand.{RuleCommand}
-use Rattle.rule_reading.specs.declared.BothFiles.{BothFiles}
 use Rattle.rule_notes.specs.declared.Tally.{Tally}
 use Rattle.rule_reading.specs.Turns.{bothWith, readBeside}
 use Rattle.rule_operands.specs.declared.Checked.the-variants.{Legal, Illegal}
@@ -67,13 +65,13 @@ pub record State (F : Policy) (s : List ℕ) (k : Tally) (met listed grid seen a
   pub same : readOn (ruleFormat 2 (besideOf F)) (suc fuel) false reading (drop at s) ≡ read (ruleFormat 2 (besideOf F)) start s
 
 -- what reading the rule file comes to beside a policy
-unfoldable pub outcome : Policy → Answer Reading → BothFiles
-outcome F r = bothOf (andThen r (λ t. accepted (F, t .complete)))
+unfoldable pub outcome : Policy → Answer Reading → Answer (Policy × List Lines)
+outcome F r = andThen r (λ t. accepted (F, t .complete))
 
 module _ (F : Policy) (rules : List ℕ) where
-  pub outcome-beside : outcome F (read (ruleFormat 2 (besideOf F)) start rules) ≡ bothOf (readBeside F rules)
+  pub outcome-beside : outcome F (read (ruleFormat 2 (besideOf F)) start rules) ≡ readBeside F rules
   unfolding outcome readBeside readBody
-  outcome-beside = ap bothOf (go (read (ruleFormat 2 (besideOf F)) start rules))
+  outcome-beside = go (read (ruleFormat 2 (besideOf F)) start rules)
     where
       pair : List Lines → Answer (Policy × List Lines)
       pair ls = accepted (F, ls)
@@ -84,9 +82,9 @@ module _ (F : Policy) (rules : List ℕ) where
 
 -- ---- the beginning
 
-pub begin : (F : Policy) (s : List ℕ) → State F s begunWith (replicate 14 0) (replicate userCells 0) (replicate userCells 0) (replicate 32 0) (replicate 32 0) 0
+pub begin : (F : Policy) (s listed grid : List ℕ) → listed ≡ gridOf (F .operations) (λ u r o. false) → grid ≡ gridOf (F .operations) (λ u r o. false) → State F s begunWith (replicate 14 0) listed grid (replicate 32 0) (replicate 32 0) 0
 unfolding begunWith
-begin F s = record {
+begin F s listed grid p q = record {
   reading = start;
   fuel = length s;
   enough = omega arith;
@@ -94,7 +92,7 @@ begin F s = record {
   few = omega arith;
   last = omega arith;
   inside = refl;
-  shows = shows-opened F [] begunWith begunWith (replicate 14 0) (replicate userCells 0) (replicate userCells 0) (replicate 32 0) (replicate 32 0) (stored-begun F) (table-none 14) nothing-granted refl refl refl refl refl refl refl refl refl;
+  shows = shows-opened F [] begunWith begunWith (replicate 14 0) listed grid (replicate 32 0) (replicate 32 0) (stored-begun F grid q) (table-none 14) p refl refl refl refl refl refl refl refl refl;
   same = refl;
 }
 
@@ -128,9 +126,9 @@ kind-at {b} s = test (eqb b 0x20) (λ e. reshaping (eqb-true b 0x20 e)) (λ e. k
 moved : (F : Policy) (rules : List Lines) (n m : Tally) (g h seen again : List ℕ) → n ≡ m → g ≡ h → Stored F rules n g seen again → Stored F rules m h seen again
 moved F rules n m g h seen again p q s = subst (λ (l : List ℕ). Stored F rules m l seen again) q (subst (λ (k : Tally). Stored F rules k g seen again) p s)
 
-opened-shows : (F : Policy) (rules : List Lines) (n : Tally) (grid seen again : List ℕ) → Stored F rules n grid seen again → Shows F rules [] (openedWith n) (replicate 14 0) (gridOf (λ u r o. false)) grid seen again
+opened-shows : (F : Policy) (rules : List Lines) (n : Tally) (grid seen again : List ℕ) → Stored F rules n grid seen again → Shows F rules [] (openedWith n) (replicate 14 0) (gridOf (F .operations) (λ u r o. false)) grid seen again
 unfolding openedWith
-opened-shows F rules n grid seen again s = shows-opened F rules n (openedWith n) (replicate 14 0) (gridOf (λ u r o. false)) grid seen again s (table-none 14) refl refl refl refl refl refl refl refl refl refl
+opened-shows F rules n grid seen again s = shows-opened F rules n (openedWith n) (replicate 14 0) (gridOf (F .operations) (λ u r o. false)) grid seen again s (table-none 14) refl refl refl refl refl refl refl refl refl refl
 
 opened-kept : (n : Tally) → (openedWith n .rules ≡ n .rules) × (openedWith n .inside ≡ true) × (openedWith n .last ≡ 0x21)
 unfolding openedWith
@@ -150,16 +148,16 @@ noted-kept k Ends b x y = (refl, refl, refl)
 
 module _ (F : Policy) (Z : Sized F) (s : List ℕ) (k : Tally) (met listed grid seen again : List ℕ) (at : ℕ) (t : State F s k met listed grid seen again at) where
   -- what comes of the whole file
-  abbrev answer : BothFiles
+  abbrev answer : Answer (Policy × List Lines)
   answer = outcome F (read (ruleFormat 2 (besideOf F)) start s)
 
-  pub turn-cut : rawOf (drop at s) ≡ Short → nothingRead 10 ≡ outcome F (read (ruleFormat 2 (besideOf F)) start s)
+  pub turn-cut : rawOf (drop at s) ≡ Short → nothingRead 10 ≡ bothOf (outcome F (read (ruleFormat 2 (besideOf F)) start s))
   unfolding outcome bothOf
-  turn-cut e = ap (outcome F) (sym (raw-short (besideOf F) (t .fuel) (t .reading) (drop at s) e) ∙ t .same)
+  turn-cut e = ap (λ (r : Answer Reading). bothOf (outcome F r)) (sym (raw-short (besideOf F) (t .fuel) (t .reading) (drop at s) e) ∙ t .same)
 
-  pub turn-strange : rawOf (drop at s) ≡ Unknown → nothingRead 11 ≡ outcome F (read (ruleFormat 2 (besideOf F)) start s)
+  pub turn-strange : rawOf (drop at s) ≡ Unknown → nothingRead 11 ≡ bothOf (outcome F (read (ruleFormat 2 (besideOf F)) start s))
   unfolding outcome bothOf
-  turn-strange e = ap (outcome F) (sym (raw-unknown (besideOf F) (t .fuel) (t .reading) (drop at s) e) ∙ t .same)
+  turn-strange e = ap (λ (r : Answer Reading). bothOf (outcome F r)) (sym (raw-unknown (besideOf F) (t .fuel) (t .reading) (drop at s) e) ∙ t .same)
 
   module _ (b x y w : ℕ) (e : rawOf (drop at s) ≡ Whole b x y w) where
     front : RawFront (besideOf F) (t .fuel) (t .reading) (drop at s) b x y w
@@ -216,7 +214,7 @@ module _ (F : Policy) (Z : Sized F) (s : List ℕ) (k : Tally) (met listed grid 
     doneWith = finishedWith k met listed (linksOf F) (F .table user .count) (F .table resource .count) (F .operations)
 
     abbrev pub doneGrid : List ℕ
-    doneGrid = finishedGrid k met (linksOf F) (F .table user .count) (F .table resource .count) grid
+    doneGrid = finishedGrid k met (linksOf F) (F .table user .count) (F .table resource .count) (F .operations) grid
 
     pub record Done : Type 0 where
       pub rules : List Lines
@@ -258,7 +256,7 @@ module _ (F : Policy) (Z : Sized F) (s : List ℕ) (k : Tally) (met listed grid 
         inside ls q =
             let f = finish-inside k met listed (linksOf F) (F .table user .count) (F .table resource .count) (F .operations) grid (inside-is (some ls) q) in
             let v = shows-lines (some ls) q in
-            let z : Stored F (t .reading .complete ++ (ls ∷ [])) doneWith doneGrid seen again = moved F (t .reading .complete ++ (ls ∷ [])) (closedWith k met listed (linksOf F) (F .table user .count) (F .table resource .count) (F .operations)) doneWith (joinedGrid (ruleGrid k met (linksOf F) (F .table user .count) (F .table resource .count)) grid) doneGrid seen again (f .0) (f .1) (stored-closed F Z (t .reading .complete) ls k met listed grid seen again v) in
+            let z : Stored F (t .reading .complete ++ (ls ∷ [])) doneWith doneGrid seen again = moved F (t .reading .complete ++ (ls ∷ [])) (closedWith k met listed (linksOf F) (F .table user .count) (F .table resource .count) (F .operations)) doneWith (addedRows (F .operations) (openRows k met (linksOf F) (F .table user .count) (F .table resource .count)) (k .operations) grid) doneGrid seen again (f .0) (f .1) (stored-closed F Z (t .reading .complete) ls k met listed grid seen again v) in
             let a = t .few in
             let c = v .rules-counted in
             let d = z .rules-counted in
@@ -293,14 +291,14 @@ module _ (F : Policy) (Z : Sized F) (s : List ℕ) (k : Tally) (met listed grid 
     obey-ends q a f = rw q (rw f refl)
 
     -- a refused command
-    refused-by : obeyRule (besideOf F) (t .reading) (commandOf b x y) ≡ refused rulesOrder → nothingRead 12 ≡ answer
+    refused-by : obeyRule (besideOf F) (t .reading) (commandOf b x y) ≡ refused rulesOrder → nothingRead 12 ≡ bothOf answer
     unfolding outcome bothOf
-    refused-by q = ap (λ (r : Answer Reading). outcome F (andThen r onward)) (sym q) ∙ turned
+    refused-by q = ap bothOf (ap (λ (r : Answer Reading). outcome F (andThen r onward)) (sym q) ∙ turned)
 
-    pub close-refused : (eqb b 0x21 || eqb b 0x2F) ≡ true → mayClose k ≡ false → nothingRead 12 ≡ outcome F (read (ruleFormat 2 (besideOf F)) start s)
+    pub close-refused : (eqb b 0x21 || eqb b 0x2F) ≡ true → mayClose k ≡ false → nothingRead 12 ≡ bothOf (outcome F (read (ruleFormat 2 (besideOf F)) start s))
     close-refused h m = go (kind-at (front .shape))
       where
-        go : Kind b x y → nothingRead 12 ≡ answer
+        go : Kind b x y → nothingRead 12 ≡ bothOf answer
         go (reshaping p) = refused-by (again-refused (besideOf F) (t .reading) b x y p)
         go (opening p q) = refused-by (obey-opens q (refused rulesOrder) (unfinished m))
         go (ending p q) = refused-by (obey-ends q (refused rulesOrder) (unfinished m))
@@ -309,16 +307,16 @@ module _ (F : Policy) (Z : Sized F) (s : List ℕ) (k : Tally) (met listed grid 
     -- ---- behind it: a new rule, or the end
 
     module _ (h : mayClose k ≡ true) where
-      pub opened : b ≡ 0x21 → State F s (openedWith doneWith) (replicate 14 0) (gridOf (λ u r o. false)) doneGrid seen again (at + w)
+      pub opened : b ≡ 0x21 → State F s (openedWith doneWith) (replicate 14 0) (gridOf (F .operations) (λ u r o. false)) doneGrid seen again (at + w)
       opened z = go (kind-at (front .shape))
         where
           d : Done
           d = closed h
 
-          go : Kind b x y → State F s (openedWith doneWith) (replicate 14 0) (gridOf (λ u r o. false)) doneGrid seen again (at + w)
+          go : Kind b x y → State F s (openedWith doneWith) (replicate 14 0) (gridOf (F .operations) (λ u r o. false)) doneGrid seen again (at + w)
           go (reshaping p) = absurd (omega arith)
           go (opening p q) =
-              stepped (record { complete = d .rules; current = some [] }) (openedWith doneWith) (replicate 14 0) (gridOf (λ u r o. false)) doneGrid seen again (ap endsFile q) (obey-opens q (accepted (d .rules)) (d .so))
+              stepped (record { complete = d .rules; current = some [] }) (openedWith doneWith) (replicate 14 0) (gridOf (F .operations) (λ u r o. false)) doneGrid seen again (ap endsFile q) (obey-opens q (accepted (d .rules)) (d .so))
               (let l = d .few in let r = opened-kept doneWith .0 in omega arith) (let r = opened-kept doneWith .2 in omega arith) (opened-kept doneWith .1) (opened-shows F (d .rules) doneWith doneGrid seen again (d .stored))
           go (ending p q) = absurd (omega arith)
           go (lining p q u v) = absurd (omega arith)
@@ -338,27 +336,34 @@ module _ (F : Policy) (Z : Sized F) (s : List ℕ) (k : Tally) (met listed grid 
       is-end (lining p q u v) z = absurd (omega arith)
 
       -- bytes behind the end
-      pub ended-late : b ≡ 0x2F → (at + w ≡ length s → ⊥) → nothingRead 12 ≡ outcome F (read (ruleFormat 2 (besideOf F)) start s)
+      pub ended-late : b ≡ 0x2F → (at + w ≡ length s → ⊥) → nothingRead 12 ≡ bothOf (outcome F (read (ruleFormat 2 (besideOf F)) start s))
       unfolding outcome bothOf ruleFormat
       ended-late z d = go (drop w (drop at s)) refl (followed (is-end (kind-at (front .shape)) z))
         where
-          go : (l : List ℕ) → drop w (drop at s) ≡ l → outcome F (behind (ruleFormat 2 (besideOf F)) (record { complete = closed h .rules; current = none }) l) ≡ answer → nothingRead 12 ≡ answer
+          go : (l : List ℕ) → drop w (drop at s) ≡ l → outcome F (behind (ruleFormat 2 (besideOf F)) (record { complete = closed h .rules; current = none }) l) ≡ answer → nothingRead 12 ≡ bothOf answer
           go [] q o = let n = ap length q in let a = not-past in let i = t .within in let c = length-drop w (drop at s) in let g = length-drop at s in absurd (d (omega arith))
-          go (y ∷ l) q o = o
+          go (y ∷ l) q o = ap bothOf o
 
-      -- the end: what is kept is what the rules come to
-      pub ended : b ≡ 0x2F → at + w ≡ length s → bothWith (recordOf F) doneWith doneGrid seen again ≡ outcome F (read (ruleFormat 2 (besideOf F)) start s)
-      unfolding outcome bothOf
-      ended z d =
-          shown (closed h .rules) doneWith doneGrid (closed h .stored)
-          ∙ ap (λ (l : List ℕ). outcome F (behind (ruleFormat 2 (besideOf F)) (record { complete = closed h .rules; current = none }) l)) (sym nothing-left)
+      -- the end
+      at-the-end : b ≡ 0x2F → at + w ≡ length s → accepted (F, closed h .rules) ≡ outcome F (read (ruleFormat 2 (besideOf F)) start s)
+      unfolding outcome
+      at-the-end z d =
+          ap (λ (l : List ℕ). outcome F (behind (ruleFormat 2 (besideOf F)) (record { complete = closed h .rules; current = none }) l)) (sym nothing-left)
           ∙ followed (is-end (kind-at (front .shape)) z)
         where
           nothing-left : drop w (drop at s) ≡ []
           nothing-left = length-none (drop w (drop at s)) (let a = length-drop w (drop at s) in let c = length-drop at s in omega arith)
 
-          shown : (rules : List Lines) (n : Tally) (g : List ℕ) → Stored F rules n g seen again → bothWith (recordOf F) n g seen again ≡ bothOf (accepted (F, rules))
-          shown rules n g v = rw (v .rules-counted, v .grid-shown, v .strays-shown, v .stray-shown, v .seen-shown, v .again-shown) refl
+      -- what is kept is what the rules come to, and the grid has what they grant
+      pub ended : b ≡ 0x2F → at + w ≡ length s → (bothWith (recordOf F) doneWith seen again ≡ bothOf (outcome F (read (ruleFormat 2 (besideOf F)) start s))) × GridShown (outcome F (read (ruleFormat 2 (besideOf F)) start s)) doneGrid
+      unfolding bothOf GridShown
+      ended z d = (
+        shown (closed h .rules) doneWith doneGrid (closed h .stored) ∙ ap bothOf (at-the-end z d),
+        subst (λ (a : Answer (Policy × List Lines)). GridShown a doneGrid) (at-the-end z d) (closed h .stored .grid-shown),
+      )
+        where
+          shown : (rules : List Lines) (n : Tally) (g : List ℕ) → Stored F rules n g seen again → bothWith (recordOf F) n seen again ≡ bothOf (accepted (F, rules))
+          shown rules n g v = rw (v .rules-counted, v .strays-shown, v .stray-shown, v .seen-shown, v .again-shown) refl
 
     -- ---- a line of the open rule
 
@@ -395,7 +400,7 @@ module _ (F : Policy) (Z : Sized F) (s : List ℕ) (k : Tally) (met listed grid 
       follows-is : (b ≡ 0x20 → ⊥) → (ls : Lines) → t .reading .current ≡ some ls → followsWith k b x y ≡ follows ls (commandOf b x y)
       follows-is other ls q = follows-means F Z (t .reading .complete) ls k met listed grid seen again (shows-lines (some ls) q) b x y (inside-is (some ls) q) (front .shape other) (of-rule other .low) (of-rule other .high)
 
-      pub line-refused : followsWith k b x y ≡ false → nothingRead 12 ≡ outcome F (read (ruleFormat 2 (besideOf F)) start s)
+      pub line-refused : followsWith k b x y ≡ false → nothingRead 12 ≡ bothOf (outcome F (read (ruleFormat 2 (besideOf F)) start s))
       line-refused h = test (eqb b 0x20)
           (λ e. refused-by (again-refused (besideOf F) (t .reading) b x y (eqb-true b 0x20 e)))
           (λ e. refused-by (of-rule (eqb-false b 0x20 e) .adds ∙ go (eqb-false b 0x20 e) (t .reading .current) refl))
@@ -438,11 +443,11 @@ module _ (F : Policy) (Z : Sized F) (s : List ℕ) (k : Tally) (met listed grid 
         added : obeyRule (besideOf F) (t .reading) (commandOf b x y) ≡ tested (legal (besideOf F) (commandOf b x y))
         added = of-rule other .adds ∙ add-some (open-rule .lines) (open-rule .current) ∙ ap (λ (u : Bool). unless u rulesOrder (tested (legal (besideOf F) (commandOf b x y)))) (open-rule .follow)
 
-        operand-refused : obeyRule (besideOf F) (t .reading) (commandOf b x y) ≡ refused rulesOperand → nothingRead 13 ≡ answer
+        operand-refused : obeyRule (besideOf F) (t .reading) (commandOf b x y) ≡ refused rulesOperand → nothingRead 13 ≡ bothOf answer
         unfolding outcome bothOf
-        operand-refused q = ap (λ (r : Answer Reading). outcome F (andThen r onward)) (sym q) ∙ turned
+        operand-refused q = ap bothOf (ap (λ (r : Answer Reading). outcome F (andThen r onward)) (sym q) ∙ turned)
 
-        pub line-illegal : checkedBeside F b x y ≡ Illegal → nothingRead 13 ≡ outcome F (read (ruleFormat 2 (besideOf F)) start s)
+        pub line-illegal : checkedBeside F b x y ≡ Illegal → nothingRead 13 ≡ bothOf (outcome F (read (ruleFormat 2 (besideOf F)) start s))
         line-illegal i = operand-refused (added ∙ ap tested (checked-illegal F Z (front .shape other) i))
 
         -- the level of a 29, tested behind that
@@ -452,11 +457,11 @@ module _ (F : Policy) (Z : Sized F) (s : List ℕ) (k : Tally) (met listed grid 
         level-tested : Is (legal (besideOf F) (commandOf b x y)) → obeyRule (besideOf F) (t .reading) (commandOf b x y) ≡ unless (levelledWith k b x) wrongLevel (accepted (with-line (open-rule .lines)))
         level-tested l = added ∙ ap tested l ∙ ap (λ (u : Bool). unless u wrongLevel (accepted (with-line (open-rule .lines)))) (sym level-is)
 
-        level-refused : obeyRule (besideOf F) (t .reading) (commandOf b x y) ≡ refused wrongLevel → nothingRead 18 ≡ answer
+        level-refused : obeyRule (besideOf F) (t .reading) (commandOf b x y) ≡ refused wrongLevel → nothingRead 18 ≡ bothOf answer
         unfolding outcome bothOf
-        level-refused q = ap (λ (r : Answer Reading). outcome F (andThen r onward)) (sym q) ∙ turned
+        level-refused q = ap bothOf (ap (λ (r : Answer Reading). outcome F (andThen r onward)) (sym q) ∙ turned)
 
-        pub line-unlevelled : (c : RuleCommand) → checkedBeside F b x y ≡ Legal c → levelledWith k b x ≡ false → nothingRead 18 ≡ outcome F (read (ruleFormat 2 (besideOf F)) start s)
+        pub line-unlevelled : (c : RuleCommand) → checkedBeside F b x y ≡ Legal c → levelledWith k b x ≡ false → nothingRead 18 ≡ bothOf (outcome F (read (ruleFormat 2 (besideOf F)) start s))
         line-unlevelled c g v =
             level-refused (level-tested (checked-legal F Z (front .shape other) c g .0) ∙ ap (λ (u : Bool). unless u wrongLevel (accepted (with-line (open-rule .lines)))) v)
 
@@ -483,22 +488,22 @@ module _ (F : Policy) (Z : Sized F) (s : List ℕ) (k : Tally) (met listed grid 
 
           line-shows : Shows F (t .reading .complete) (open-rule .lines ++ (commandOf b x y ∷ [])) (notedWith k c b x y)
               (metAfter (F .table user .count) (F .table resource .count) (F .roles) (knownTable F) (valueTable F) (recordOf F .holders) met c)
-              (listedAfter (recordOf F .holders) (permissionTable F) listed c) grid (seenBy seen c) (againBy seen again c)
+              (listedAfter (F .operations) (recordOf F .holders) (permissionTable F) listed c) grid (seenBy seen c) (againBy seen again c)
           line-shows =
               subst
               (λ (d : Line). Shows F (t .reading .complete) (open-rule .lines ++ (d ∷ [])) (notedWith k c b x y)
               (metAfter (F .table user .count) (F .table resource .count) (F .roles) (knownTable F) (valueTable F) (recordOf F .holders) met c)
-              (listedAfter (recordOf F .holders) (permissionTable F) listed c) grid (seenBy seen c) (againBy seen again c))
+              (listedAfter (F .operations) (recordOf F .holders) (permissionTable F) listed c) grid (seenBy seen c) (againBy seen again c))
               (legal-line .1)
               (shows-line F Z (t .reading .complete) (open-rule .lines) k met listed grid seen again (shows-lines (some (open-rule .lines)) (open-rule .current)) b x y c line-sided line-legal
               (subst (λ (d : Line). InOrder b x y (open-rule .lines ++ (d ∷ []))) (sym (legal-line .1)) (order-more (k .last) (k .x) (k .y) b x y (open-rule .lines) (shows-lines (some (open-rule .lines)) (open-rule .current) .ordered) (front .shape other) (of-rule other .low) (of-rule other .high) (open-rule .after)))
               (λ j. no-second (ap isOperations (sym (legal-line .1)) ∙ j)))
 
           pub line-added : levelledWith k b x ≡ true → State F s (notedWith k c b x y) (metAfter (F .table user .count) (F .table resource .count) (F .roles) (knownTable F) (valueTable F) (recordOf F .holders) met c)
-              (listedAfter (recordOf F .holders) (permissionTable F) listed c) grid (seenBy seen c) (againBy seen again c) (at + w)
+              (listedAfter (F .operations) (recordOf F .holders) (permissionTable F) listed c) grid (seenBy seen c) (againBy seen again c) (at + w)
           line-added v =
               stepped (record { complete = t .reading .complete; current = some (open-rule .lines ++ (commandOf b x y ∷ [])) }) (notedWith k c b x y)
-              (metAfter (F .table user .count) (F .table resource .count) (F .roles) (knownTable F) (valueTable F) (recordOf F .holders) met c) (listedAfter (recordOf F .holders) (permissionTable F) listed c) grid (seenBy seen c) (againBy seen again c)
+              (metAfter (F .table user .count) (F .table resource .count) (F .roles) (knownTable F) (valueTable F) (recordOf F .holders) met c) (listedAfter (F .operations) (recordOf F .holders) (permissionTable F) listed c) grid (seenBy seen c) (againBy seen again c)
               (of-rule other .goes-on)
               (level-tested (legal-line .0) ∙ ap (λ (u : Bool). unless u wrongLevel (accepted (with-line (open-rule .lines)))) v)
               (let l = t .few in let r = noted-kept k c b x y .0 in omega arith)

@@ -65,8 +65,8 @@ pub record Tabled (F : Policy) (f : RoleFile) (sizes : Sizes) (links : List ℕ)
   pub linked : links ≡ linksOf F
 
 -- what is handed back of a rule file that was read to its end
-abbrev pub bothWith : RoleFile → Tally → List ℕ → List ℕ → List ℕ → BothFiles
-bothWith f k grid seen again = record { code = 0; file = f; rules = k .rules; grid = grid; strays = k .strays; stray = k .stray; seen = seen; again = again }
+abbrev pub bothWith : RoleFile → Tally → List ℕ → List ℕ → BothFiles
+bothWith f k seen again = record { code = 0; file = f; rules = k .rules; strays = k .strays; stray = k .stray; seen = seen; again = again }
 
 -- reading what stands behind the first command of a rule file, as reading both files does it when the role file was accepted
 unfoldable pub readBeside : Policy → List ℕ → Answer (Policy × List Lines)

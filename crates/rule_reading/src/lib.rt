@@ -9,7 +9,6 @@ use role_record::ByRole;
 use role_record::ByRoleOperation;
 use role_record::BySide;
 use role_record::CountBySide;
-use role_record::Grid;
 use role_record::RoleFile;
 use role_record::Sizes;
 use rule_commands::Raw;
@@ -17,14 +16,13 @@ use rule_commands::RuleCommand;
 use rule_notes::Tally;
 use rule_operands::Checked;
 
-// Both files read: 0, the record of the role file, how many rules there are, what they grant together (by user and operation a set
-// of resources), whether some rule grants other than its parts and which is the first of them, and by role the lowest operations of the parts that the
-// rules list, once or more and more than once; or the number of the refusal and nothing else.
+// Both files read: 0, the record of the role file, how many rules there are, whether some rule grants other than its parts and which is the
+// first of them, and by role the lowest operations of the parts that the rules list, once or more and more than once; or the number of the
+// refusal and nothing else. What the rules grant together stands in a grid that the caller lends.
 pub struct BothFiles {
     pub code: usize,
     pub file: RoleFile,
     pub rules: usize,
-    pub grid: Grid,
     pub strays: bool,
     pub stray: usize,
     pub seen: ByRole,

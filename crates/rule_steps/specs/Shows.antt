@@ -27,7 +27,7 @@ module _ (F : Policy) where
   -- of the rules that are complete
   pub record Stored (rules : List Lines) (k : Tally) (grid seen again : List ℕ) : Type 0 where
     pub all-legal : (ls : Lines) → ls isIn rules → Legal (besideOf F) ls
-    pub grid-shown : grid ≡ gridOf (grantedWithin rules)
+    pub grid-shown : grid ≡ gridOf (F .operations) (grantedWithin rules)
     pub rules-counted : k .rules ≡ length rules
     pub strays-shown : k .strays ≡ isSome (firstStrayRule (settingOf F) (rolesIn F) rules)
     pub stray-shown : k .stray ≡ numberOr (firstStrayRule (settingOf F) (rolesIn F) rules)
@@ -45,8 +45,8 @@ module _ (F : Policy) where
     pub listing-shown : k .listing ≡ any isPartLine ls
     pub telling-shown : k .telling ≡ any isLevel ls
     pub ordered : InOrder (k .last) (k .x) (k .y) ls
-    pub listed-shown : listed ≡ gridOf (partsGrant (settingOf F) (rolesIn F) ls)
-    pub grid-shown : grid ≡ gridOf (grantedWithin rules)
+    pub listed-shown : listed ≡ gridOf (F .operations) (partsGrant (settingOf F) (rolesIn F) ls)
+    pub grid-shown : grid ≡ gridOf (F .operations) (grantedWithin rules)
     pub rules-counted : k .rules ≡ length rules
     pub strays-shown : k .strays ≡ isSome (firstStrayRule (settingOf F) (rolesIn F) rules)
     pub stray-shown : k .stray ≡ numberOr (firstStrayRule (settingOf F) (rolesIn F) rules)

@@ -10,7 +10,6 @@ use mathlib.Core.Logic.{⊎-elim}
 use mathlib.Core.Option.{Option, none, some}
 use mathlib.Core.Path.{_≡_, refl, sym, ap, ap₂, _∙_, subst}
 use native.Mathlib.Omega.{arith}
-use Rattle.role_record.specs.Cells.{rowCells, userCells}
 use Rattle.role_record.specs.Places.{placeSide, placeAttribute, placeOf}
 use Rattle.role_record.specs.Record.{Sized, numberOr, tableOf, marked, knownTable, valueTable, permissionTable, recordOf}
 use Rattle.rule_conjuncts.specs.SummaryLineLaws.{met-kept, asked-kept, NoValue, met-line, asked-line, atoms-line, atoms-kept, operations-line, operations-kept, met-none, asked-none, atoms-none}
@@ -20,34 +19,35 @@ use Rattle.files.specs.Calls.{isTriple, rulesGrant, partsGrant, firstStrayRule}
 use Rattle.files.specs.RoleFile.{sideBy}
 use Rattle.files.specs.LineLaws.{operationsOr}
 use Rattle.files.specs.RuleFile.{RuleCommand as Line, Lines, isOperations, isPartLine, isLevel, operationsIn, valuesIn, ruleIn, whole, noSecond, follows, legal, levelled, ownValue, reshapes, opens, value, operations, link, part, level, ends}
-use Rattle.grant_grids.specs.Grid.{gridOf, inGrid, gridDifference, differenceOf, isSame}
-use Rattle.grant_grids.specs.GridLaws.{in-grid, grid-same, grids-same}
+use Rattle.grant_grids.specs.Grid.{gridOf}
+use Rattle.grant_grids.specs.GridLaws.{grid-same}
+use Rattle.grant_grids.specs.Updates.{addedPart}
 use Rattle.rule_listings.specs.Listed.{seenAfter, againAfter, seenTable, againTable}
 use Rattle.rule_listings.specs.ListedLaws.{other-line, empty-rule, no-rules, list-means}
-use Rattle.role_record.specs.RecordLaws.{table-none, table-ext}
 use Rattle.rule_meeting.specs.Meeting.{meetingOf, countBy}
 use Rattle.rule_meeting.specs.MeetingMeansLaws.{meeting-means}
-use Rattle.grant_blocks.specs.PartGrid.{addedPart, joinedGrid}
-use Rattle.grant_blocks.specs.PartGridLaws.{grid-kept, none-listed, joined-means, part-added}
+use Rattle.grant_blocks.specs.Rows.{cellOf, addedRows, sameRows}
+use Rattle.grant_blocks.specs.RowsLaws.{rows-added, rows-same}
+use Rattle.grant_blocks.specs.PartGridLaws.{grid-kept, none-listed, part-added, parts-within}
 use Rattle.policy.specs.ClassLaws.{part-facts}
 use Rattle.policy.specs.OrderLaws.{Numbered}
 use Rattle.policy.specs.Policy.{Policy, kindOf, isSetAt, sideOf, settingOf, rolesIn}
 use Rattle.policy.specs.Roles.{parts, classOf}
-use Rattle.policy.specs.Rules.{own, Which, by, Block, Triple, grants, ruleLevel, sameBlock, user, resource}
+use Rattle.policy.specs.Rules.{own, Which, by, Block, grants, ruleLevel, sameBlock, user, resource}
 use Rattle.rule_commands.specs.CommandOrderLaws.{order-none}
 use Rattle.rule_commands.specs.Raw.{InOrder, rawBefore, commandOf, linkMeaning, ruleMeaning, Shape, shape-opens, shape-user-single, shape-user-set, shape-resource-single, shape-resource-set, shape-operations, shape-link, shape-part, shape-level, shape-ends, Sided}
-use Rattle.rule_grants.specs.RuleGrid.{summaryGrants}
+use Rattle.rule_grants.specs.RuleRows.{ruleRows}
+use Rattle.rule_grants.specs.RuleRowsLaws.{rows-low, rows-grant}
 use Rattle.rule_satisfaction.specs.Satisfaction.{Legal}
-use Rattle.rule_grants.specs.SummaryGridLaws.{summary-means}
+use Rattle.rule_grants.specs.SummaryLaws.{summary-means}
 use Rattle.rule_levels.specs.LevelLaws.{lines-level}
 use Rattle.rule_levels.specs.Levels.{levelFor, listsOwn, linesLevel}
-use Rattle.rule_notes.specs.Tally.{begunWith, countedWith, ruleGrid, closedWith, mayClose, isSecond, followsWith, levelledWith}
+use Rattle.rule_notes.specs.Tally.{begunWith, countedWith, openRows, closedWith, mayClose, isSecond, followsWith, levelledWith}
 use Rattle.rule_notes.specs.LineSteps.{placeBy, pairNumber, atomNumber, tallyWith, notedWith, metMore, metAfter, PartWithin, listedAfter, seenBy, againBy}
 use Rattle.rule_steps.specs.Shows.{grantedWithin, Stored, Shows}
 use Rattle.grant_grids.specs.Links.{linksOf}
 use Rattle.rule_steps.specs.StrayLaws.{orElse, strays, stray-more, grants-more}
 use Rattle.sets.specs.ListLaws.{any-last}
-use Rattle.sets.specs.MaskLaws.{mask-none}
 use Rattle.sets.specs.SetLaws.{bit-mask}
 use Rattle.sets.specs.Sets.{bit, maskOf}
 use Rattle.sets.specs.Tests.{Is, iff, _isIn_, any, isSome}
@@ -61,10 +61,6 @@ use Rattle.rule_commands.specs.declared.RuleCommand.the-variants.{Opens, Value,
 
 -- ---- the beginning
 
-pub nothing-granted : replicate {A = ℕ} userCells 0 ≡ gridOf (λ u r o. false)
-unfolding gridOf
-nothing-granted = table-none userCells ∙ table-ext userCells (λ i. 0) (λ i. maskOf 64 (λ r. false)) (λ i l. sym (mask-none 64 (λ r. false) (λ r h. refl)))
-
 one-of : {A : Type 0} (x : A) {y : A} → y isIn (x ∷ []) → y ≡ x
 one-of x m = only-out true m .1
 
@@ -73,11 +69,11 @@ module _ (F : Policy) where
   unfolding grantedWithin rulesGrant
   none-granted u r o = sym (and-false (isTriple (settingOf F) u r o))
 
-  pub stored-begun : Stored F [] begunWith (replicate userCells 0) (replicate 32 0) (replicate 32 0)
+  pub stored-begun : (grid : List ℕ) → grid ≡ gridOf (F .operations) (λ u r o. false) → Stored F [] begunWith grid (replicate 32 0) (replicate 32 0)
   unfolding begunWith firstStrayRule
-  stored-begun = record {
+  stored-begun grid e = record {
     all-legal = λ ls m. absurd (List·Memᴰ·not-nil m);
-    grid-shown = nothing-granted ∙ grid-same (λ u r o. false) (grantedWithin F []) (λ u r o hu hr ho. none-granted u r o);
+    grid-shown = e ∙ grid-same (F .operations) (λ u r o. false) (grantedWithin F []) (λ u r o hu hr ho. none-granted u r o);
     rules-counted = refl;
     strays-shown = refl;
     stray-shown = refl;
@@ -86,7 +82,7 @@ module _ (F : Policy) where
   }
 
   -- behind a 21, or before the first: a rule without lines
-  pub shows-opened : (rules : List Lines) (k n : Tally) (met listed grid seen again : List ℕ) → Stored F rules k grid seen again → met ≡ tableOf 14 (λ i. 0) → listed ≡ gridOf (λ u r o. false)
+  pub shows-opened : (rules : List Lines) (k n : Tally) (met listed grid seen again : List ℕ) → Stored F rules k grid seen again → met ≡ tableOf 14 (λ i. 0) → listed ≡ gridOf (F .operations) (λ u r o. false)
       → n .asked ≡ 0 → n .atoms ≡ 0 → n .operations ≡ 0 → n .listing ≡ false → n .telling ≡ false → n .last ≡ 0x21 → n .rules ≡ k .rules → n .strays ≡ k .strays → n .stray ≡ k .stray
       → Shows F rules [] n met listed grid seen again
   shows-opened rules k n met listed grid seen again s hm hl a b c d v e f g h = record {
@@ -99,7 +95,7 @@ module _ (F : Policy) where
     listing-shown = d;
     telling-shown = v;
     ordered = subst (λ (t : ℕ). InOrder t (n .x) (n .y) []) (sym e) (order-none (n .x) (n .y));
-    listed-shown = hl ∙ none-listed (settingOf F) (rolesIn F);
+    listed-shown = hl ∙ none-listed (settingOf F) (rolesIn F) (F .operations);
     grid-shown = s .grid-shown;
     rules-counted = f ∙ s .rules-counted;
     strays-shown = g ∙ s .strays-shown;
@@ -120,59 +116,41 @@ counted-on k false none n a b c = rw a (ap (λ (t : ℕ). t + 1) c, refl, c)
 counted-on k false (some x) n a b c = rw a (ap (λ (t : ℕ). t + 1) c, refl, b)
 
 module _ (F : Policy) (Z : Sized F) where
-  -- a triple lies within the tables
-  within-tables : (u r o : ℕ) → Triple (settingOf F) u r o → (u < 64) × (r < 64) × (o < rowCells)
-  unfolding settingOf sideOf
-  within-tables u r o t =
-      let a = Z .many user in
-      let b = Z .many resource in
-      let c = Z .operable in
-      let d = t .user in
-      let e = t .resource in
-      let f = t .op in
-      (omega arith, omega arith, omega arith)
-
-  triple-is : (u r o : ℕ) → Triple (settingOf F) u r o → Is (isTriple (settingOf F) u r o)
-  unfolding isTriple
-  triple-is u r o t = and-in (lt-ltb u (settingOf F .side user .count) (t .user)) (and-in (lt-ltb r (settingOf F .side resource .count) (t .resource)) (lt-ltb o (settingOf F .slots) (t .op)))
-
   -- what the open rule grants within the sizes
   abbrev own-grants : Lines → Block
   own-grants ls u r o = isTriple (settingOf F) u r o && grants (settingOf F) (ruleIn (settingOf F) ls) u r o
 
   module _ (rules : List Lines) (ls : Lines) (k : Tally) (met listed grid seen again : List ℕ) (s : Shows F rules ls k met listed grid seen again) where
-    rule-shown : ruleGrid k met (linksOf F) (F .table user .count) (F .table resource .count) ≡ gridOf (own-grants ls)
-    unfolding ruleGrid
-    rule-shown =
-        rw (s .met-shown, s .asked-shown, s .atoms-shown, s .operations-shown)
-        (grid-same (summaryGrants (metTable (settingOf F) ls) (askedPlaces (settingOf F) ls) (atomPlaces ls) (operationsIn ls) (linksOf F) (F .table user .count) (F .table resource .count)) (own-grants ls)
-        (λ u r o hu hr ho. summary-means F Z ls (s .legal-open) u r o hu hr))
+    abbrev own-rows : List ℕ
+    own-rows = openRows k met (linksOf F) (F .table user .count) (F .table resource .count)
 
-    in-rule : (u r o : ℕ) → Triple (settingOf F) u r o → inGrid (ruleGrid k met (linksOf F) (F .table user .count) (F .table resource .count)) u r o ≡ grants (settingOf F) (ruleIn (settingOf F) ls) u r o
-    in-rule u r o t =
-        let w = within-tables u r o t in
-        ap (λ (g : List ℕ). inGrid g u r o) rule-shown ∙ in-grid (own-grants ls) u r o (w .0) (w .1) (w .2) ∙ ap (λ (b : Bool). b && grants (settingOf F) (ruleIn (settingOf F) ls) u r o) (triple-is u r o t)
+    rows-shown : own-rows ≡ ruleRows (metTable (settingOf F) ls) (askedPlaces (settingOf F) ls) (atomPlaces ls) (linksOf F) (F .table user .count) (F .table resource .count)
+    unfolding openRows
+    rows-shown = rw (s .met-shown, s .asked-shown, s .atoms-shown) refl
 
-    in-listed : (u r o : ℕ) → Triple (settingOf F) u r o → inGrid listed u r o ≡ partsGrant (settingOf F) (rolesIn F) ls u r o
-    in-listed u r o t =
-        let w = within-tables u r o t in
-        ap (λ (g : List ℕ). inGrid g u r o) (s .listed-shown) ∙ in-grid (partsGrant (settingOf F) (rolesIn F) ls) u r o (w .0) (w .1) (w .2)
+    -- its rows, at its operations, say what it grants
+    rows-mean : (u r o : ℕ) → u < 64 → r < 64 → o < F .operations → bit (cellOf own-rows (k .operations) u o) r ≡ own-grants ls u r o
+    rows-mean u r o hu hr ho =
+        ap₂ (λ (t : List ℕ) (m : ℕ). bit (cellOf t m u o) r) rows-shown (s .operations-shown)
+        ∙ rows-grant (metTable (settingOf F) ls) (askedPlaces (settingOf F) ls) (atomPlaces ls) (linksOf F) (F .table user .count) (F .table resource .count) (operationsIn ls) u r o hu
+        ∙ summary-means F Z ls (s .legal-open) u r o hu hr
 
-    compared : isSame (differenceOf (gridDifference (ruleGrid k met (linksOf F) (F .table user .count) (F .table resource .count)) listed (F .table user .count) (F .table resource .count) (F .operations)))
-        ≡ sameBlock (settingOf F) (grants (settingOf F) (ruleIn (settingOf F) ls)) (partsGrant (settingOf F) (rolesIn F) ls)
-    unfolding settingOf sideOf
-    compared = grids-same (settingOf F) (grants (settingOf F) (ruleIn (settingOf F) ls)) (partsGrant (settingOf F) (rolesIn F) ls) (ruleGrid k met (linksOf F) (F .table user .count) (F .table resource .count)) listed in-rule in-listed
+    compared : sameRows (F .operations) own-rows (k .operations) listed ≡ sameBlock (settingOf F) (grants (settingOf F) (ruleIn (settingOf F) ls)) (partsGrant (settingOf F) (rolesIn F) ls)
+    unfolding openRows settingOf sideOf
+    compared =
+        rows-same (settingOf F) (F .operations) own-rows (k .operations) (grants (settingOf F) (ruleIn (settingOf F) ls)) (partsGrant (settingOf F) (rolesIn F) ls) (Z .many user) (Z .many resource) refl
+        (rows-low met (k .asked) (k .atoms) (linksOf F) (F .table user .count) (F .table resource .count)) rows-mean (parts-within F Z ls) listed (s .listed-shown)
 
-    joined-shown : joinedGrid (ruleGrid k met (linksOf F) (F .table user .count) (F .table resource .count)) grid ≡ gridOf (grantedWithin F (rules ++ (ls ∷ [])))
+    joined-shown : addedRows (F .operations) own-rows (k .operations) grid ≡ gridOf (F .operations) (grantedWithin F (rules ++ (ls ∷ [])))
     unfolding grantedWithin
     joined-shown =
-        ap₂ joinedGrid rule-shown (s .grid-shown)
-        ∙ joined-means (own-grants ls) (grantedWithin F rules)
-        ∙ grid-same (λ u r o. grantedWithin F rules u r o || own-grants ls u r o) (grantedWithin F (rules ++ (ls ∷ [])))
+        ap (addedRows (F .operations) own-rows (k .operations)) (s .grid-shown)
+        ∙ rows-added (F .operations) own-rows (k .operations) (own-grants ls) (grantedWithin F rules) rows-mean
+        ∙ grid-same (F .operations) (λ u r o. grantedWithin F rules u r o || own-grants ls u r o) (grantedWithin F (rules ++ (ls ∷ [])))
         (λ u r o hu hr ho. sym (and-or-distrib-left (isTriple (settingOf F) u r o) (rulesGrant (settingOf F) rules u r o) (grants (settingOf F) (ruleIn (settingOf F) ls) u r o)) ∙ ap (λ (b : Bool). isTriple (settingOf F) u r o && b) (sym (grants-more (settingOf F) (rolesIn F) rules ls u r o)))
 
     abbrev closed-same : Bool
-    closed-same = isSame (differenceOf (gridDifference (ruleGrid k met (linksOf F) (F .table user .count) (F .table resource .count)) listed (F .table user .count) (F .table resource .count) (F .operations)))
+    closed-same = sameRows (F .operations) own-rows (k .operations) listed
 
     one-more : firstStrayRule (settingOf F) (rolesIn F) (rules ++ (ls ∷ [])) ≡ orElse (firstStrayRule (settingOf F) (rolesIn F) rules) (cond (not closed-same) (some (length rules)) none)
     unfolding strays
@@ -184,7 +162,7 @@ module _ (F : Policy) (Z : Sized F) where
     counted = counted-on k closed-same (firstStrayRule (settingOf F) (rolesIn F) rules) (length rules) (s .strays-shown) (s .stray-shown) (s .rules-counted)
 
     -- THE LAW of closing
-    pub stored-closed : Stored F (rules ++ (ls ∷ [])) (closedWith k met listed (linksOf F) (F .table user .count) (F .table resource .count) (F .operations)) (joinedGrid (ruleGrid k met (linksOf F) (F .table user .count) (F .table resource .count)) grid) seen again
+    pub stored-closed : Stored F (rules ++ (ls ∷ [])) (closedWith k met listed (linksOf F) (F .table user .count) (F .table resource .count) (F .operations)) (addedRows (F .operations) own-rows (k .operations) grid) seen again
     unfolding closedWith
     stored-closed = record {
       all-legal = λ t m. ⊎-elim (λ i. s .all-legal t i) (λ i. subst (Legal (besideOf F)) (sym (one-of ls i)) (s .legal-open)) (List·Memᴰ·append-cases rules m);
@@ -397,7 +375,7 @@ module _ (F : Policy) (Z : Sized F) where
       assembled : (c : Line) → Is (legal (besideOf F) c) → InOrder b x y (ls ++ (c ∷ []))
           → (asks joins acts : ℕ) (lists tells : Bool) (met₁ listed₁ seen₁ again₁ : List ℕ)
           → met₁ ≡ metTable (settingOf F) (ls ++ (c ∷ [])) → asks ≡ askedPlaces (settingOf F) (ls ++ (c ∷ [])) → joins ≡ atomPlaces (ls ++ (c ∷ [])) → acts ≡ operationsIn (ls ++ (c ∷ []))
-          → lists ≡ any isPartLine (ls ++ (c ∷ [])) → tells ≡ any isLevel (ls ++ (c ∷ [])) → listed₁ ≡ gridOf (partsGrant (settingOf F) (rolesIn F) (ls ++ (c ∷ [])))
+          → lists ≡ any isPartLine (ls ++ (c ∷ [])) → tells ≡ any isLevel (ls ++ (c ∷ [])) → listed₁ ≡ gridOf (F .operations) (partsGrant (settingOf F) (rolesIn F) (ls ++ (c ∷ [])))
           → seen₁ ≡ seenTable (rules ++ ((ls ++ (c ∷ [])) ∷ [])) → again₁ ≡ againTable (rules ++ ((ls ++ (c ∷ [])) ∷ []))
           → Shows F rules (ls ++ (c ∷ [])) (tallyWith k asks joins acts lists tells b x y) met₁ listed₁ grid seen₁ again₁
       assembled c h o asks joins acts lists tells met₁ listed₁ seen₁ again₁ e1 e2 e3 e4 e5 e e6 e7 e8 = record {
@@ -438,8 +416,8 @@ module _ (F : Policy) (Z : Sized F) where
       telling-same : (c : Line) → isLevel c ≡ false → k .telling ≡ any isLevel (ls ++ (c ∷ []))
       telling-same c h = s .telling-shown ∙ sym (any-last isLevel ls c ∙ ap (λ (t : Bool). any isLevel ls || t) h ∙ or-false (any isLevel ls))
 
-      listed-same : (c : Line) → isPartLine c ≡ false → listed ≡ gridOf (partsGrant (settingOf F) (rolesIn F) (ls ++ (c ∷ [])))
-      listed-same c h = s .listed-shown ∙ sym (grid-kept (settingOf F) (rolesIn F) ls c h)
+      listed-same : (c : Line) → isPartLine c ≡ false → listed ≡ gridOf (F .operations) (partsGrant (settingOf F) (rolesIn F) (ls ++ (c ∷ [])))
+      listed-same c h = s .listed-shown ∙ sym (grid-kept (settingOf F) (rolesIn F) (F .operations) ls c h)
 
       seen-same : (c : Line) → isPartLine c ≡ false → seen ≡ seenTable (rules ++ ((ls ++ (c ∷ [])) ∷ []))
       seen-same c h = s .seen-shown ∙ other-line rules ls c h .0
@@ -487,7 +465,7 @@ module _ (F : Policy) (Z : Sized F) where
       pub shows-line : (c : RuleCommand) → Sided c → Is (legal (besideOf F) (ruleMeaning c)) → InOrder b x y (ls ++ (ruleMeaning c ∷ [])) → (isOperations (ruleMeaning c) ≡ true → any isOperations ls ≡ false)
           → Shows F rules (ls ++ (ruleMeaning c ∷ [])) (notedWith k c b x y)
           (metAfter (F .table user .count) (F .table resource .count) (F .roles) (knownTable F) (valueTable F) (recordOf F .holders) met c)
-          (listedAfter (recordOf F .holders) (permissionTable F) listed c) grid (seenBy seen c) (againBy seen again c)
+          (listedAfter (F .operations) (recordOf F .holders) (permissionTable F) listed c) grid (seenBy seen c) (againBy seen again c)
       unfolding notedWith metAfter metWith listedAfter seenBy againBy Sided
       shows-line Opens q h o n = idle-line opens h o (λ w t i. refl) (λ i. refl) (λ m. refl) refl refl
       shows-line (Value v) q h o n =
@@ -504,7 +482,7 @@ module _ (F : Policy) (Z : Sized F) where
           let t = list-means F Z rules ls j m h in
           assembled c h o _ _ _ _ _ _ _ _ _ (met-same c (λ w t i. refl)) (asked-same c (λ w t i. refl)) (atoms-same c (λ i. refl)) (operations-same c (λ n. refl))
           (sym (any-last isPartLine ls c ∙ or-true (any isPartLine ls))) (telling-same c refl)
-          (ap (addedPart (getD (recordOf F .holders) j 0) (permissionTable F) j m) (s .listed-shown) ∙ part-added F Z ls j m h)
+          (ap (addedPart (F .operations) (getD (recordOf F .holders) j 0) (permissionTable F) j m) (s .listed-shown) ∙ part-added F Z ls j m h)
           (ap (λ (u : List ℕ). seenAfter u j m) (s .seen-shown) ∙ t .0)
           (ap₂ (λ (u w : List ℕ). againAfter u w j m) (s .seen-shown) (s .again-shown) ∙ t .1)
       shows-line (Level l) q h o n =

@@ -1,19 +1,18 @@
 // The steps of reading a rule file beside a loaded role file. Of a rule nothing is kept but its summary; of the rules before it only what
 // they grant together, the first of them that grants other than its parts, and which parts were listed.
+ghost use lib.ListN.{length};
 ghost use mathlib.Core.Path.{_≡_};
-ghost use Prim.Native.Nat.{_+_, _^_, _<_};
-ghost use Rattle.grant_grids.specs.Grid.{isSame};
-ghost use Rattle.grant_blocks.specs.PartGrid.{joinedGrid};
-ghost use Rattle.rule_notes.specs.Tally.{begunWith, openedWith, countedWith, ruleGrid, closedWith, finishedWith, finishedGrid, mayClose, isSecond, followsWith, levelledWith};
+ghost use Prim.Native.Nat.{_+_, _^_, _≤_, _<_};
+ghost use Rattle.grant_blocks.specs.Rows.{addedRows};
+ghost use Rattle.role_record.specs.Cells.{mostOperations, gridCells};
+ghost use Rattle.rule_notes.specs.Tally.{begunWith, openedWith, countedWith, openRows, closedWith, finishedWith, finishedGrid, mayClose, isSecond, followsWith, levelledWith};
 ghost use Rattle.rule_notes.specs.LineSteps.{PartWithin, listedAfter, seenBy, againBy};
 ghost use Rattle.role_record.specs.Record.{WithinLimits};
 use files::rule_byte;
-use grant_grids::Difference;
 use role_record::ByPlace;
 use role_record::ByRole;
 use role_record::ByRoleOperation;
 use role_record::BySide;
-use role_record::Grid;
 use role_record::Links;
 use role_record::RoleFile;
 use role_record::Sizes;
@@ -83,51 +82,44 @@ fn counted(k: Tally, same: bool) -> Tally
     n
 }
 
-fn is_same(d: Difference) -> bool
-    ensures { λ r. ⌜ r ≡ isSame d ⌝ }
-{
-    match d {
-        Difference::Same => true,
-        Difference::At(_, _, _) => false,
-    }
-}
-
-// Closes the open rule: joins what it grants to what the rules before it do, and counts it.
+// Closes the open rule: joins what it grants to what the rules before it do, and counts it. It has no grid of its own: its rows and its
+// operations say what it grants.
 fn close<'a>(
     k: Tally,
     met: &'a ByPlace,
-    listed: &'a Grid,
+    listed: &'a [u64],
     kinds: &'a BySide,
     links: &'a Links,
     sizes: Sizes,
-    grid: &mut Grid,
+    grid: &mut [u64],
 ) -> Tally
-    requires { ⌜ WithinLimits sizes × (k .rules + 1 < 2 ^ 64) ⌝ }
+    requires { ⌜
+        WithinLimits sizes
+        × (k .rules + 1 < 2 ^ 64)
+        × (length (now listed) ≡ gridCells (sizes .operations))
+        × (length (now grid) ≡ gridCells (sizes .operations)) ⌝ }
     ensures { λ r. ⌜
         (r
         ≡ closedWith k (now (met .entry)) (now (listed .entry)) (now (links .entry)) (sizes .users)
         (sizes .resources) (sizes .operations))
         × (now (grid .exit)
-        ≡ joinedGrid (ruleGrid k (now (met .entry)) (now (links .entry)) (sizes .users) (sizes .resources))
+        ≡ addedRows (sizes .operations)
+        (openRows k (now (met .entry)) (now (links .entry)) (sizes .users) (sizes .resources)) (k .operations)
         (now (grid .entry))) ⌝ }
 {
-    let users = sizes.users;
-    let resources = sizes.resources;
-    let mut own = [0u64; RoleFile::USERS * RoleFile::OPERATIONS];
-    rule_grants::rule_grid(
+    let mut rows = [0u64; RoleFile::MEMBERS];
+    rule_grants::rule_rows(
         met,
         k.asked,
         k.atoms,
-        k.operations,
         kinds,
         links,
-        users,
-        resources,
-        &mut own,
+        sizes.users,
+        sizes.resources,
+        &mut rows,
     );
-    grant_blocks::join(&own, grid);
-    let d = grant_differences::first_difference(&own, listed, users, resources, sizes.operations);
-    let same = is_same(d);
+    grant_blocks::add_rows(&rows, k.operations, sizes.operations, grid);
+    let same = grant_differences::same_rows(&rows, k.operations, sizes.operations, listed);
     counted(k, same)
 }
 
@@ -151,20 +143,24 @@ pub fn may_close(k: Tally) -> bool
 pub fn finish<'a>(
     k: Tally,
     met: &'a ByPlace,
-    listed: &'a Grid,
+    listed: &'a [u64],
     kinds: &'a BySide,
     links: &'a Links,
     sizes: Sizes,
-    grid: &mut Grid,
+    grid: &mut [u64],
 ) -> Tally
-    requires { ⌜ WithinLimits sizes × (k .rules + 1 < 2 ^ 64) ⌝ }
+    requires { ⌜
+        WithinLimits sizes
+        × (k .rules + 1 < 2 ^ 64)
+        × (length (now listed) ≡ gridCells (sizes .operations))
+        × (length (now grid) ≡ gridCells (sizes .operations)) ⌝ }
     ensures { λ r. ⌜
         (r
         ≡ finishedWith k (now (met .entry)) (now (listed .entry)) (now (links .entry)) (sizes .users)
         (sizes .resources) (sizes .operations))
         × (now (grid .exit)
         ≡ finishedGrid k (now (met .entry)) (now (links .entry)) (sizes .users) (sizes .resources)
-        (now (grid .entry))) ⌝ }
+        (sizes .operations) (now (grid .entry))) ⌝ }
 {
     if k.inside {
         return close(k, met, listed, kinds, links, sizes, grid);
@@ -216,15 +212,21 @@ pub fn join_part<'a>(
     c: RuleCommand,
     holders: &'a ByRole,
     permissions: &'a ByRoleOperation,
-    listed: &mut Grid,
+    operations: usize,
+    listed: &mut [u64],
 )
-    requires { ⌜ PartWithin c ⌝ }
+    requires { ⌜
+        PartWithin c × (operations ≤ mostOperations) × (length (now listed) ≡ gridCells operations) ⌝ }
     ensures { λ _. ⌜
-        now (listed .exit) ≡ listedAfter (now (holders .entry)) (now (permissions .entry)) (now (listed .entry)) c ⌝ }
+        now (listed .exit)
+        ≡ listedAfter operations (now (holders .entry)) (now (permissions .entry)) (now (listed .entry)) c ⌝ }
 {
     match c {
-        RuleCommand::Part { role, operations } => {
-            grant_blocks::add_part(holders, permissions, role, operations, listed);
+        RuleCommand::Part {
+            role,
+            operations: class,
+        } => {
+            grant_grids::add_part(holders[role], permissions, role, class, operations, listed);
         }
         RuleCommand::Value(_) => {}
         RuleCommand::Operations(_) => {}

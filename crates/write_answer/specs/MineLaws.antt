@@ -16,7 +16,7 @@ use Rattle.files.specs.Demand3.{Demand3}
 use Rattle.files.specs.RoleFile.{readRoles}
 use Rattle.write_answer.specs.MinedNumbers.{minedNumbers}
 use Rattle.write_answer.specs.Stages.{bytesFor, neededBytes, wroteNumbers, Outcome}
-use Rattle.policy.specs.Policy.{Policy, settingOf, rolesIn}
+use Rattle.policy.specs.Policy.{Policy}
 use Rattle.policy.specs.declared.Weights.{Weights}
 use Rattle.role_file.specs.Reading.{refusal, loadedOf}
 use Rattle.sets.specs.Tests.{Is}

@@ -21,7 +21,7 @@ use Rattle.sets.specs.Sets.{bit, size, lessOne}
 use Rattle.sets.specs.SetLaws.{bit-none}
 use Rattle.sets.specs.Tests.{Is, iff, each, from, upTo, sum}
 use Rattle.sets.specs.TestLaws.{and-l, test, from-out, upTo-out}
-use Rattle.role_record.specs.Cells.{rowCells}
+use Rattle.role_record.specs.Cells.{mostOperations}
 use Rattle.role_record.specs.Places.{placeAttribute, setPlace}
 use Rattle.write_theory.specs.ListingLaws.{classes-most}
 use Rattle.write_theory.specs.RuleLists.{listedAt, classesAt}
@@ -125,7 +125,7 @@ module _ (permissions : List ℕ) (operations : ℕ) (starts t : List ℕ) (head
 
   -- a rule has at most as many parts as there may be
   pub counts-most : sum partCount (upTo 32) ≤ mostParts
-  counts-most = sum-most rowCells partCount (upTo 32) (λ k m. classes-most permissions operations starts t head k)
+  counts-most = sum-most mostOperations partCount (upTo 32) (λ k m. classes-most permissions operations starts t head k)
 
   sum-times : (c : ℕ) (f g : ℕ → ℕ) (l : List ℕ) → ((k : ℕ) → f k ≡ c * g k) → sum f l ≡ c * sum g l
   sum-times c f g [] h = omega arith

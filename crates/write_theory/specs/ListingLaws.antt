@@ -12,7 +12,7 @@ use Rattle.mine_distinct.specs.InsideValues.{isListed, listedBy}
 use Rattle.write_cost.specs.CostSumLaws.{sums-same}
 use Rattle.write_cost.specs.CostSums.{AtMost}
 use Rattle.write_lines.specs.Writing.{wrote}
-use Rattle.role_record.specs.Cells.{rowCells}
+use Rattle.role_record.specs.Cells.{mostOperations}
 use Rattle.role_record.specs.Places.{placeSide, setPlace}
 use Rattle.role_record.specs.Record.{tableOf}
 use Rattle.role_record.specs.RecordLaws.{table-get}
@@ -82,14 +82,14 @@ module _ (starts t : List ℕ) (head k : ℕ) where
   unfolding memberSet partsAt
   member-in i m =
       let s = keep-out (inGroup t head) (partsOf starts k) m in
-      bit-mask rowCells (λ o. any (ledBy t head o) (partsOf starts k)) (leadAt t i) (omega arith) ∙ any-in (ledBy t head (leadAt t i)) (s .0) (and-in (s .1) (eq-eqb (leadAt t i) (leadAt t i) refl))
+      bit-mask mostOperations (λ o. any (ledBy t head o) (partsOf starts k)) (leadAt t i) (omega arith) ∙ any-in (ledBy t head (leadAt t i)) (s .0) (and-in (s .1) (eq-eqb (leadAt t i) (leadAt t i) refl))
 
-  pub member-out : (o : ℕ) → Is (bit (memberSet starts t head k) o) → (o < rowCells) × (i : ℕ) × (i isIn partsAt starts t head k) × (leadAt t i ≡ o)
+  pub member-out : (o : ℕ) → Is (bit (memberSet starts t head k) o) → (o < mostOperations) × (i : ℕ) × (i isIn partsAt starts t head k) × (leadAt t i ≡ o)
   unfolding memberSet partsAt
   member-out o b =
-      let m = sym (bit-maskOf rowCells (λ o. any (ledBy t head o) (partsOf starts k)) o) ∙ b in
-      let u = any-out (ledBy t head o) (partsOf starts k) (and-r (ltb o rowCells) _ m) in
-      (ltb-true o rowCells (and-l (ltb o rowCells) _ m), u .0, keep-in (inGroup t head) (u .1) (and-l (inGroup t head (u .0)) _ (u .2)), eqb-true (leadAt t (u .0)) o (and-r (inGroup t head (u .0)) _ (u .2)))
+      let m = sym (bit-maskOf mostOperations (λ o. any (ledBy t head o) (partsOf starts k)) o) ∙ b in
+      let u = any-out (ledBy t head o) (partsOf starts k) (and-r (ltb o mostOperations) _ m) in
+      (ltb-true o mostOperations (and-l (ltb o mostOperations) _ m), u .0, keep-in (inGroup t head) (u .1) (and-l (inGroup t head (u .0)) _ (u .2)), eqb-true (leadAt t (u .0)) o (and-r (inGroup t head (u .0)) _ (u .2)))
 
 module _ (permissions : List ℕ) (operations : ℕ) (starts t : List ℕ) (head k : ℕ) where
   -- the classes of those who lead, from a table of theirs
@@ -100,7 +100,7 @@ module _ (permissions : List ℕ) (operations : ℕ) (starts t : List ℕ) (head
       (λ v m. let u = map-out (λ x. getD table x 0) (keep (bit (memberSet starts t head k)) (upTo 64)) m in there v (u .0) (keep-out (bit (memberSet starts t head k)) (upTo 64) (u .1) .1) (u .2))
       (λ v m. let u = map-out (classAt permissions operations t k) (partsAt starts t head k) m in back v (u .0) (u .1) (u .2))
     where
-      class-at : (o : ℕ) → o < rowCells → Is (bit (memberSet starts t head k) o) → getD table o 0 ≡ classRow permissions k operations o
+      class-at : (o : ℕ) → o < mostOperations → Is (bit (memberSet starts t head k) o) → getD table o 0 ≡ classRow permissions k operations o
       class-at o l b = h o l ∙ ap (λ (c : Bool). cond c (classRow permissions k operations o) 0) b
 
       there : (v x : ℕ) → Is (bit (memberSet starts t head k) x) → v ≡ getD table x 0 → v isIn map (classAt permissions operations t k) (partsAt starts t head k)
@@ -115,10 +115,10 @@ module _ (permissions : List ℕ) (operations : ℕ) (starts t : List ℕ) (head
 
   -- a table of them
   abbrev tabled : List ℕ
-  tabled = tableOf rowCells (classAmong permissions operations k (memberSet starts t head k))
+  tabled = tableOf mostOperations (classAmong permissions operations k (memberSet starts t head k))
 
   tabled-so : listedOf tabled (memberSet starts t head k) false ≡ classesAt permissions operations starts t head k
-  tabled-so = classes-listed tabled (λ o l. table-get rowCells (classAmong permissions operations k (memberSet starts t head k)) o l)
+  tabled-so = classes-listed tabled (λ o l. table-get mostOperations (classAmong permissions operations k (memberSet starts t head k)) o l)
 
   -- a role without a part in the group
   pub listed-none : (members : ℕ) (list : List ℕ) → members ≡ memberSet starts t head k → members ≡ 0 → (0 ≡ length (classesAt permissions operations starts t head k)) × (list ≡ wrote (classesAt permissions operations starts t head k) list)
@@ -145,14 +145,14 @@ module _ (permissions : List ℕ) (operations : ℕ) (starts t : List ℕ) (head
       (w .0 ∙ ap length n, w .1 ∙ ap (λ (l : List ℕ). wrote l list) n)
 
   -- a role has no more classes than there may be operations
-  pub classes-most : length (classesAt permissions operations starts t head k) ≤ rowCells
+  pub classes-most : length (classesAt permissions operations starts t head k) ≤ mostOperations
   unfolding listedOf valuesAmong memberSet size
   classes-most =
       let leads = keep (bit (memberSet starts t head k)) (upTo 64) in
       within (ap length (sym tabled-so)) (sort-most ltb (map (λ x. getD tabled x 0) leads)) (length-map leads (λ x. getD tabled x 0))
-      (size-mask rowCells (λ o. any (ledBy t head o) (partsOf starts k)) (omega arith)) (keep-most (λ o. any (ledBy t head o) (partsOf starts k)) (upTo rowCells)) (from-length 0 rowCells)
+      (size-mask mostOperations (λ o. any (ledBy t head o) (partsOf starts k)) (omega arith)) (keep-most (λ o. any (ledBy t head o) (partsOf starts k)) (upTo mostOperations)) (from-length 0 mostOperations)
     where
-      within : {a b c d e f : ℕ} → a ≡ b → b ≤ c → c ≡ d → d ≡ e → e ≤ f → f ≡ rowCells → a ≤ rowCells
+      within : {a b c d e f : ℕ} → a ≡ b → b ≤ c → c ≡ d → d ≡ e → e ≤ f → f ≡ mostOperations → a ≤ mostOperations
       within p q r s u v = omega arith
 
 -- ---- cost

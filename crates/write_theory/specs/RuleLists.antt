@@ -15,7 +15,7 @@ use Rattle.sets.specs.Sorted.{sort}
 use Rattle.sets.specs.Tests.{any, keep, from, upTo, sum}
 use Rattle.mine_parts.specs.Layout.{restAt, headIn, leadAt, wordsAt}
 use Rattle.mine_theory.specs.Words.Words.{membersOf}
-use Rattle.role_record.specs.Cells.{rowCells}
+use Rattle.role_record.specs.Cells.{mostOperations}
 use Rattle.role_record.specs.Places.{placeSide, setPlace}
 use Rattle.write_cost.specs.declared.Sums.{Sums}
 
@@ -44,7 +44,7 @@ unfoldable pub classAmong : List ℕ → (operations role members : ℕ) → ℕ
 classAmong permissions operations role members o = cond (bit members o) (classRow permissions role operations o) 0
 
 abbrev pub ClassTable : List ℕ → (operations role members : ℕ) → List ℕ → Type 0
-ClassTable permissions operations role members table = (o : ℕ) → o < rowCells → getD table o 0 ≡ classAmong permissions operations role members o
+ClassTable permissions operations role members table = (o : ℕ) → o < mostOperations → getD table o 0 ≡ classAmong permissions operations role members o
 
 -- the part is one of the group
 unfoldable pub inGroup : List ℕ → ℕ → ℕ → Bool
@@ -56,7 +56,7 @@ ledBy t head o i = inGroup t head i && eqb (leadAt t i) o
 
 -- the operations that lead the group's parts of a role
 unfoldable pub memberSet : (starts t : List ℕ) → ℕ → ℕ → ℕ
-memberSet starts t head k = maskOf rowCells (λ o. any (ledBy t head o) (partsOf starts k))
+memberSet starts t head k = maskOf mostOperations (λ o. any (ledBy t head o) (partsOf starts k))
 
 -- the group's parts of a role
 unfoldable pub partsAt : (starts t : List ℕ) → ℕ → ℕ → List ℕ

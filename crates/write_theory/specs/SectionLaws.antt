@@ -21,7 +21,7 @@ use Rattle.sets.specs.ListLaws.{length-each, sum-each, sum-most, sum-both, from
 use Rattle.sets.specs.Sets.{bit}
 use Rattle.sets.specs.TestLaws.{beq-iff}
 use Rattle.sets.specs.Tests.{Is, iff, each, upTo}
-use Rattle.role_record.specs.Cells.{rowCells}
+use Rattle.role_record.specs.Cells.{mostOperations}
 use Rattle.role_record.specs.Places.{placeSide, placeAttribute, setPlace}
 
 -- bytes that were written, under another name
@@ -209,7 +209,7 @@ parts-most permissions operations starts t head =
     runs-most 64 (roleBytesIn permissions operations starts t head) 32 (λ k.
     within (length-each (partBytes k) (classesAt permissions operations starts t head k)) (sum-each 4 (λ n. length (partBytes k n)) (classesAt permissions operations starts t head k) (λ n m. refl)) (classes-most permissions operations starts t head k))
   where
-    within : {x y n : ℕ} → x ≡ y → y ≡ 4 * n → n ≤ rowCells → x ≤ 64
+    within : {x y n : ℕ} → x ≡ y → y ≡ 4 * n → n ≤ mostOperations → x ≤ 64
     within e d h = omega arith
 
 -- a rule has at most 12288 bytes, whatever the tables hold

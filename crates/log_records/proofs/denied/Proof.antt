@@ -13,7 +13,7 @@ returns c =
     let operation = c .before .before in
     let resource = operation .before .before in
     let user = resource .before .before in
-    let a = user .before .before .before .args in
+    let a = user .before .before .before .before .args in
     denial-by (now (a .log)) (a .i) _ _ _ (user .number .ensures) (resource .number2 .ensures) (operation .number3 .ensures) (inGrid (now (a .grid))) true (sym (c .if1 .taken) ∙ c .before .has .ensures)
 
 returns-2 : tie.Need-returns-2
@@ -21,7 +21,7 @@ returns-2 c =
     let operation = c .before .before in
     let resource = operation .before .before in
     let user = resource .before .before in
-    let a = user .before .before .before .args in
+    let a = user .before .before .before .before .args in
     denial-by (now (a .log)) (a .i) _ _ _ (user .number .ensures) (resource .number2 .ensures) (operation .number3 .ensures) (inGrid (now (a .grid))) false (sym (c .if1 .left) ∙ c .before .has .ensures)
 
 pub denied-spec : {M : Type 1} → statement M

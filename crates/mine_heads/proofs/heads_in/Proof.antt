@@ -12,10 +12,10 @@ use Rattle.mine_heads.proofs.heads_in.Statement.{statement}
 use Rattle.mine_heads.proofs.heads_in.Tie as tie
 
 abbrev Inv-loop : tie.InvT-loop
-Inv-loop scratch parts word end m₀ k₀ m k = (k ≤ end) × (m ≡ maskOf k (λ x. isHeadAt scratch (64 * word + x)))
+Inv-loop scratch before word end m₀ k₀ m k = (k ≤ end) × (m ≡ maskOf k (λ x. isHeadAt scratch (64 * word + x)))
 
 abbrev μ-loop : tie.MeasureT-loop
-μ-loop scratch parts word end m₀ k₀ m k = end - k
+μ-loop scratch before word end m₀ k₀ m k = end - k
 
 loop-holds : tie.Need-loop-holds Inv-loop μ-loop
 loop-holds c = (search needs, sym (fill-none _))
@@ -38,7 +38,7 @@ returns c =
     let start = counted .before .before in
     let a = start .args in
     let l = c .before .loop in
-    word-made (a .scratch .now) (a .word) (a .parts) (counted .marks-in .ensures)
+    word-made (a .scratch .now) (a .word) (a .before) (counted .marks-in .ensures)
     (fill-end (l .k) (counted .marks-in .result) (l .m) (λ x. isHeadAt (a .scratch .now) (64 * a .word + x)) (l .inv .1) (omega arith))
 
 pub heads-in-spec : {M : Type 1} → statement M

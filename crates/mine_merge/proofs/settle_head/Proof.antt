@@ -1,6 +1,7 @@
 -- The invariant: what the search for a partner of the head will find, for every policy whose tables these are. The heads become fewer.
 -- Assumes nothing.
 use borrow.Author.Needs.{needs}
+use borrow.Author.Tests.{eq-eqb}
 use mathlib.Core.List.{List}
 use mathlib.Core.Path.{_∙_, _≡_, refl}
 use Rattle.mine_theory.specs.Search.Frontier.{Groups}
@@ -13,11 +14,12 @@ use Rattle.mine_merge.specs.HeadCountLaws.{heads-most, heads-fewer}
 use Rattle.mine_merge.specs.Progress.{Settled}
 use Rattle.mine_merge.specs.ProgressLaws.{Going, going-begin, going-turn, going-end}
 use Rattle.mine_merge.specs.Steps.{Paired, headCount}
-use Rattle.mine_parts.specs.Layout.{restAt, nameIn}
+use Rattle.mine_parts.specs.Layout.{restAt, nameIn, headIn, isHeadAt}
 use Rattle.mine_join.specs.Joins.{Prepared}
 use Rattle.mine_search.specs.PartnerSearch.{pairAt, partnerAt, Finds}
 use Rattle.mine_search.specs.PartnerSearchLaws.{partner-first, partner-later, first-later, Chosen, chosen-partner, chosen-behind, Taking, taking}
 use Rattle.policy.specs.Policy.{Policy}
+use Rattle.sets.specs.Tests.{Is}
 use Rattle.mine_widen.specs.MetLaws.{none-met}
 use Rattle.mine_merge.proofs.settle_head.Tie as tie
 
@@ -30,7 +32,7 @@ Inv-loop scratch₀ window heads₀ links matches known attributes sizes start e
     → Going F parts (window .first) (window .end) old scratch (made + merges) (start + 1) (seeking .head) r))
     × Prepared (window .first) (window .end) matches scratch heads ready met (seeking .head)
     × ((i : ℕ) → nameIn (restAt scratch i) ≡ nameIn (restAt scratch₀ i))
-    × (window .first ≤ seeking .head) × (window .first ≤ seeking .from)
+    × (window .first ≤ seeking .head) × (window .first ≤ seeking .from) × Is (isHeadAt scratch (seeking .head))
 
 abbrev μ-loop : tie.MeasureT-loop
 μ-loop scratch₀ window heads₀ links matches known attributes sizes start end met₀ ready₀ merges₀ seeking₀ scratch heads met ready merges seeking = headCount scratch
@@ -58,6 +60,7 @@ loop-holds c =
       (λ i. refl),
       p .3,
       omega (arith, p .3),
+      p .7,
     )
 
 first-partner-requires : tie.Need-first-partner-requires Inv-loop μ-loop
@@ -65,7 +68,7 @@ first-partner-requires c κs =
     let turn = c .before .before .before in
     let p = turn .before .before .before .before .before .before .before .pre in
     let inv = turn .loop .inv in
-    (p .0, p .1, p .2, omega (arith, inv .1, p .4), inv .8, inv .2, omega (arith, inv .0, p .5), inv .5 .reach, inv .5 .group)
+    (p .0, p .1, p .2, omega (arith, inv .1, p .4), inv .8, inv .2, omega (arith, inv .0, p .5), inv .5 .reach, inv .5 .group, inv .9)
 
 same-length : tie.Need-same-length Inv-loop μ-loop
 same-length c = c .before .before .before .before .before .before .loop .inv .0
@@ -153,6 +156,7 @@ loop-again c =
       (λ n. both .names n ∙ l .inv .6 n),
       inside,
       omega arith,
+      eq-eqb (headIn (restAt (joined .join-found .last .0) i)) i (both .head),
     )
 
 pub settle-head-spec : {M : Type 1} → statement M

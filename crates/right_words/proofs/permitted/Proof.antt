@@ -6,16 +6,15 @@ use mathlib.Core.List.{List}
 use mathlib.Core.Path.{_≡_, sym, ap, _∙_}
 use native.Mathlib.Omega.{arith}
 use Rattle.right_words.specs.Rights.{permittedBy}
-use Rattle.role_record.specs.Cells.{cellAt}
+use Rattle.role_record.specs.Cells.{permissionAt}
 use Rattle.sets.specs.MaskLaws.{bit-low}
 use Rattle.sets.specs.MemberLaws.{least-in, less-less, join-begin, join-turn, join-done}
 use Rattle.sets.specs.Sets.{joining, bit, maskOf, lessOne}
-use Rattle.sets.specs.Tests.{Is}
 use Rattle.right_words.proofs.permitted.Statement.{statement}
 use Rattle.right_words.proofs.permitted.Tie as tie
 
 abbrev own : List ℕ → ℕ → ℕ → ℕ
-own permissions o k = getD permissions (cellAt k o) 0
+own permissions o k = getD permissions (permissionAt k o) 0
 
 abbrev Inv-loop : tie.InvT-loop
 Inv-loop held permissions operation all₀ rest₀ all rest = (all < 2 ^ 64) × (rest < 2 ^ 32) × (maskOf 64 (joining all (bit rest) (own permissions operation) 64) ≡ permittedBy held permissions operation)
@@ -27,36 +26,24 @@ loop-holds : tie.Need-loop-holds Inv-loop μ-loop
 unfolding permittedBy
 loop-holds start = (search needs, search needs, join-begin (start .args .held) (own (start .args .permissions .now) (start .args .operation)))
 
--- the least role that is left is one of the 32
-role-in : (rest y : ℕ) → rest < 2 ^ 32 → (y < 64) × Is (bit rest y) → y < 32
-role-in rest y h t = bit-low 32 rest y h (t .1)
+-- the least role that is left is one of the 32, and the operation one of the 16
+within : (c : tie.After-least Inv-loop μ-loop) → (c .least .result < 32) × (c .before .before .before .args .operation < 16)
+within c =
+    let turn = c .before .before .loop in
+    let t = least-in (turn .rest) (omega arith) _ (c .least .ensures) (c .before .loop-test .taken) in
+    (bit-low 32 (turn .rest) (c .least .result) (turn .inv .1) (t .1), c .before .before .before .pre .1)
 
 mul-union : tie.Need-mul-union Inv-loop μ-loop
-mul-union c =
-    let turn = c .before .before .loop in
-    let l = role-in (turn .rest) (c .least .result) (turn .inv .1) (least-in (turn .rest) (omega arith) _ (c .least .ensures) (c .before .loop-test .taken)) in
-    omega (arith, l)
+mul-union c = let w = within c in omega (arith, w .0, w .1)
 
 add-union : tie.Need-add-union Inv-loop μ-loop
-add-union c =
-    let turn = c .before .before .loop in
-    let l = role-in (turn .rest) (c .least .result) (turn .inv .1) (least-in (turn .rest) (omega arith) _ (c .least .ensures) (c .before .loop-test .taken)) in
-    let o = c .before .before .before .pre .1 in
-    omega (arith, l, o)
+add-union c = let w = within c in omega (arith, w .0, w .1)
 
 mul-union-2 : tie.Need-mul-union-2 Inv-loop μ-loop
-mul-union-2 c =
-    let turn = c .before .before .loop in
-    let l = role-in (turn .rest) (c .least .result) (turn .inv .1) (least-in (turn .rest) (omega arith) _ (c .least .ensures) (c .before .loop-test .taken)) in
-    let o = c .before .before .before .pre .1 in
-    omega (arith, l, o)
+mul-union-2 c = let w = within c in omega (arith, w .0, w .1)
 
 element-copy-out-union : tie.Need-element-copy-out-union Inv-loop μ-loop
-element-copy-out-union c =
-    let turn = c .before .before .loop in
-    let l = role-in (turn .rest) (c .least .result) (turn .inv .1) (least-in (turn .rest) (omega arith) _ (c .least .ensures) (c .before .loop-test .taken)) in
-    let o = c .before .before .before .pre .1 in
-    omega (arith, l, o)
+element-copy-out-union c = let w = within c in omega (arith, w .0, w .1)
 
 loop-less : tie.Need-loop-less Inv-loop μ-loop
 loop-less c =

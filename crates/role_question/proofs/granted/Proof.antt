@@ -7,7 +7,7 @@ use mathlib.Core.Bool.{Bool, false, _&&_}
 use mathlib.Core.List.{List}
 use mathlib.Core.Path.{_≡_, sym, _∙_}
 use native.Mathlib.Omega.{arith}
-use Rattle.role_record.specs.Cells.{cellAt}
+use Rattle.role_record.specs.Cells.{permissionAt}
 use Rattle.sets.specs.LoopLaws.{any-on, any-found, any-end}
 use Rattle.sets.specs.Sets.{bit}
 use Rattle.sets.specs.Tests.{any, upTo}
@@ -18,7 +18,7 @@ use Rattle.role_question.proofs.granted.Lts as lts
 use Rattle.role_question.proofs.in_both.Reads as in-both-reads
 
 abbrev by-role : List ℕ → List ℕ → ℕ → ℕ → ℕ → ℕ → Bool
-by-role h p u r o k = bit (getD h k 0) u && bit (getD p (cellAt k o) 0) r
+by-role h p u r o k = bit (getD h k 0) u && bit (getD p (permissionAt k o) 0) r
 
 abbrev Inv-loop : tie.InvT-loop
 Inv-loop holders permissions roles user resource operation k₀ k = (k ≤ roles) × (any (by-role holders permissions user resource operation) (upTo k) ≡ false)

@@ -3,7 +3,7 @@ use lib.ListN.{getD}
 use mathlib.Core.Path.{sym, ap, _∙_, subst}
 use native.Mathlib.Omega.{arith}
 use Prim.Native.Nat.{_<_}
-use Rattle.role_record.specs.Cells.{rowCells}
+use Rattle.role_record.specs.Cells.{mostOperations}
 use Rattle.role_store.specs.Storing.{Bounded, phaseAfter, storedBy}
 use Rattle.role_store.specs.StoreLaws.{sizes-stored, declare-stored, give-stored, assign-stored, permit-stored, line-stored, end-stored}
 use borrow.Author.Needs.{needs}
@@ -28,7 +28,7 @@ assign-in : (c : tie.After-c3) → c .c3 .given .0 .0 < 32
 unfolding Bounded
 assign-in c = subst (Bounded (now (c .before .before .args .attributes))) (c .c3 .given .1) (c .before .before .pre)
 
-permit-in : (c : tie.After-c4) → (c .c4 .given .0 .0 < 32) × (c .c4 .given .0 .1 .1 .0 < rowCells)
+permit-in : (c : tie.After-c4) → (c .c4 .given .0 .0 < 32) × (c .c4 .given .0 .1 .1 .0 < mostOperations)
 unfolding Bounded
 permit-in c = subst (Bounded (now (c .before .before .args .attributes))) (c .c4 .given .1) (c .before .before .pre)
 

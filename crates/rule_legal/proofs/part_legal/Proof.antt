@@ -8,7 +8,7 @@ use mathlib.Core.Path.{_≡_, refl, sym, ap, _∙_}
 use Prim.Native.Nat.{ℕ}
 use Rattle.rule_legal.specs.Operands.{partLegal}
 use Rattle.grant_parts.specs.Parts.{classRow}
-use Rattle.role_record.specs.Cells.{cellAt}
+use Rattle.role_record.specs.Cells.{permissionAt}
 use Rattle.sets.specs.Lowest.{lowestFrom}
 use Rattle.sets.specs.Sets.{bit}
 use Rattle.rule_legal.proofs.part_legal.Statement.{statement}
@@ -18,7 +18,7 @@ use Rattle.rule_legal.proofs.part_legal.Lts as lts
 use Rattle.sets.proofs.least.Reads as least-reads
 
 -- the verdict, by the outcome of each test; o is the lowest operation
-by-tests : (role m roles ops : ℕ) (holders permissions : List ℕ) (o : ℕ) → o ≡ lowestFrom (bit m) 0 64 → (b1 b2 b3 b4 : Bool) → ltb role roles ≡ b1 → eqb (getD holders role 0) 0 ≡ b2 → ltb o ops ≡ b3 → eqb (getD permissions (cellAt role o) 0) 0 ≡ b4
+by-tests : (role m roles ops : ℕ) (holders permissions : List ℕ) (o : ℕ) → o ≡ lowestFrom (bit m) 0 64 → (b1 b2 b3 b4 : Bool) → ltb role roles ≡ b1 → eqb (getD holders role 0) 0 ≡ b2 → ltb o ops ≡ b3 → eqb (getD permissions (permissionAt role o) 0) 0 ≡ b4
     → partLegal role m roles ops holders permissions ≡ cond b1 (cond b2 false (cond b3 (cond b4 false (eqb (classRow permissions role ops o) m)) false)) false
 unfolding partLegal
 by-tests role m roles ops holders permissions o e b1 b2 b3 b4 p q r s = rw (← e, p, q, r, s) refl
