@@ -6,10 +6,17 @@
  *     rt staticlib fichtengarn          proves the library and writes target/staticlib/libfichtengarn.a
  *     cc -Iinclude program.c target/staticlib/libfichtengarn.a
  *
- * The archive is for x86-64. It needs memcpy and memset, and nothing else of a system.
+ * That archive is for x86-64. processors/build.py compiles what is proved for 64-bit Arm as well:
+ *
+ *     processors/build.py               writes target/staticlib/aarch64/libfichtengarn.a
+ *     aarch64-linux-gnu-gcc -Iinclude program.c target/staticlib/aarch64/libfichtengarn.a
+ *
+ * Either needs memcpy and memset, and nothing else of a system. Structs go by value as the C interface
+ * of the processor has it. (With the word riscv64 the script builds for that processor, where calls need
+ * the stack that is said below of Arm.)
  *
  * What every call promises. Its answer, what it writes and that it ends are proved; the sizes of
- * the stack are measured.
+ * the stack are measured, on both processors, and hold for both where Arm is not named.
  *
  *   - It ends, on every input: any bytes, any lengths, any numbers. No input is asked to be good.
  *   - It returns 0, or the number of a refusal; the call that shows one rule stores it in a lent
@@ -31,8 +38,8 @@
  *   - The stack has at least the room that the call names. The calls keep their tables there, arrays
  *     of tens of kilobytes in a single frame: a thread's stack of 128 KB is too small for the judge.
  *     No call notices that there is too little. Without a guard page below the stack, memory beside
- *     it is overwritten; and a frame of this size may step over a guard page. Today's archive touches
- *     the pages of a frame one after the other and so runs into it, but nothing promises that.
+ *     it is overwritten; and a frame of this size may step over a guard page. Today's archives touch
+ *     the pages of a frame one after the other and so run into it, but nothing promises that.
  *
  * Lengths of files and of output are in bytes, those of scratch and of a table in words of 64 bits. Users,
  * resources, operations, roles, rules and parts are numbered from 0.
@@ -350,7 +357,7 @@ typedef struct {
 
 /*
  * The record of a role file. The code is 0, or 1 to 7, and then all of the record is 0.
- * Stack: 42 KB.
+ * Stack: 48 KB, the record handed back among them.
  */
 fichtengarn_recorded fichtengarn_read_record(const uint8_t *file, size_t file_length);
 
@@ -377,8 +384,8 @@ size_t fichtengarn_fill(fichtengarn_record record, uint64_t *table, size_t table
  *
  * The code is 0; or 17 or 5 as above; then 5 if there is no such role or user; after a refusal the
  * record is the one passed. Where an assignment changes, the 16 words of the user are worked out
- * afresh, whatever they held, and no others are written; else none is. Stack: 75 KB, the records
- * passed and handed back among them.
+ * afresh, whatever they held, and no others are written; else none is. Stack: 75 KB, on Arm 88 KB,
+ * the records passed and handed back among them.
  */
 fichtengarn_recorded fichtengarn_assign(fichtengarn_record record, uint64_t *table, size_t table_words,
                                         size_t role, size_t user);

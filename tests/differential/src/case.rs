@@ -46,11 +46,17 @@ fn beside(
     Ok(Some(mined))
 }
 
-/// The mined one, four with another 20 and four with another 29, two that the second miner's maker makes, and these damaged.
-fn rule_files(world: &World, mined: &[u8], random: &mut Random) -> Vec<Vec<u8>> {
+/// The mined one, four with another 20 and four with another 29.
+pub fn mined_files(mined: &[u8], random: &mut Random) -> Vec<Vec<u8>> {
     let mut files = shapes::others(mined, random);
     files.extend(levels::others(mined, random));
     files.push(mined.to_vec());
+    files
+}
+
+/// These, two that the second miner's maker makes, and those damaged.
+pub fn rule_files(world: &World, mined: &[u8], random: &mut Random) -> Vec<Vec<u8>> {
+    let mut files = mined_files(mined, random);
     for _ in 0..2 {
         let made = makers::rule_file(world, random.next(), REV);
         files.push(makers::damage_rules(&made, random.next(), REV));
@@ -60,10 +66,14 @@ fn rule_files(world: &World, mined: &[u8], random: &mut Random) -> Vec<Vec<u8>> 
 }
 
 /// Files at the limit of length, which no maker makes.
+pub fn of_limits() -> Vec<Vec<u8>> {
+    [0, 65_535, 65_536].map(|length| vec![5; length]).to_vec()
+}
+
 pub fn limits(tally: &mut Tally) -> Result<(), String> {
-    for length in [0, 65_535, 65_536] {
-        roles::compare(&vec![5; length], &mut Random::new(0), tally)
-            .map_err(|what| format!("a role file of {length} bytes 05\n{what}"))?;
+    for file in of_limits() {
+        roles::compare(&file, &mut Random::new(0), tally)
+            .map_err(|what| format!("a role file of {} bytes 05\n{what}", file.len()))?;
     }
     Ok(())
 }

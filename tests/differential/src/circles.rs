@@ -18,19 +18,26 @@ fn with_memory(file: &[u8], room: usize, tally: &mut Tally) -> Result<(), String
     })
 }
 
-/// A circle of every length, with the lines in its order and the other way round, and beside as many
-/// lines as make no other.
-pub fn every_length(tally: &mut Tally) -> Result<(), String> {
-    for length in 1..=fichtengarn::MOST_ROLES as u8 {
+/// The lines of a circle of every length, in its order and the other way round, and beside as many lines
+/// as make no other.
+fn every_ring() -> Vec<Vec<(u8, u8)>> {
+    let rings = |length: u8| {
         let ring: Vec<_> = (0..length).map(|role| (role, (role + 1) % length)).collect();
         let turned = ring.iter().map(|&(junior, senior)| (senior, junior)).collect();
-        for lines in [ring.clone(), turned, filled(length)] {
-            let file = with_lines(&lines);
-            compare(&file, tally)
-                .map_err(|what| format!("a circle of {length} roles, lines {lines:?}\n{what}"))?;
-        }
-    }
-    Ok(())
+        [ring, turned, filled(length)]
+    };
+    (1..=fichtengarn::MOST_ROLES as u8).flat_map(rings).collect()
+}
+
+pub fn every_length(tally: &mut Tally) -> Result<(), String> {
+    every_ring().into_iter().try_for_each(|lines| {
+        compare(&with_lines(&lines), tally)
+            .map_err(|what| format!("a circle, lines {lines:?}\n{what}"))
+    })
+}
+
+pub fn of_every_length() -> Vec<Vec<u8>> {
+    every_ring().iter().map(|lines| with_lines(lines)).collect()
 }
 
 /// The ring of so many roles, and from the others, which are above it, lines to all below them.

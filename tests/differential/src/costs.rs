@@ -46,7 +46,7 @@ pub fn wide(tally: &mut Tally) -> Result<(), String> {
 /// users one has the full set of the first attribute alone, one that of the second. The 62 have 16
 /// roles, each with a resource and an operation of its own: 16 rules, which list all sets of both
 /// attributes.
-fn costly() -> Vec<u8> {
+pub fn costly() -> Vec<u8> {
     let mut file = vec![1, 64, 16, 16, 16, 2, 0, 1, 2, 0, 1];
     for attribute in 0..2 {
         for user in 0..62 {

@@ -4,6 +4,7 @@
 use crate::{same, tally::Tally, REV};
 use fichtengarn::interface::fichtengarn_denials;
 use fichtengarn::MOST_WINDOW;
+use second_miner::role_file::RolePolicy;
 use second_miner::{corpus::random_log, random::Random, requests, world::World};
 
 /// Windows at the limits, beyond them, and the smallest.
@@ -20,7 +21,7 @@ pub fn compare(
     random: &mut Random,
     tally: &mut Tally,
 ) -> Result<(), String> {
-    for log in logs(world, random) {
+    for log in logs(&world.policy, random) {
         for window in [*random.pick(&WINDOWS), random.between(1, MOST_WINDOW)] {
             asked(file, rules, &log, window, tally)?;
             if mined {
@@ -33,8 +34,7 @@ pub fn compare(
 
 /// The second miner's own, one that is longer than any window, and one that is empty, ragged or has a
 /// record beyond the sizes.
-fn logs(world: &World, random: &mut Random) -> Vec<Vec<u8>> {
-    let policy = &world.policy;
+pub fn logs(policy: &RolePolicy, random: &mut Random) -> Vec<Vec<u8>> {
     let sizes = [policy.users.count, policy.resources.count, policy.operations];
     let made = random_log(policy, random);
     if sizes.contains(&0) {

@@ -1,7 +1,7 @@
 //! Compares the proved library with the second miner, which is an implementation of 01 by another
 //! author, on files made from seeds.
 //!
-//!     tests/differential/run SEED COUNT
+//!     tests/differential/run SEED COUNT [FILE]
 //!
 //! Case n has the seed SEED + n: a role file of one of the second miner's profiles, the same file
 //! damaged, each mined also with cuts, and beside each that is accepted up to fourteen rule files, beside
@@ -11,12 +11,16 @@
 //!
 //! Files at the limit of length, circles of every length, a cost of more than 32 bits, and loads at the
 //! limits are tried on every run.
+//!
+//! With FILE nothing is compared: files of the same makers are written to FILE, for the program
+//! that compares two processors (`files`).
 
 mod case;
 mod circles;
 mod costs;
 mod cuts;
 mod denials;
+mod files;
 mod levels;
 mod loads;
 mod memory;
@@ -44,14 +48,16 @@ pub fn same<T: PartialEq + std::fmt::Debug>(what: &str, ours: T, theirs: T) -> R
     Err(format!("{what}\nproved: {ours:?}\nsecond miner: {theirs:?}"))
 }
 
-/// SEED and COUNT.
-fn words() -> Option<(u64, u64)> {
-    let words: Vec<u64> =
-        std::env::args().skip(1).map(|word| word.parse().ok()).collect::<Option<_>>()?;
-    match words[..] {
-        [seed, count] => Some((seed, count)),
-        _ => None,
-    }
+/// SEED, COUNT and FILE.
+fn words() -> Option<(u64, u64, Option<String>)> {
+    let words: Vec<String> = std::env::args().skip(1).collect();
+    let (numbers, file) = match &words[..] {
+        [seed, count] => ([seed, count], None),
+        [seed, count, file] => ([seed, count], Some(file.clone())),
+        _ => return None,
+    };
+    let [seed, count] = numbers.map(|word| word.parse().ok());
+    Some((seed?, count?, file))
 }
 
 /// Every so many of the seeds, from the first on.
@@ -80,10 +86,14 @@ fn compare(seed: u64, count: u64) -> Result<Tally, String> {
 }
 
 fn main() -> ExitCode {
-    let Some((seed, count)) = words() else {
-        eprintln!("usage: tests/differential/run SEED COUNT");
+    let Some((seed, count, file)) = words() else {
+        eprintln!("usage: tests/differential/run SEED COUNT [FILE]");
         return ExitCode::from(2);
     };
+    if let Some(file) = file {
+        std::fs::write(&file, files::written(seed, count)).expect("the file can be written");
+        return ExitCode::SUCCESS;
+    }
     match compare(seed, count) {
         Ok(tally) => {
             println!("{tally}");
