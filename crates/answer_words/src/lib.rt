@@ -1,4 +1,6 @@
 // The meaning of a number in words: 01's words for each refusal and each verdict.
+#![tactic(auto)]
+
 ghost use Rattle.std.specs.Prelude.{◌≡◌, ◌≤◌, length};
 ghost use Rattle.answer_words.specs.AnswerWords.{Holds, refusal_words, verdict_words, reply_words};
 

@@ -1,5 +1,7 @@
 // An answer as it is handed over to C, in 01's numbers: the first, 0 or the number of a refusal, is returned; the values that go with a 0 are
 // stored at the front of lent memory. Into slices, since only a slice tells its length to a proof.
+#![tactic(auto)]
+
 ghost use Rattle.std.specs.Prelude.{length, ◌≡◌};
 ghost use Rattle.answers.specs.Numbers.{returned, stored, read_numbers};
 ghost use Rattle.write_answer.specs.MinedNumbers.{mined_numbers};

@@ -1,12 +1,14 @@
 // Asks whether the roles, or the rules of a rule file beside them, let a user do an operation on a resource:
 // ask ROLES [RULES] USER RESOURCE OPERATION prints the answer or the refusal, a line with its number and its meaning.
 // Where the system does not read a file, a line on standard error says so and there is no answer.
+#![tactic(auto)]
+
 ghost use Rattle.std.specs.Prelude.{◌≤◌};
 
 use digits::Number;
 use role_question::Reply;
 
-#[derive(Drop)]
+#[derive(Clone, Copy)]
 enum Asked {
     About(usize, usize, usize),
     Wrong,

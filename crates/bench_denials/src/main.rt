@@ -2,6 +2,8 @@
 // answers. The two bytes behind these are the length of the role file, the next two that of the rule file, and the next one is the window;
 // behind them stand the role file, the rule file and the log. The plain Rust program of bench/denials does the same, and the two are
 // measured against each other; beside the proofs it counts in a log of six records beside example A of 01, a hundred times.
+#![tactic(auto)]
+
 ghost use Rattle.std.specs.Prelude.{◌≡◌, ◌<◌, length};
 ghost use Rattle.files.specs.Answer.{told};
 ghost use Rattle.files.specs.Denials.{denial_answer};

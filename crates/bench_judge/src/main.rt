@@ -1,6 +1,8 @@
 // Judges the rule file beside a role file on standard input as many times as the two bytes in front of them say, low byte first, and
 // prints a checksum of the verdicts. The two bytes behind these are the length of the role file. The plain Rust program of bench/judge
 // does the same, and the two are measured against each other; beside the proofs it judges example A of 01, a hundred times.
+#![tactic(auto)]
+
 ghost use Rattle.std.specs.Prelude.{◌≡◌};
 ghost use Rattle.files.specs.Answer.{told};
 ghost use Rattle.files.specs.Calls.{judge, verdict_told};

@@ -2,6 +2,8 @@
 // byte, so that no byte can be left unwritten. In front of the file stand the number of turns, two bytes, low byte first, the number of cuts, a
 // byte, and the cuts. The programs of bench/mine do the same, by hand and with a second miner, and all are measured; beside the proofs it
 // mines example A of 01, a hundred times.
+#![tactic(auto)]
+
 ghost use Rattle.std.specs.Prelude.{◌≡◌, suc, length};
 ghost use Rattle.files.specs.Answer.{told};
 ghost use Rattle.files.specs.Calls.{count_values, mine_answer, mine_output};

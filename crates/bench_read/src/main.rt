@@ -1,6 +1,8 @@
 // Reads a role file from standard input as many times as the two bytes in front of it say, low byte first, and prints a checksum of
 // what was read. The plain Rust program of bench/read does the same, and the two are measured against each other; beside the proofs
 // it reads example A of 01, a hundred times.
+#![tactic(auto)]
+
 ghost use Rattle.std.specs.Prelude.{◌≡◌};
 ghost use Rattle.files.specs.RoleFile.{read_roles};
 ghost use Rattle.role_file.specs.Reading.{loaded_of};

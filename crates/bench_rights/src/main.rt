@@ -2,6 +2,8 @@
 // prints a checksum of words of its table. The byte behind them says what is done each time: 0 fills the table, 1 gives or
 // takes an assignment, 2 gives one that is there or takes one that is not, and any other looks a word up. A role file
 // follows. The plain Rust program of bench/rights does the same, and the two are measured against each other.
+#![tactic(auto)]
+
 use right_edits::Edited;
 use role_record::{Grid, RoleFile};
 

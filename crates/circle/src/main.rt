@@ -1,6 +1,8 @@
 // Shows the fewest roles that make a circle of seniority: circle ROLES prints them in order and which role is junior to which, or that
 // there is no circle, or the line of a refusal. Where the system does not read the file, a line on standard error says so and there is no
 // answer.
+#![tactic(auto)]
+
 ghost use Rattle.std.specs.Prelude.{◌<◌};
 
 use programs::{say, say_count};

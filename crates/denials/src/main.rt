@@ -1,6 +1,8 @@
 // Counts denials in a usage log: denials ROLES RULES LOG WINDOW prints how many of any WINDOW neighbouring records the rules deny at most, and
 // the lowest record from which so many are; or the line of a refusal. Where the system does not read a file, a line on standard error says
 // so and nothing is counted.
+#![tactic(auto)]
+
 ghost use Rattle.std.specs.Prelude.{length, ◌≡◌};
 
 use digits::Number;

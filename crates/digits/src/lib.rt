@@ -1,8 +1,10 @@
 // Numbers in digits: decimal ones are read, hexadecimal ones are written.
+#![tactic(auto)]
+
 ghost use Rattle.std.specs.Prelude.{◌≡◌, ◌+◌, ◌-◌, ◌*◌, ◌≤◌, ◌<◌, min};
 ghost use Rattle.digits.specs.Digits.{is_within, number_in, hex_digit};
 
-#[derive(Drop)]
+#[derive(Clone, Copy)]
 pub enum Number {
     Given(usize),
     Wrong,

@@ -1,1 +1,2 @@
 // The examples of the paper, computed from the definitions (specs/).
+#![tactic(auto)]

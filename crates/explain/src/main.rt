@@ -1,5 +1,6 @@
 // Tells each rule of a rule file in words: explain ROLES RULES prints a paragraph for each rule, or the line of a refusal. Where the
 // system does not read a file, a line on standard error says so and nothing is told.
+#![tactic(auto)]
 
 fn main() {
     let mut file = io::large_buffer();

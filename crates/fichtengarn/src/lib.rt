@@ -3,6 +3,8 @@
 // Each returns 0, or the number of the refusal. The values that go with a 0 are stored in lent memory, from its front; a
 // refusal stores none. The call that shows one rule returns where its part stands, and stores that number in a lent byte;
 // those that make a record return it behind the number. include/fichtengarn.h says the same to C.
+#![tactic(auto)]
+
 ghost use Rattle.std.specs.Prelude.{length, take, ℕ, ◌+◌, ◌<◌, true, false, List, ◌≡◌};
 ghost use Rattle.files.specs.Answer.{told, code_of, left_by, accepted};
 ghost use Rattle.files.specs.Edits.{Edit};
@@ -101,7 +103,7 @@ pub extern "C" fn fichtengarn_judge(file: &[u8], rules: &[u8], verdict: &mut [us
 // A part of the rule file that was lent: its first byte, and how many it has. It stands in for the part itself, since no reference is
 // handed over to C.
 #[repr(C)]
-#[derive(Drop)]
+#[derive(Clone, Copy)]
 pub struct Part {
     pub start: usize,
     pub length: usize,

@@ -1,4 +1,6 @@
 // Numbers in the bytes of a file.
+#![tactic(auto)]
+
 ghost use Rattle.std.specs.Prelude.{◌≡◌, ◌+◌, ◌*◌, ◌<◌};
 ghost use Rattle.file_bytes.specs.Numbers.{number_at};
 

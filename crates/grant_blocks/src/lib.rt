@@ -1,5 +1,7 @@
 // What rules grant together, kept as a grid of sets of resources, by user and operation, while they are read. A rule has no grid of its own:
 // its rows, by user the resources that it leaves the user, and its operations say what it grants.
+#![tactic(auto)]
+
 ghost use Rattle.std.specs.Prelude.{length, ◌≡◌, ◌≤◌, ◌<◌};
 ghost use Rattle.role_record.specs.Cells.{grid_cells};
 ghost use Rattle.grant_blocks.specs.Rows.{added_row, added_rows};

@@ -1,4 +1,6 @@
 // Grids of sets of resources, by user and operation, compared: the first triple at which two differ, and whether one has just what a rule grants.
+#![tactic(auto)]
+
 ghost use Rattle.std.specs.Prelude.{length, not, ◌≡◌, ◌≤◌, ◌<◌};
 ghost use Rattle.grant_blocks.specs.Rows.{rows_at, same_at, same_rows};
 ghost use Rattle.grant_grids.specs.Grid.{in_grid, same_words, same_tables, grid_difference, difference_of};

@@ -1,5 +1,7 @@
 // Grids: which resources a user may act upon, by operation. A grid is made for a number of operations, and has a word of each user for
 // each of them.
+#![tactic(auto)]
+
 ghost use Rattle.std.specs.Prelude.{length, ◌≡◌, ◌≤◌, ◌<◌};
 ghost use Rattle.grant_grids.specs.Grid.{grid_of, in_grid, granted_by};
 ghost use Rattle.grant_grids.specs.Updates.{added_column, added_part};
@@ -7,7 +9,7 @@ ghost use Rattle.role_record.specs.Cells.{most_operations, grid_at, grid_cells};
 
 use role_record::{ByRole, ByRoleOperation, RoleFile};
 
-#[derive(Drop)]
+#[derive(Clone, Copy)]
 pub enum Difference {
     Same,
     // The user, the resource and the operation.

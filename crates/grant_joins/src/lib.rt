@@ -1,4 +1,6 @@
 // Which distinct values an atom joins, and words spread over members.
+#![tactic(auto)]
+
 ghost use Rattle.std.specs.Prelude.{length, ◌≡◌, ◌+◌, ◌*◌, ◌≤◌, ◌<◌};
 ghost use Rattle.policy.specs.Rules.{form_of, linked};
 ghost use Rattle.grant_joins.specs.Tables.{spread_of, joins, union_of};

@@ -1,5 +1,7 @@
 // The resources that all atoms of a rule or of a group leave a user. The table of links has the resources that an atom joins with a user at
 // word 64 * atom + user.
+#![tactic(auto)]
+
 ghost use Rattle.std.specs.Prelude.{◌≡◌, ◌<◌};
 ghost use Rattle.grant_links.specs.Linked.{linked_with, row_of};
 

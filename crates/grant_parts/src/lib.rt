@@ -1,5 +1,7 @@
 // Classes and parts of a role, read off the loaded role file: the operations that have the same resources as one, and which operations are
 // the lowest of a part. The word of a role and an operation stands in their cell.
+#![tactic(auto)]
+
 ghost use Rattle.std.specs.Prelude.{◌≡◌, ◌≤◌, ◌<◌};
 ghost use Rattle.role_record.specs.Cells.{most_operations};
 ghost use Rattle.grant_parts.specs.Parts.{class_row, is_first, is_part_in};

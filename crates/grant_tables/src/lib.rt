@@ -1,5 +1,7 @@
 // The table of the atoms that hold, filled from the tables of distinct values. Each pair of distinct values is looked at once, and its word
 // is joined to the words of all who have the value.
+#![tactic(auto)]
+
 ghost use Rattle.std.specs.Prelude.{length, List, ◌≡◌, ℕ, ◌+◌, ◌*◌, ◌≤◌, ◌<◌};
 ghost use Rattle.grant_distinct.specs.Distinct.{distinct_table, having_table};
 ghost use Rattle.grant_grids.specs.Links.{link_table};

@@ -1,5 +1,7 @@
 // Judges a rule file beside its role file: judge ROLES RULES prints the verdict or the refusal, a line with its number and its
 // meaning. Where the system does not read a file, a line on standard error says so and there is no answer.
+#![tactic(auto)]
+
 use role_question::Reply;
 use rule_judge::Judgement;
 

@@ -1,4 +1,6 @@
 // A line of a rule in words. Each function says whether all was printed so far, as those of `programs` do.
+#![tactic(auto)]
+
 use files::rule_byte;
 use programs::{say, say_count, say_number};
 use rule_commands::{Atom, ListedValue, RuleCommand};

@@ -1,6 +1,8 @@
 // Makes a role file that anyone can make again: load SEED USERS RESOURCES OPERATIONS ROLES writes it to roles.out in the working directory
 // and prints its length; on a refusal prints its line, and roles.out stays as it is. Where the system does not write, a line on standard
 // error says so and roles.out stays as it is too.
+#![tactic(auto)]
+
 ghost use Rattle.std.specs.Prelude.{length};
 ghost use Rattle.load.specs.Room.{Fits};
 
@@ -11,7 +13,7 @@ use role_record::Sizes;
 // The greatest seed: it has 32 bits.
 const LAST_SEED: u32 = 4294967295;
 
-#[derive(Drop)]
+#[derive(Clone, Copy)]
 enum Asked {
     Load(u32, Sizes),
     Wrong,

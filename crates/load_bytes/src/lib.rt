@@ -1,4 +1,6 @@
 // Bytes put into lent memory as far as it goes: a load that is run over memory too short for it is measured, and over enough it is written.
+#![tactic(auto)]
+
 ghost use Rattle.std.specs.Prelude.{◌≡◌, ◌≤◌, length, set};
 ghost use Rattle.load_bytes.specs.Putting.{Put};
 

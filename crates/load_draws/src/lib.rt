@@ -1,4 +1,6 @@
 // Marsaglia's generator, and runs of its draws that make lines of one sort.
+#![tactic(auto)]
+
 ghost use Rattle.std.specs.Prelude.{◌≡◌, ℕ, ◌<◌, ◌≤◌};
 ghost use Rattle.files.specs.Load.{xorshift};
 ghost use Rattle.load_draws.specs.Runs.{Ran, drawn_lines};
@@ -7,7 +9,7 @@ ghost use Rattle.load_lines.specs.DrawnLines.{Fits};
 use load_lines::{Draws, line};
 
 // Where the next line goes, and the generator's last output.
-#[derive(Drop)]
+#[derive(Clone, Copy)]
 pub struct Drawn {
     pub at: usize,
     pub last: u32,

@@ -1,4 +1,6 @@
 // A role file made from a seed and four sizes, written into lent memory.
+#![tactic(auto)]
+
 ghost use Rattle.std.specs.Prelude.{length, take, ◌≡◌, ℕ, ◌≤◌};
 ghost use Rattle.files.specs.Answer.{told, accepted};
 ghost use Rattle.files.specs.Load.{load_bytes, load_answer, load_output, Readable};
@@ -9,7 +11,7 @@ use load_write::write;
 use role_record::{RoleFile, Sizes};
 
 // A refusal's number; or the length of the file.
-#[derive(Drop)]
+#[derive(Clone, Copy)]
 pub enum Generated {
     Refused(usize),
     Written(usize),

@@ -1,4 +1,6 @@
 // The lines of a load, each made by a draw.
+#![tactic(auto)]
+
 ghost use Rattle.std.specs.Prelude.{[], ◌∷◌, ◌<◌, ◌≤◌};
 ghost use Rattle.files.specs.Load.{value_line, assign_line, permit_line, senior_line};
 ghost use Rattle.load_bytes.specs.Putting.{Put};
@@ -8,7 +10,7 @@ use files::role_byte;
 use load_bytes::put;
 
 // Runs of draws that make lines of one sort, a line a draw at most.
-#[derive(Drop)]
+#[derive(Clone, Copy)]
 pub enum Draws {
     // 03: the values of a side.
     Values(usize),

@@ -1,4 +1,6 @@
 // The lines of a load's roles: users and permissions of each, and then the seniors of each.
+#![tactic(auto)]
+
 ghost use Rattle.std.specs.Prelude.{◌<◌, ◌≤◌};
 ghost use Rattle.files.specs.Load.{times, permit_run, role_run, senior_run};
 ghost use Rattle.load_draws.specs.Runs.{Ran};

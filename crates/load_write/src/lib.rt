@@ -1,4 +1,6 @@
 // A load put into lent memory as far as it goes.
+#![tactic(auto)]
+
 ghost use Rattle.std.specs.Prelude.{◌≤◌};
 ghost use Rattle.files.specs.Load.{load_run, load_bytes};
 ghost use Rattle.load_bytes.specs.Putting.{Put};

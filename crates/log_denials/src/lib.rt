@@ -1,4 +1,6 @@
 // Denials in a usage log: the most records that the rules of a rule file, read beside a role file, deny in any window of neighbouring ones.
+#![tactic(auto)]
+
 ghost use Rattle.std.specs.Prelude.{leb, length, ◌&&◌, ◌≡◌, ◌≤◌};
 ghost use Rattle.files.specs.Answer.{told};
 ghost use Rattle.files.specs.Denials.{denial_answer};

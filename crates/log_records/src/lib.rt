@@ -1,4 +1,6 @@
 // The records of a usage log: three bytes each, user, resource and operation.
+#![tactic(auto)]
+
 ghost use Rattle.std.specs.Prelude.{length, get_or, cond, ◌≡◌, ◌+◌, ◌*◌, ◌<◌};
 ghost use Rattle.files.specs.Denials.{of_record, denied_by};
 ghost use Rattle.grant_grids.specs.Grid.{in_grid};

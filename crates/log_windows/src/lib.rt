@@ -1,4 +1,6 @@
 // The window of a usage log in which most records are denied, in one pass: the count is carried along from record to record.
+#![tactic(auto)]
+
 ghost use Rattle.std.specs.Prelude.{length, get_or, ◌≡◌, ℕ, ◌+◌, ◌*◌, ◌-◌, ◌≤◌, ◌<◌};
 ghost use Rattle.files.specs.Denials.{denied_by};
 ghost use Rattle.grant_grids.specs.Grid.{in_grid};
@@ -9,7 +11,7 @@ use files::refusal;
 use role_record::Sizes;
 
 // A refusal's number; or the most denials in a window, and the lowest record from which a window has so many.
-#[derive(Drop)]
+#[derive(Clone, Copy)]
 pub enum Denials {
     Refused(usize),
     Counted { most: usize, start: usize },

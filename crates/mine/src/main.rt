@@ -2,6 +2,8 @@
 // Writes the rules to rules.out in the working directory and prints the counts and the cost by four ones; on a refusal prints its number, and
 // rules.out stays as it is; standard error has the number's meaning. Where an argument is no number, or the system does not read or write, a
 // line on standard error says so and rules.out stays as it is too.
+#![tactic(auto)]
+
 ghost use Rattle.std.specs.Prelude.{◌≤◌, length};
 ghost use Rattle.mine.specs.Room.{Fits};
 
@@ -17,7 +19,7 @@ const CUTS: usize = 32;
 const LAST_CUT: u32 = 254;
 
 // What the arguments come to: whether all are numbers, and how many cuts are handed on.
-#[derive(Drop)]
+#[derive(Clone, Copy)]
 struct Cutting {
     right: bool,
     count: usize,

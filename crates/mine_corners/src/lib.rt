@@ -1,12 +1,14 @@
 // Whether nothing plain speaks against two groups becoming one. A group is summed up in four words; the table of links has at word
 // 64 * atom + user the resources that an atom joins with a user.
+#![tactic(auto)]
+
 ghost use Rattle.std.specs.Prelude.{true, ◌&&◌, ◌≡◌, ◌<◌};
 ghost use Rattle.mine_corners.specs.Pairing.{words_in, corner_free, rim_free, reaches, corners_free, may_join};
 
 use role_record::Links;
 
 // A set of triples summed up: who stands in it on either side, its operations, and the atoms true of all its pairs.
-#[derive(Drop)]
+#[derive(Clone, Copy)]
 pub struct Group {
     pub users: u64,
     pub resources: u64,

@@ -1,4 +1,6 @@
 // Cuts between roles, one byte a cut.
+#![tactic(auto)]
+
 ghost use Rattle.std.specs.Prelude.{◌≡◌};
 ghost use Rattle.files.specs.Calls.{cuts_ok};
 

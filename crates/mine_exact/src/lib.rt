@@ -1,4 +1,6 @@
 // Whether the covering rule of two groups grants just what they have, triple by triple.
+#![tactic(auto)]
+
 ghost use Rattle.std.specs.Prelude.{true, ◌&&◌, ◌||◌, not, ◌≡◌};
 ghost use Rattle.grant_grids.specs.Grid.{difference_of};
 ghost use Rattle.mine_corners.specs.Pairing.{words_in, rows_agree, first_beyond, OthersSame, covers_just, grants_exactly, may_join, changed_users};

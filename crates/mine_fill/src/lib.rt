@@ -1,4 +1,6 @@
 // Fills scratch memory with the parts of a policy, by their numbers.
+#![tactic(auto)]
+
 ghost use Rattle.std.specs.Prelude.{length, get_or, List, ◌≡◌, ℕ, ◌+◌, ◌≤◌, ◌<◌};
 ghost use Rattle.mine_fill.specs.Fill.{parts_before, part_words, FilledWith, FilledBy, RoleTo, StartsTo};
 ghost use Rattle.mine_corners.specs.Pairing.{words_in};

@@ -1,1 +1,2 @@
 // Groups in scratch: what its words stand for while groups are merged, and at the end.
+#![tactic(auto)]

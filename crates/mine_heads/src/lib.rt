@@ -1,5 +1,7 @@
 // The marks of the heads in scratch memory, and which heads are open: those that could be joined with a group. A bit for each part, bit
 // k % 64 of word k / 64.
+#![tactic(auto)]
+
 ghost use Rattle.std.specs.Prelude.{ltb, length, ◌&&◌, ◌≡◌, ℕ, ◌+◌, ◌*◌, ◌-◌, ◌≤◌, ◌<◌, min};
 ghost use Rattle.mine_heads.specs.Heads.{mark_words, is_marked, Marked, Open, unmarked};
 ghost use Rattle.mine_corners.specs.Pairing.{words_in, reaches};
@@ -15,7 +17,7 @@ pub type Marks = [u64; WORDS];
 pub const WORDS: usize = mine_parts::MOST / 64;
 
 // The parts from one number on and before another: those among which groups are merged.
-#[derive(Drop)]
+#[derive(Clone, Copy)]
 pub struct Window {
     pub first: usize,
     pub end: usize,

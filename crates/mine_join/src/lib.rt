@@ -1,5 +1,7 @@
 // A join of two groups in scratch memory, and the last pass over the heads. While groups are merged a part that is no head may name an
 // earlier part of its group instead of the head, so that a join writes the words of no more than two parts.
+#![tactic(auto)]
+
 ghost use Rattle.std.specs.Prelude.{List, ◌⊎◌, ◌≡◌, ℕ, ◌≤◌, ◌<◌, max, min};
 ghost use Rattle.mine_matches.specs.Matches.{SidesMet};
 ghost use Rattle.mine_heads.specs.Heads.{Marked, Open};

@@ -1,4 +1,6 @@
 // What members of a side have in common: who knows an attribute, who meets a value, and who passes.
+#![tactic(auto)]
+
 ghost use Rattle.std.specs.Prelude.{length, drop, false, List, ◌≡◌, ℕ, ◌≤◌, ◌<◌, ◌*◌};
 ghost use Rattle.mine_matches.specs.Matches.{known_for, known_places, met_of, Met, passing_of};
 

@@ -1,4 +1,6 @@
 // Merging the groups of parts in scratch memory until no pair is left: within each run of roles that cuts make, and then over all.
+#![tactic(auto)]
+
 ghost use Rattle.std.specs.Prelude.{ltb, length, get_or, cond, List, ◌≡◌, ℕ, ◌+◌, ◌≤◌, ◌<◌};
 ghost use Rattle.files.specs.Calls.{cuts_ok};
 ghost use Rattle.mine_parts.specs.Layout.{most_parts, room_in, rest_at, name_in, is_head_at};

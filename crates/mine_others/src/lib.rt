@@ -1,4 +1,6 @@
 // The first triple at which a rule and a group differ.
+#![tactic(auto)]
+
 ghost use Rattle.std.specs.Prelude.{◌&&◌, not, ◌≡◌, ◌≤◌};
 ghost use Rattle.grant_grids.specs.Grid.{difference_of};
 ghost use Rattle.mine_corners.specs.Pairing.{words_in};

@@ -1,4 +1,6 @@
 // At which level two groups of parts may become one, and which level a group has.
+#![tactic(auto)]
+
 ghost use Rattle.std.specs.Prelude.{true, ◌≡◌, ◌^◌, ◌≤◌, ◌<◌, get_or};
 ghost use Rattle.mine_matches.specs.Matches.{both_members, SidesMet};
 ghost use Rattle.mine_pairs.specs.PairLevels.{level_within, with_own, tables_fit, pair_level, group_level};

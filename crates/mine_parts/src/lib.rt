@@ -1,6 +1,8 @@
 // The layout of scratch memory: four words for each part, by the number of the part. They are the users, resources and operations of the group
 // whose head the part is, and a last one with its atoms (36 bits), its level (2 bits), the part's own name (11 bits) and the number of its head.
 // No other crate's code says where a word stands.
+#![tactic(auto)]
+
 ghost use Rattle.std.specs.Prelude.{◌≡◌, ◌+◌, ◌*◌, ◌^◌, ◌<◌};
 ghost use Rattle.mine_corners.specs.Pairing.{words_in};
 ghost use Rattle.role_record.specs.Cells.{most_operations};
@@ -22,7 +24,7 @@ pub type ByPart = [u64; MOST];
 pub type Starts = [usize; RoleFile::ROLES + 1];
 
 // The words of a part as they stand in scratch.
-#[derive(Drop)]
+#[derive(Clone, Copy)]
 pub struct PartWords {
     pub users: u64,
     pub resources: u64,

@@ -1,4 +1,6 @@
 // Mining by the tables of a record.
+#![tactic(auto)]
+
 ghost use Rattle.std.specs.Prelude.{◌≤◌, length, get_or, ◌≡◌};
 ghost use Rattle.mine_parts.specs.Layout.{most_parts, room_in};
 ghost use Rattle.role_record.specs.Record.{Sized, WithinLimits};

@@ -1,4 +1,6 @@
 // The conjuncts that the covering rule of a group has, and who meets them.
+#![tactic(auto)]
+
 ghost use Rattle.std.specs.Prelude.{length, ◌≡◌, ◌<◌};
 ghost use Rattle.mine_corners.specs.Pairing.{words_in};
 ghost use Rattle.policy.specs.Rules.{own_at};

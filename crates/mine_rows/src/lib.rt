@@ -1,4 +1,6 @@
 // What the atoms of a rule join, user by user.
+#![tactic(auto)]
+
 ghost use Rattle.std.specs.Prelude.{length, ◌≡◌, ◌<◌};
 ghost use Rattle.role_record.specs.Record.{table_of};
 ghost use Rattle.mine_corners.specs.Pairing.{words_in};

@@ -1,4 +1,6 @@
 // The search in scratch memory for the first group that may be joined with a given one.
+#![tactic(auto)]
+
 ghost use Rattle.std.specs.Prelude.{get_or, ◌&&◌, ◌≡◌, ℕ, ◌+◌, ◌*◌, ◌%◌, ◌≤◌, ◌<◌, max, min};
 ghost use Rattle.mine_matches.specs.Matches.{both_members, SidesMet};
 ghost use Rattle.mine_heads.specs.Heads.{mark_words, MarkedBelow, Open};
@@ -14,14 +16,14 @@ use mine_heads::{Marks, Window};
 use role_record::{ByAttribute, ByPlace, ByPlaceMember, CountBySide, Links, Sizes};
 
 // A head to be joined with another, and the level of both together; the end of the window if there is none.
-#[derive(Drop)]
+#[derive(Clone, Copy)]
 pub struct Found {
     pub head: usize,
     pub level: usize,
 }
 
 // A head that a partner is sought for, and the first part that is looked at.
-#[derive(Drop)]
+#[derive(Clone, Copy)]
 pub struct Seeking {
     pub head: usize,
     pub from: usize,

@@ -1,5 +1,7 @@
 // The miner's table of who meets whose value, filled from the tables of distinct values. Each pair of distinct values is looked at once, and
 // its word is joined to the words of all who have the value.
+#![tactic(auto)]
+
 ghost use Rattle.std.specs.Prelude.{length, List, ◌≡◌, ℕ, ◌≤◌, ◌<◌};
 ghost use Rattle.mine_matches.specs.Matches.{known_places, match_table};
 ghost use Rattle.mine_tables.specs.Matching.{met_by_number};

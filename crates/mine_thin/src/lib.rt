@@ -1,5 +1,7 @@
 // Which conditions of a group's covering rule stay. The conditions have 50 places: the attributes of the users with their 255, those of
 // the resources with theirs, and the 36 atoms. One place after the other is struck if the rule still grants just the group's triples.
+#![tactic(auto)]
+
 ghost use Rattle.std.specs.Prelude.{◌≡◌, ◌≤◌, ◌<◌};
 ghost use Rattle.mine_corners.specs.Pairing.{words_in};
 ghost use Rattle.sets.specs.Sets.{mask_of};

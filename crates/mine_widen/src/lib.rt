@@ -1,5 +1,7 @@
 // The 14 places of attributes, the six of the users, their 255, the six of the resources, their 255: who knows the attribute of each, and
 // who passes the conjuncts of the values that some members have.
+#![tactic(auto)]
+
 ghost use Rattle.std.specs.Prelude.{length, ◌≡◌, ℕ, ◌<◌, ◌*◌};
 ghost use Rattle.mine_matches.specs.Matches.{both_members, Met, MemberAdded, SidesMet};
 

@@ -1,4 +1,6 @@
 // The atoms among the words of a part: those true of all pairs of its holders and its resources, which stand in the loaded role file.
+#![tactic(auto)]
+
 ghost use Rattle.std.specs.Prelude.{◌≡◌, ◌^◌, ◌<◌};
 ghost use Rattle.mine_words.specs.PartWords.{at_most_six, declared_atoms, true_of_user, atoms_of};
 

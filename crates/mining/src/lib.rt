@@ -1,4 +1,6 @@
 // Mining: a role file's rules, written into lent memory.
+#![tactic(auto)]
+
 ghost use Rattle.std.specs.Prelude.{ℕ, ◌≤◌, length, take, ◌≡◌};
 ghost use Rattle.mine_parts.specs.Layout.{most_parts, room_in};
 ghost use Rattle.files.specs.Answer.{told, accepted};

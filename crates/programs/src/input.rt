@@ -4,7 +4,7 @@ ghost use Rattle.std.specs.Prelude.{◌≤◌, ◌≡◌, length};
 use crate::argument::{complain_of, fail_long};
 use crate::print::{complain, fail, refuse};
 
-#[derive(Drop)]
+#[derive(Clone, Copy)]
 pub struct Input {
     pub failed: bool,
     pub length: usize,
@@ -112,7 +112,7 @@ pub fn read_rules(program: &[u8], i: usize, file: &[u8], into: &mut [u8]) -> Inp
 }
 
 // What was read of both files.
-#[derive(Drop)]
+#[derive(Clone, Copy)]
 pub struct Both {
     pub failed: bool,
     pub roles: usize,

@@ -1,5 +1,7 @@
 // What the programs share: reading a file by its name, writing one, reading a number, and printing answers with their numbers and their
 // meaning.
+#![tactic(auto)]
+
 mod argument;
 mod input;
 mod number;

@@ -1,4 +1,6 @@
 // What the calls of the standing summary answer, 0 or the number of a refusal, from numbers alone.
+#![tactic(auto)]
+
 ghost use Rattle.std.specs.Prelude.{◌≡◌};
 ghost use Rattle.right_answers.specs.Codes.{fill_code, edit_code};
 

@@ -1,5 +1,7 @@
 // A standing summary of rights: a table beside the loaded record that one call fills, and edits of assignments that keep
 // it.
+#![tactic(auto)]
+
 ghost use Rattle.std.specs.Prelude.{length, List, ◌≡◌, ℕ};
 ghost use Rattle.files.specs.Answer.{code_of, left_by};
 ghost use Rattle.files.specs.Edits.{Edit};

@@ -1,4 +1,6 @@
 // The record with one assignment given or taken away, and the holders worked out from it.
+#![tactic(auto)]
+
 ghost use Rattle.std.specs.Prelude.{eqb, length, cond, ◌≡◌, ◌≤◌, ◌<◌};
 ghost use Rattle.right_record.specs.Reassigned.{an_edit, assigned_as, record_as};
 ghost use Rattle.sets.specs.Sets.{bit, mask_of};

@@ -1,5 +1,7 @@
 // The words of a standing summary of rights, by user and operation: the resources that the roles grant. 16 words for a
 // user, 1,024 for all.
+#![tactic(auto)]
+
 ghost use Rattle.std.specs.Prelude.{length, ◌≡◌, ◌^◌, ◌<◌};
 ghost use Rattle.right_words.specs.Rights.{permitted_by, held_within, word_by, refreshed, rights_table};
 ghost use Rattle.role_record.specs.Cells.{most_operations, row_cells, user_cells};

@@ -2,6 +2,8 @@
 // to a role (+) or takes the assignment away (-), one edit after the other, and prints an answer for each; then, for each
 // user and operation with a right, the resources. Where the system does not read the file, or an argument is no edit, a
 // line on standard error says so and there is no answer.
+#![tactic(auto)]
+
 ghost use Rattle.std.specs.Prelude.{◌≤◌, length};
 
 use digits::Number;
@@ -14,7 +16,7 @@ fn usage() {
 }
 
 // The edit that an argument asks for, if it is one.
-#[derive(Drop)]
+#[derive(Clone, Copy)]
 struct Wanted {
     right: bool,
     gives: bool,

@@ -1,4 +1,6 @@
 // Whether a command of a role file may stand where it does and say what it says.
+#![tactic(auto)]
+
 ghost use Rattle.std.specs.Prelude.{◌≡◌, not, ◌+◌, ◌*◌, ◌≤◌, ◌<◌, get_or};
 ghost use Rattle.sets.specs.Tests.{iff};
 ghost use Rattle.role_admit.specs.Admit.{below_of, first_of, declaring_of, later_of, sizes_code, kind_code, size_of, value_code, permission_code, admit_of};

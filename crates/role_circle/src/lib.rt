@@ -1,4 +1,6 @@
 // The fewest roles that make a circle of seniority, of a role file with refusal 7: written into lent memory.
+#![tactic(auto)]
+
 ghost use Rattle.std.specs.Prelude.{length, take, List, ◌≡◌, ℕ, ◌<◌};
 ghost use Rattle.files.specs.Answer.{told, accepted};
 ghost use Rattle.files.specs.Calls.{circle_answer, circle_output};
@@ -12,7 +14,7 @@ use files::refusal;
 use role_record::RoleFile;
 
 // A refusal's number; or how many roles are listed, none for an accepted file.
-#[derive(Drop)]
+#[derive(Clone, Copy)]
 pub enum Circled {
     Refused(usize),
     Listed(usize),

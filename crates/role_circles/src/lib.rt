@@ -1,5 +1,7 @@
 // The shortest circle of seniority lines, sought with words as sets of roles. Of role x the table of lines has the set of its seniors by
 // a line.
+#![tactic(auto)]
+
 ghost use Rattle.std.specs.Prelude.{eqb, ltb, length, get_or, drop, not, ◌++◌, ◌≡◌, suc, ◌≤◌, ◌<◌};
 ghost use Rattle.policy.specs.CircleSearch.{leads_back, circle_at};
 ghost use Rattle.role_circles.specs.BackWords.{line_in, next_in, back_word, IsShortest};
@@ -11,7 +13,7 @@ ghost use Rattle.sets.specs.Tests.{Is};
 use role_record::{ByRole, RoleFile};
 
 // Where a shortest circle has its lowest role, and how many roles more it has; as many as there are roles if there is no circle.
-#[derive(Drop)]
+#[derive(Clone, Copy)]
 pub struct Found {
     pub low: usize,
     pub more: usize,

@@ -1,10 +1,12 @@
 // The commands of a role file, taken from the front of its bytes.
+#![tactic(auto)]
+
 ghost use Rattle.std.specs.Prelude.{◌≡◌, ◌<◌};
 ghost use Rattle.role_commands.specs.Decode.{width_of, command_by, decoded_of};
 
 use files::role_byte;
 
-#[derive(Drop)]
+#[derive(Clone, Copy)]
 pub enum Command {
     Sizes {
         users: usize,
@@ -41,7 +43,7 @@ pub enum Command {
 }
 
 // What stands at the front of the bytes: a command and how many bytes it takes, an unknown command, or less than a command.
-#[derive(Drop)]
+#[derive(Clone, Copy)]
 pub enum Decoded {
     Whole(Command, usize),
     Unknown,

@@ -1,4 +1,6 @@
 // Reads a role file into one record by value.
+#![tactic(auto)]
+
 ghost use Rattle.std.specs.Prelude.{◌≡◌, ◌*◌, ◌≤◌, ◌<◌, length};
 ghost use Rattle.files.specs.RoleFile.{read_roles};
 ghost use Rattle.role_store.specs.Storing.{tabled, with_sizes};

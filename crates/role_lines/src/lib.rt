@@ -1,4 +1,6 @@
 // The seniority lines of a role file that has a circle: reading refuses it by 7 and hands back no record, so a second pass collects them.
+#![tactic(auto)]
+
 ghost use Rattle.std.specs.Prelude.{length, ◌≡◌};
 ghost use Rattle.role_lines.specs.Collecting.{roles_after, lines_after, Collected};
 

@@ -1,4 +1,6 @@
 // The next command of a role file, if it may stand there.
+#![tactic(auto)]
+
 ghost use Rattle.std.specs.Prelude.{◌≡◌, ◌≤◌, get_or};
 ghost use Rattle.role_next.specs.Taking.{first_sizes, next_of};
 
@@ -8,7 +10,7 @@ use role_commands::{Command, Decoded};
 use role_record::{ByAttribute, BySide, CountBySide, Sizes};
 
 // What comes next in a file: a command that may stand there, with the bytes that it takes; or a refusal.
-#[derive(Drop)]
+#[derive(Clone, Copy)]
 pub enum Taken {
     Obeyed(Command, usize),
     Refused(usize),

@@ -1,4 +1,6 @@
 // The role question: whether the roles of a role file grant a user an operation on a resource.
+#![tactic(auto)]
+
 ghost use Rattle.std.specs.Prelude.{◌≡◌, ◌&&◌, ◌≤◌, ◌<◌, get_or};
 ghost use Rattle.files.specs.Answer.{told};
 ghost use Rattle.files.specs.Calls.{yes_no, role_question};
@@ -10,7 +12,7 @@ ghost use Rattle.role_question.specs.Reply.{reply_numbers};
 use files::refusal;
 use role_record::{ByRole, ByRoleOperation, RoleFile};
 
-#[derive(Drop)]
+#[derive(Clone, Copy)]
 pub enum Reply {
     Yes,
     No,

@@ -1,4 +1,6 @@
 // The loaded role file: one record by value that holds its tables; how a table is cleared, and whether two attributes have one domain.
+#![tactic(auto)]
+
 ghost use Rattle.std.specs.Prelude.{length, ◌≡◌, ◌<◌};
 ghost use Rattle.role_record.specs.Record.{table_of, empty_record, same_domain};
 
@@ -29,7 +31,7 @@ pub struct RoleFile {
 }
 
 // How many there are of each: handed on by value.
-#[derive(Drop)]
+#[derive(Clone, Copy)]
 pub struct Sizes {
     pub users: usize,
     pub resources: usize,

@@ -1,5 +1,7 @@
 // Whose values pass a test. A table of values has 64 to a column, one for each user or resource, and the answer is the set of those in the
 // column whose value passes. Each loop goes from the last to the first and shifts the set up, which takes no branch.
+#![tactic(auto)]
+
 ghost use Rattle.std.specs.Prelude.{eqb, get_or, ◌≡◌, ◌+◌, ◌*◌, ◌<◌};
 ghost use Rattle.sets.specs.Sets.{subset, mask_of};
 

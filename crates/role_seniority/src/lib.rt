@@ -1,5 +1,7 @@
 // Who is senior to whom, and who holds which role. A table has a word for each of the 32 roles, and a word is a set: of roles, or of
 // users.
+#![tactic(auto)]
+
 ghost use Rattle.std.specs.Prelude.{length, get_or, ◌&&◌, ◌||◌, ◌≡◌, ◌≤◌, ◌<◌};
 ghost use Rattle.sets.specs.Sets.{bit, mask_of};
 ghost use Rattle.sets.specs.Tests.{any, up_to};

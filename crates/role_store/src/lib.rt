@@ -1,4 +1,6 @@
 // Commands of a role file stored where they belong.
+#![tactic(auto)]
+
 ghost use Rattle.std.specs.Prelude.{◌≡◌, ◌+◌, ◌*◌, ◌<◌, eqb, get_or, length, set};
 ghost use Rattle.role_record.specs.Record.{marked_if};
 ghost use Rattle.role_store.specs.Storing.{Bounded, added, phase_after, stored_by, tabled};

@@ -1,4 +1,6 @@
 // The commands of a rule file, taken from the front of its bytes.
+#![tactic(auto)]
+
 ghost use Rattle.std.specs.Prelude.{◌≡◌, [], ◌∷◌};
 ghost use Rattle.file_bytes.specs.Numbers.{number_at};
 ghost use Rattle.rule_commands.specs.Raw.{taken_by, raw_of, raw_before};
@@ -6,7 +8,7 @@ ghost use Rattle.rule_commands.specs.Raw.{taken_by, raw_of, raw_before};
 use files::rule_byte;
 
 // An atom by the kinds of its two attributes: the user attribute, the resource attribute.
-#[derive(Drop)]
+#[derive(Clone, Copy)]
 pub enum Atom {
     SetContainsSet(usize, usize),
     SetContainsSingle(usize, usize),
@@ -14,7 +16,7 @@ pub enum Atom {
 }
 
 // A value that a rule lists for a conjunct, of a user's attribute (side 0) or a resource's (side 1): a set or a single value.
-#[derive(Drop)]
+#[derive(Clone, Copy)]
 pub struct ListedValue {
     pub side: usize,
     pub set: bool,
@@ -22,7 +24,7 @@ pub struct ListedValue {
     pub value: u64,
 }
 
-#[derive(Drop)]
+#[derive(Clone, Copy)]
 pub enum RuleCommand {
     Opens,
     Value(ListedValue),
@@ -36,7 +38,7 @@ pub enum RuleCommand {
 // What stands at the front of the bytes: a command byte, its first and its second operand (0 where there is none) and how
 // many bytes they take; an unknown command; or less than a command. The command itself is not made here: which atom a 27
 // is depends on the kinds of its attributes, and the order of commands is that of these numbers.
-#[derive(Drop)]
+#[derive(Clone, Copy)]
 pub enum Raw {
     Whole(usize, u64, u64, usize),
     Unknown,

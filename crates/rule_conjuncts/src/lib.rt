@@ -1,5 +1,7 @@
 // The test of a rule's conjuncts: who meets all those of a side. It takes the rule as it was summed up while it was read: for each
 // attribute, with the 255 as the seventh of its side, who meets one of the values listed; which attributes have values listed.
+#![tactic(auto)]
+
 ghost use Rattle.std.specs.Prelude.{◌≡◌, ◌≤◌, ◌<◌};
 ghost use Rattle.rule_conjuncts.specs.Summary.{met_by_all};
 

@@ -1,4 +1,6 @@
 // Reads a role file and, beside it, a rule file of any length.
+#![tactic(auto)]
+
 ghost use Rattle.std.specs.Prelude.{length, take, ◌≡◌, ◌≤◌};
 ghost use Rattle.files.specs.Calls.{read_both};
 ghost use Rattle.policy.specs.Policy.{Policy};

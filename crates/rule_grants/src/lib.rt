@@ -1,5 +1,7 @@
 // What a rule grants, worked out from the rule summed up. A rule has no grid of its own: by user the resources that it leaves the user, and its
 // operations, say what it grants.
+#![tactic(auto)]
+
 ghost use Rattle.std.specs.Prelude.{◌≡◌, ◌≤◌, length};
 ghost use Rattle.role_record.specs.Record.{table_of};
 ghost use Rattle.grant_links.specs.Linked.{row_of};

@@ -1,4 +1,6 @@
 // The lines of a rule file, one after the other, and what a rule's heading says of them.
+#![tactic(auto)]
+
 ghost use Rattle.std.specs.Prelude.{List, [], ◌≡◌, ℕ, ◌≤◌, length, get_or};
 ghost use Rattle.files.specs.RuleFile.{Lines, rule_in};
 ghost use Rattle.policy.specs.Policy.{Policy, setting_of};
@@ -9,7 +11,7 @@ use files::rule_byte;
 use rule_commands::Raw;
 
 // A command as numbers, and how many bytes it takes: 0 where there is none.
-#[derive(Drop)]
+#[derive(Clone, Copy)]
 pub struct Line {
     pub byte: usize,
     pub first: u64,
@@ -18,7 +20,7 @@ pub struct Line {
 }
 
 // What the heading of a rule says of it.
-#[derive(Drop)]
+#[derive(Clone, Copy)]
 pub struct Heading {
     pub operations: u64,
     pub level: u64,

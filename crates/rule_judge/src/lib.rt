@@ -1,4 +1,6 @@
 // The judge of rule files: whether a rule file, read beside a role file, grants what the roles do, rule by rule and part by part.
+#![tactic(auto)]
+
 ghost use Rattle.std.specs.Prelude.{length, ◌≡◌, ◌≤◌};
 ghost use Rattle.files.specs.Answer.{told};
 ghost use Rattle.files.specs.Calls.{judge, verdict_told};
@@ -9,7 +11,7 @@ use grant_grids::Difference;
 use role_record::RoleFile;
 use rule_listings::StrayPart;
 
-#[derive(Drop)]
+#[derive(Clone, Copy)]
 pub enum Judgement {
     Sound,
     // User, resource and operation of the first triple at which roles and rules differ.

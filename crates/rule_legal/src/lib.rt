@@ -1,4 +1,6 @@
 // Whether the operands of a rule file's line may stand there.
+#![tactic(auto)]
+
 ghost use Rattle.std.specs.Prelude.{◌≡◌, ◌&&◌, ◌+◌, ◌*◌, ◌^◌, ◌≤◌, ◌<◌, ltb};
 ghost use Rattle.sets.specs.Tests.{iff};
 ghost use Rattle.role_record.specs.Record.{WithinLimits, FewAttributes};

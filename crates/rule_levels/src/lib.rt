@@ -1,4 +1,6 @@
 // The level of a rule by the two 255s; specs/ have it read off the rule's lines.
+#![tactic(auto)]
+
 ghost use Rattle.std.specs.Prelude.{◌≡◌};
 ghost use Rattle.rule_levels.specs.Levels.{level_for};
 

@@ -1,11 +1,13 @@
 // Which parts the lines of a rule file list, and the first part that stands under no rule or several. Two tables, with a word for each
 // role, say it: the lowest operations of the parts listed so far, and of those listed more than once.
+#![tactic(auto)]
+
 ghost use Rattle.std.specs.Prelude.{◌≡◌, ◌≤◌, ◌<◌};
 ghost use Rattle.rule_listings.specs.Listed.{seen_after, again_after, once_in, stray_of};
 
 use role_record::{ByRole, ByRoleOperation, RoleFile};
 
-#[derive(Drop)]
+#[derive(Clone, Copy)]
 pub enum StrayPart {
     NoneStray,
     // The part's number.

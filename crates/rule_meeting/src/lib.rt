@@ -1,4 +1,6 @@
 // Who meets one listed value of a conjunct, from the loaded role file's tables.
+#![tactic(auto)]
+
 ghost use Rattle.std.specs.Prelude.{◌≡◌, ◌+◌, ◌*◌, ◌≤◌, ◌<◌, get_or};
 ghost use Rattle.sets.specs.Sets.{mask_of};
 ghost use Rattle.rule_meeting.specs.Meeting.{order, meets_at, holds_all, meeting_of, count_by};

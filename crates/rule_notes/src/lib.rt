@@ -1,4 +1,6 @@
 // A line of a rule noted, and met by members.
+#![tactic(auto)]
+
 ghost use Rattle.std.specs.Prelude.{◌≡◌, ◌+◌, ◌<◌};
 ghost use Rattle.rule_notes.specs.LineSteps.{place_by, pair_number, atom_number, noted_with, met_after};
 ghost use Rattle.role_record.specs.Record.{WithinLimits};
@@ -14,7 +16,7 @@ const NO_ATOM: usize = 64;
 // The numbers that are kept: of the open rule the places that have values, the atoms, the operations (0 until there is a 26), whether a
 // part is listed, whether its level is told, and the last command with its operands; of the rules before it how many there are, and the
 // first stray one.
-#[derive(Drop)]
+#[derive(Clone, Copy)]
 pub struct Tally {
     pub inside: bool,
     pub asked: u64,

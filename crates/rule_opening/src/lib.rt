@@ -1,4 +1,6 @@
 // The first command of a rule file: it says which shape the file was made for.
+#![tactic(auto)]
+
 ghost use Rattle.std.specs.Prelude.{[], ◌∷◌, ◌≡◌};
 ghost use Rattle.file_bytes.specs.Numbers.{numbers_at};
 ghost use Rattle.files.specs.RuleFile.{same_numbers, opened};

@@ -1,4 +1,6 @@
 // Whether the operands of a rule file's command are legal beside a loaded role file, and the command that they make.
+#![tactic(auto)]
+
 ghost use Rattle.std.specs.Prelude.{◌≡◌, ◌≤◌, ◌<◌};
 ghost use Rattle.role_record.specs.Record.{WithinLimits, FewAttributes};
 ghost use Rattle.rule_operands.specs.Checked.{atom_of, checked_value, checked_operations, checked_link, checked_part, checked_of};
@@ -8,7 +10,7 @@ use role_record::{ByAttribute, ByRole, ByRoleOperation, BySide, CountBySide, Siz
 use rule_commands::{Atom, ListedValue, RuleCommand};
 
 // A command whose operands are legal, or word that they are not.
-#[derive(Drop)]
+#[derive(Clone, Copy)]
 pub enum Checked {
     Legal(RuleCommand),
     Illegal,

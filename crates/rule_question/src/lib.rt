@@ -1,4 +1,6 @@
 // The rule question: whether some rule of a rule file, read beside a role file, grants a user an operation on a resource.
+#![tactic(auto)]
+
 ghost use Rattle.std.specs.Prelude.{length, ◌≡◌, ◌≤◌};
 ghost use Rattle.files.specs.Answer.{told};
 ghost use Rattle.files.specs.Calls.{yes_no, rule_question};

@@ -1,4 +1,6 @@
 // What reading a rule file comes to, and one turn of it: the next line met, or the rule closed.
+#![tactic(auto)]
+
 ghost use Rattle.std.specs.Prelude.{◌≡◌};
 ghost use Rattle.role_record.specs.Record.{WithinLimits, FewAttributes};
 ghost use Rattle.rule_reading.specs.Turns.{closes_rule, closing_turn, line_turn, turn_of};
@@ -35,7 +37,7 @@ fn closes(b: usize) -> bool
 
 // What the command in front of the bytes that are left comes to: the number of a refusal; a new rule, and how many bytes its 21 takes; the
 // end; or a legal line of the open rule, as a command, as byte and operands, and how many bytes it takes.
-#[derive(Drop)]
+#[derive(Clone, Copy)]
 pub enum Turn {
     Refused(usize),
     Opens(usize),

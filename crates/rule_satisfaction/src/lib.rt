@@ -1,5 +1,7 @@
 // The test of a user, or of a resource, against the conjuncts of a rule, in the order of 000: all single attributes first, set
 // attributes after.
+#![tactic(auto)]
+
 ghost use Rattle.std.specs.Prelude.{true, false, ◌≡◌, ◌≤◌, ◌<◌};
 ghost use Rattle.files.specs.RoleFile.{side_by};
 ghost use Rattle.files.specs.RuleFile.{Lines, values_in};

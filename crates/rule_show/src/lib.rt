@@ -1,4 +1,6 @@
 // One rule of a rule file: that part of the file itself, from its 21 up to the next command 21 or 2F.
+#![tactic(auto)]
+
 ghost use Rattle.std.specs.Prelude.{eqb, length, ◌||◌, ◌≡◌, ◌<◌, ◌≤◌};
 ghost use Rattle.files.specs.Calls.{shown_place, shown_part, shown_byte};
 ghost use Rattle.files.specs.RulePart.{size_of, rule_start};
@@ -6,7 +8,7 @@ ghost use Rattle.files.specs.RulePart.{size_of, rule_start};
 use files::{refusal, rule_byte};
 
 // Where the part that is handed back begins and ends, and the answer's number.
-#[derive(Drop)]
+#[derive(Clone, Copy)]
 pub struct Place {
     pub code: usize,
     pub from: usize,

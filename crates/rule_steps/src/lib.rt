@@ -1,5 +1,7 @@
 // The steps of reading a rule file beside a loaded role file. Of a rule nothing is kept but its summary; of the rules before it only what
 // they grant together, the first of them that grants other than its parts, and which parts were listed.
+#![tactic(auto)]
+
 ghost use Rattle.std.specs.Prelude.{length, ◌≡◌, ◌+◌, ◌^◌, ◌≤◌, ◌<◌};
 ghost use Rattle.grant_blocks.specs.Rows.{added_rows};
 ghost use Rattle.role_record.specs.Cells.{most_operations, grid_cells};

@@ -1,4 +1,6 @@
 // Rules in words. Each function but the last says whether all was printed so far, as those of `programs` do.
+#![tactic(auto)]
+
 ghost use Rattle.role_record.specs.Record.{WithinLimits, FewAttributes};
 ghost use Rattle.std.specs.Prelude.{◌||◌, List, ◌≡◌};
 ghost use Rattle.rule_headings.specs.Headings.{RuleAt};

@@ -1,5 +1,7 @@
 // Sets of the numbers below 64 as masks: bit n of a number says that n is in the set. Every function takes any numbers, so that
 // no caller has to show that a number is below 64.
+#![tactic(auto)]
+
 ghost use Rattle.std.specs.Prelude.{eqb, ltb, ◌&&◌, ◌||◌, not, ◌≡◌, ◌<◌};
 ghost use Rattle.sets.specs.Lowest.{lowest_from};
 ghost use Rattle.sets.specs.Sets.{bit, subset, mask_of, less_one, size};

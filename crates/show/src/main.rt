@@ -1,5 +1,7 @@
 // Shows one rule of a rule file: show ROLES RULES NUMBER prints its bytes, as they stand in the file, and what explain has to say of it;
 // or the line of a refusal. Where the system does not read a file, a line on standard error says so and nothing is shown.
+#![tactic(auto)]
+
 use digits::Number;
 use programs::say;
 

@@ -1,4 +1,6 @@
 // What the test programs share: what they print, how they fill memory that is lent, and a role file as long as one may be.
+#![tactic(auto)]
+
 ghost use Rattle.std.specs.Prelude.{◌≡◌, ◌≤◌, min, length};
 
 use files::role_byte;

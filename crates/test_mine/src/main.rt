@@ -1,6 +1,8 @@
 // Reads a corpus of cases from standard input and prints for each what mining by four ones answers and what it leaves in the memory that was
 // lent for output, a line a case; then the same for files at the limit of length. tests/minecases.py makes the corpus, and an independent
 // implementation the lines that these are held to.
+#![tactic(auto)]
+
 ghost use Rattle.std.specs.Prelude.{◌≡◌, ◌+◌, min, length};
 ghost use Rattle.file_bytes.specs.Numbers.{number_at};
 

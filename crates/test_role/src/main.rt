@@ -1,6 +1,8 @@
 // Reads a corpus of cases from standard input and prints for each what reading its file, showing its circle and asking its question
 // answer, a line a case; then the same for files at the limit of length. tests/rolecases.py makes the corpus, and an independent
 // implementation the lines that these are held to.
+#![tactic(auto)]
+
 ghost use Rattle.std.specs.Prelude.{◌≡◌, ◌+◌, min, length};
 ghost use Rattle.file_bytes.specs.Numbers.{number_at};
 

@@ -1,6 +1,8 @@
 // Reads a corpus of cases from standard input and prints for each what the judge says of its two files and what its rule question
 // answers, a line a case; then the same for long files. tests/rulecases.py makes the corpus, and an independent implementation the
 // lines that these are held to.
+#![tactic(auto)]
+
 ghost use Rattle.std.specs.Prelude.{◌≡◌, ◌+◌, ◌≤◌, min, length};
 ghost use Rattle.file_bytes.specs.Numbers.{number_at};
 

@@ -1,4 +1,6 @@
 // The answer of mining: the rules of merged groups measured, and written where there is room for them.
+#![tactic(auto)]
+
 ghost use Rattle.std.specs.Prelude.{ℕ, ltb, length, List, ◌≡◌};
 ghost use Rattle.role_record.specs.Record.{Sized, WithinLimits, FewAttributes};
 ghost use Rattle.files.specs.Calls.{mined_bytes};
@@ -18,7 +20,7 @@ use write_measure::Measured;
 
 // A refusal's number; or the bytes of the rule file, the parts of the role file, the rules and merges made, and the rules' cost by the weights
 // that the call was handed.
-#[derive(Drop)]
+#[derive(Clone, Copy)]
 pub enum Mined {
     Refused(usize),
     Written {
@@ -32,7 +34,7 @@ pub enum Mined {
 
 // What was written, before anything is weighed: nothing, and the refusal's number; or the rules, with what is told of them and what their cost is
 // made of.
-#[derive(Drop)]
+#[derive(Clone, Copy)]
 pub enum Wrote {
     Nothing(usize),
     Rules {
@@ -45,7 +47,7 @@ pub enum Wrote {
 }
 
 // What came of mining, and how long the rule file is.
-#[derive(Drop)]
+#[derive(Clone, Copy)]
 pub struct Attempt {
     pub wrote: Wrote,
     pub bytes: usize,

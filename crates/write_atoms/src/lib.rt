@@ -1,4 +1,6 @@
 // The atoms of a rule as bytes, at the front of the slice that is lent.
+#![tactic(auto)]
+
 ghost use Rattle.std.specs.Prelude.{length, ◌≡◌, ◌≤◌, ◌<◌};
 ghost use Rattle.write_lines.specs.Writing.{wrote};
 ghost use Rattle.write_theory.specs.RuleTable.{atom_bytes_at, atom_bytes_in};

@@ -1,4 +1,6 @@
 // The conjuncts of a rule as bytes, at the front of the slice that is lent.
+#![tactic(auto)]
+
 ghost use Rattle.std.specs.Prelude.{length, ◌≡◌, ◌≤◌, ◌<◌};
 ghost use Rattle.files.specs.RoleFile.{side_by};
 ghost use Rattle.mine_parts.specs.Layout.{room_in};

@@ -1,11 +1,13 @@
 // What rules cost: 000's four sums, which mining counts, and their cost by weights, which it does not look at.
+#![tactic(auto)]
+
 ghost use Rattle.std.specs.Prelude.{◌*◌, ◌<◌, ◌≡◌};
 ghost use Rattle.write_cost.specs.CostSums.{AtMost, added, weighed};
 
 use policy::Weights;
 
 // What the cost of rules is made of: the values and elements in their users' conjuncts and in their resources', their operations, their atoms.
-#[derive(Drop)]
+#[derive(Clone, Copy)]
 pub struct Sums {
     pub users: u32,
     pub resources: u32,

@@ -1,4 +1,6 @@
 // Writes the rule file of merged groups, and measures it first.
+#![tactic(auto)]
+
 ghost use Rattle.std.specs.Prelude.{length, ◌≡◌, ◌≤◌, ◌<◌};
 ghost use Rattle.write_measure.specs.FileTable.{file_bytes, rule_with};
 ghost use Rattle.mine_groups.specs.Scratch.{all_parts, Stands};

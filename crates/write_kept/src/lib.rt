@@ -1,4 +1,6 @@
 // The conditions that the rule of each group keeps.
+#![tactic(auto)]
+
 ghost use Rattle.std.specs.Prelude.{length, ◌≡◌, ◌≤◌, ◌<◌};
 ghost use Rattle.write_kept.specs.Kept.{kept_head, KeptTable};
 ghost use Rattle.mine_parts.specs.Layout.{most_parts, room_in};

@@ -1,5 +1,7 @@
 // Writes the lines of a rule file. Each function writes at the front of the slice that it is lent and leaves what stands behind its
 // bytes as it was.
+#![tactic(auto)]
+
 ghost use Rattle.std.specs.Prelude.{length, get_or, ◌∷◌, [], ◌≡◌, ◌≤◌, ◌<◌};
 ghost use Rattle.files.specs.Bytes.{spread};
 ghost use Rattle.files.specs.RuleFile.{value_byte};

@@ -1,4 +1,6 @@
 // The parts of a rule as bytes, at the front of the slice that is lent.
+#![tactic(auto)]
+
 ghost use Rattle.std.specs.Prelude.{length, ◌≡◌, ◌≤◌, ◌<◌};
 ghost use Rattle.mine_groups.specs.Scratch.{all_parts, Stands};
 ghost use Rattle.write_lines.specs.Writing.{wrote};

@@ -1,4 +1,6 @@
 // How long the rule file is, how many rules it has, and what its cost is made of, without writing it.
+#![tactic(auto)]
+
 ghost use Rattle.std.specs.Prelude.{length, cond, ◌≡◌, ◌≤◌, ◌<◌};
 ghost use Rattle.write_measure.specs.FileTable.{measured_of, sums_with, rule_with};
 ghost use Rattle.mine_groups.specs.Scratch.{all_parts, Stands};
@@ -12,7 +14,7 @@ use write_sizes::RuleSize;
 use write_theory::Outline;
 
 // The bytes of a rule file, its rules, and what their cost is made of.
-#[derive(Drop)]
+#[derive(Clone, Copy)]
 pub struct Measured {
     pub bytes: usize,
     pub rules: usize,

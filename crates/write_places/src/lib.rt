@@ -1,5 +1,7 @@
 // What stands at the places of a mined rule, from the tables of the loaded role file and a group in scratch memory: whether a place is one of
 // sets, the values of its conjunct, and the atoms among the places that are kept.
+#![tactic(auto)]
+
 ghost use Rattle.std.specs.Prelude.{length, ◌≡◌, ◌<◌};
 ghost use Rattle.mine_parts.specs.Layout.{room_in};
 ghost use Rattle.mine_theory.specs.Lines.RuleLines.{atom_set};

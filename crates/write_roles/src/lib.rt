@@ -1,4 +1,6 @@
 // The roles that have a part in each group, found in one pass over the parts in scratch memory.
+#![tactic(auto)]
+
 ghost use Rattle.std.specs.Prelude.{length, get_or, ◌≡◌, ℕ, ◌≤◌, ◌<◌};
 ghost use Rattle.mine_groups.specs.Scratch.{all_parts};
 ghost use Rattle.mine_parts.specs.Layout.{most_parts, room_in};

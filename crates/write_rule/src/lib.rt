@@ -1,5 +1,7 @@
 // Writes a mined rule. Each function writes at the front of the slice that it is lent, answers how many bytes it wrote, and leaves what stands
 // behind them as it was.
+#![tactic(auto)]
+
 ghost use Rattle.std.specs.Prelude.{length, ◌≡◌, ◌≤◌, ◌<◌};
 ghost use Rattle.mine_groups.specs.Scratch.{all_parts, Stands};
 ghost use Rattle.mine_parts.specs.Layout.{room_in};

@@ -1,4 +1,6 @@
 // Writes a rule file whole: the first command, which says which shape it is made for, and the rules behind it.
+#![tactic(auto)]
+
 ghost use Rattle.std.specs.Prelude.{length, ◌∷◌, ◌≡◌, ◌+◌, ◌≤◌};
 ghost use Rattle.mine_groups.specs.Scratch.{Stands};
 ghost use Rattle.role_record.specs.Record.{WithinLimits, FewAttributes};

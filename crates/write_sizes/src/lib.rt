@@ -1,4 +1,6 @@
 // How many bytes a mined rule has and what it costs, counted without writing it.
+#![tactic(auto)]
+
 ghost use Rattle.std.specs.Prelude.{length, ◌≡◌, ◌≤◌, ◌<◌};
 ghost use Rattle.mine_distinct.specs.InsideValues.{listed_by};
 ghost use Rattle.mine_groups.specs.Scratch.{all_parts, Stands};
@@ -15,14 +17,14 @@ use write_cost::Sums;
 use write_theory::Outline;
 
 // How many bytes the lines of conjuncts have, and what they cost before they are weighed: their values and elements.
-#[derive(Drop)]
+#[derive(Clone, Copy)]
 struct Size {
     bytes: usize,
     cost: usize,
 }
 
 // How many bytes a rule has, and what its cost is made of.
-#[derive(Drop)]
+#[derive(Clone, Copy)]
 pub struct RuleSize {
     pub bytes: usize,
     pub sums: Sums,
