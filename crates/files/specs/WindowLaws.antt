@@ -105,7 +105,10 @@ unfolding worst most_in lowest_start starts
 worst-is f n w m s g = go (most_in f n w) (greatest_largest (window_count f n w) (n - w) m s g)
   where
     go : (x : ℕ) → x ≡ m → ◌≡◌ {A = Worst} (record { most = x; start = lowest_from (λ t. eqb (window_count f n w t) x) 0 (suc (n - w)) }) (record { most = m; start = s })
-    go x e = rw e (ap (λ (y : ℕ). record { most = m; start = y }) (greatest_lowest (window_count f n w) (n - w) m s g))
+    go x e =
+        let found : ℕ → Worst = λ y. record { most = y; start = lowest_from (λ t. eqb (window_count f n w t) y) 0 (suc (n - w)) } in
+        let begins : ℕ → Worst = λ y. record { most = m; start = y } in
+        ap found e ∙ ap begins (greatest_lowest (window_count f n w) (n - w) m s g)
 
 -- ---- counts
 

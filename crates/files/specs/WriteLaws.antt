@@ -42,7 +42,7 @@ keep_one {A = A} {Q = Q} f irr (and-then {x = x} {xs = xs} h r) u = go (f x) ref
     go true e q = ap suc (q ∙ ap (λ (b : Bool). cond b 1 0) (no_other_lem e))
     go false e q = q
 
-total-member : {A : Type 0} (f : A → ℕ) {l : List A} {x : A} → x is_in l → f x ≤ total ◌+◌ 0 f l
+total-member : {A : Type 0} (f : A → ℕ) {x : A} {l : List A} → x is_in l → f x ≤ total ◌+◌ 0 f l
 total-member f (Memᴰ.head {x = y} {xs = ys} e) = let d = ap f e in omega arith
 total-member f (Memᴰ.tail {x = y} {xs = ys} m) = let h = total-member f m in omega arith
 
