@@ -73,7 +73,7 @@ overflow_add-at c =
     let opening-bytes : (0 < c.in-Opens.w) × (c.in-Opens.w ≤ length source - c.loop-n.at) = command-bytes _ _ _ _ c.requires.0.1 _ _ _ _ _ _ _ _ state _ _ _ _ opening.front in
     let a = opening-bytes in
     let i = within in
-    let g = c.good in
+    let g = c.well_formed in
     omega (arith, a.0, a.1, i.0, g)
 
 pub finish-k-requires : goal.finish-k-requires
@@ -86,7 +86,7 @@ finish-k-requires c =
     let opening-bytes : (0 < c.in-Opens.w) × (c.in-Opens.w ≤ length source - c.loop-n.at) = command-bytes _ _ _ _ c.requires.0.1 _ _ _ _ _ _ _ _ state _ _ _ _ opening.front in
     let a = opening-bytes in
     let i = within in
-    let g = c.good in
+    let g = c.well_formed in
     (limits (goal.at.finish-k-requires c).After-next_turn-arg-in-loop-n-5-1, omega (arith, a.0, a.1, i.0, i.1, g), (long (goal.at.finish-k-requires c).At-loop-n).0, (long (goal.at.finish-k-requires c).At-loop-n).1)
 
 pub loop-n-smaller-in-Opens : goal.loop-n-smaller-in-Opens
@@ -114,7 +114,7 @@ finish-k-requires-in-Ends c =
     let ending : Closing c.loop-n.k (drop c.loop-n.at source) c.args.sizes c.args.t1.attributes c.args.t1.kinds c.args.t1.domains c.args.t1.holders c.args.t1.permissions 0x2F (length (drop c.loop-n.at source)) = turned-ends _ _ _ _ _ _ _ _ _ found c.in-Ends.is in
     let a = command-bytes _ _ _ _ c.requires.0.1 _ _ _ _ _ _ _ _ state _ _ _ _ ending.front in
     let i = within in
-    let g = c.good in
+    let g = c.well_formed in
     (limits (goal.at.finish-k-requires-in-Ends c).After-next_turn-arg-in-loop-n-5-1, omega (arith, a.0, a.1, i.0, i.1, g), (long (goal.at.finish-k-requires-in-Ends c).At-loop-n).0, (long (goal.at.finish-k-requires-in-Ends c).At-loop-n).1)
 
 pub shape_of-listed-in-Ends : goal.shape_of-listed-in-Ends
@@ -143,7 +143,7 @@ overflow_add-at-in-Line c =
     let within : (c.loop-n.at ≤ length source) × (c.loop-n.k.rules ≤ c.loop-n.at) = inside _ _ _ _ c.requires.0.1 _ _ _ _ _ _ _ _ state in
     let a = line-bytes in
     let i = within in
-    let g = c.good in
+    let g = c.well_formed in
     omega (arith, a.0, a.1, i.0, g)
 
 pub note-k-requires : goal.note-k-requires

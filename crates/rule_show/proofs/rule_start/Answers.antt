@@ -17,7 +17,7 @@ pub returns-then-ahead-eq0 : goal.returns-then-ahead-eq0
 returns-then-ahead-eq0 c =
     let source : List ℕ = c.args.rules.now in
     let byte : c.byte_at-b.result ≡ get_or source c.loop-at.at 0 = omega (arith, c.byte_at-b.ensures.0) in
-    found 2 source _ _ _ c.loop-at.inv _ _ c.loop-at-test.true byte c.type_size.ensures.0 (sym c.is_mark.ensures ∙ c.if-is_mark.true) c.if-ahead-eq0.true
+    found 2 source _ _ _ c.loop-at.invariant _ _ c.loop-at-test.true byte c.type_size.ensures.0 (sym c.is_mark.ensures ∙ c.if-is_mark.true) c.if-ahead-eq0.true
 
 pub loop-at-smaller-else-ahead-eq0 : goal.loop-at-smaller-else-ahead-eq0
 loop-at-smaller-else-ahead-eq0 c = omega (arith, c.type_size.ensures.0)
@@ -26,7 +26,7 @@ pub loop-at-preserved-else-ahead-eq0 : goal.loop-at-preserved-else-ahead-eq0
 loop-at-preserved-else-ahead-eq0 c =
     let source : List ℕ = c.args.rules.now in
     let byte : c.byte_at-b.result ≡ get_or source c.loop-at.at 0 = omega (arith, c.byte_at-b.ensures.0) in
-    counted 2 source _ _ _ c.loop-at.inv _ _ c.loop-at-test.true byte c.type_size.ensures.0 (sym c.is_mark.ensures ∙ c.if-is_mark.true) (omega arith)
+    counted 2 source _ _ _ c.loop-at.invariant _ _ c.loop-at-test.true byte c.type_size.ensures.0 (sym c.is_mark.ensures ∙ c.if-is_mark.true) (omega arith)
 
 pub loop-at-smaller : goal.loop-at-smaller
 loop-at-smaller c = omega (arith, c.type_size.ensures.0)
@@ -35,7 +35,7 @@ pub loop-at-preserved : goal.loop-at-preserved
 loop-at-preserved c =
     let source : List ℕ = c.args.rules.now in
     let byte : c.byte_at-b.result ≡ get_or source c.loop-at.at 0 = omega (arith, c.byte_at-b.ensures.0) in
-    passed 2 source _ _ _ c.loop-at.inv _ _ c.loop-at-test.true byte c.type_size.ensures.0 (sym c.is_mark.ensures ∙ c.if-is_mark.false)
+    passed 2 source _ _ _ c.loop-at.invariant _ _ c.loop-at-test.true byte c.type_size.ensures.0 (sym c.is_mark.ensures ∙ c.if-is_mark.false)
 
 pub returns : goal.returns
 returns c =
