@@ -3,8 +3,8 @@
 
 usage: tools/turn_edits.py MAP    MAP is what `tools/respell.py --list` printed before it wrote
 
-An edit whose texts stand in its file is left alone. Of another, both texts are turned, and the edit is written if each old text
-then stands once where it should. The others are listed: by hand.
+Code kept its text, so an edit of src/ that still stands in its file is left alone. Of an edit of specs/ both texts are turned: names,
+and projections written tight. It is written if each old text then stands once in its file; else it is listed, to be done by hand.
 """
 
 import glob
@@ -13,10 +13,10 @@ import re
 import sys
 
 ROOT = os.path.dirname(os.path.dirname(os.path.realpath(__file__)))
-WORD = re.compile(r"[^\s(){}.;,\"«»\[\]\\]+|\.[A-Za-z0-9_]+|\s+|.")
 # Words that begin or end a term: a projection reaches no further back.
 STOPS = set("= : λ ↦ | ∷ ++ + - * / % ^ ≡ ≤ < × → && || ⊎ in let record elim ; , { } [ ] .".split())
-NAMES = {"getD": "get_or", "bitXor": "bit_xor", "bitAnd": "bit_and", "bitOr": "bit_or", "lib.ListN.drop": "Rattle.std.specs.Prelude.drop"}
+NAMES = {"getD": "get_or", "bitXor": "bit_xor"}
+WHOLE = {"lib.ListN.drop": "Rattle.std.specs.Prelude.drop"}
 
 
 def name(word, table):
@@ -45,7 +45,8 @@ def tokens(text):
 
 def turned(text, table):
     """The text with today's names, and each projection written tight."""
-    text = text.replace("lib.ListN.drop", "drop")
+    for i, it in enumerate(WHOLE):
+        text = text.replace(it, f"whole{i}")
     words, tail = tokens(text)
     # A stack of open brackets; in each the pieces so far, and where the spine of the present term begins.
     stack = [["", [], 0]]
@@ -68,10 +69,11 @@ def turned(text, table):
             top[1].append(blank + name(it, table))
             if it in STOPS or re.fullmatch(r"[^\w\s'(){}\[\]]+", it):
                 top[2] = len(top[1])
-            continue
     out = ""
     for opening, pieces, _ in stack:
         out += opening + "".join(pieces)
+    for i, it in enumerate(WHOLE):
+        out = out.replace(f"whole{i}", WHOLE[it])
     return out + tail
 
 
