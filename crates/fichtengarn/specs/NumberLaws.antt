@@ -4,7 +4,7 @@ use Rattle.std.specs.Prelude.{ℕ, List, ◌≡◌, refl}
 use Rattle.std.proofs.Common.{ne_eqb, ap, ◌∙◌}
 use Rattle.answers.specs.Numbers.{no_values}
 use Rattle.files.specs.Answer.{number_of, Answer, told, refused, accepted}
-use Rattle.files.specs.BytesLaws.{number_positive}
+use Rattle.files.proofs.BytesLaws.{number_positive}
 use Rattle.files.specs.RuleFile.{Lines}
 use Rattle.policy.specs.Policy.{Policy}
 use Rattle.role_file.specs.Reading.{refusal, loaded_of}

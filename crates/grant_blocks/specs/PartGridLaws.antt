@@ -15,12 +15,12 @@ use Rattle.files.specs.Beside.{beside_of}
 use Rattle.files.specs.Calls.{parts_grant}
 use Rattle.files.specs.RuleFile.{RuleCommand, Lines, is_part_line, lists, parts_in, legal, reshapes, opens, value, operations, link, part, level, ends}
 use Rattle.grant_grids.specs.Grid.{grid_of}
-use Rattle.grant_grids.specs.GridLaws.{grid_same}
+use Rattle.grant_grids.proofs.GridLaws.{grid_same}
 use Rattle.grant_grids.specs.Updates.{updated, joined_word, permitted_to, added_part}
 use Rattle.role_record.specs.RecordLaws.{table_get, table-length, table_ext}
 use Rattle.policy.specs.Merging.{union}
 use Rattle.policy.specs.Mined.{part_count, part_at, part_block}
-use Rattle.policy.specs.PartLaws.{alike-out, parts_out}
+use Rattle.policy.proofs.PartLaws.{alike-out, parts_out}
 use Rattle.policy.specs.Policy.{Policy, held, side_of, setting_of, roles_in}
 use Rattle.policy.specs.Roles.{Roles, Part, alike, parts, block_of, class_of}
 use Rattle.policy.specs.Rules.{Setting, Block, Triple}

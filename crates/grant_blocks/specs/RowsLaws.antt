@@ -9,13 +9,13 @@ use Rattle.std.proofs.Math.Bool.{Bool, true, false, cond, and-false, and-true, o
 use Rattle.std.proofs.Math.Path.{refl, ap}
 use Rattle.std.proofs.Common.{sym, ap₂, ◌∙◌}
 use native.Mathlib.Omega.{arith}
-use Rattle.files.specs.CallLaws.{triple-of}
+use Rattle.files.proofs.CallLaws.{triple-of}
 use Rattle.files.specs.Calls.{is_triple}
 use Rattle.grant_grids.specs.Grid.{grid_of, in_grid}
-use Rattle.grant_grids.specs.GridLaws.{in-grid}
-use Rattle.grant_grids.specs.UpdateLaws.{updated-long, updated_none, updated-same, updated-next, updated-twice, below_zero, below_all, span_in, span-out}
+use Rattle.grant_grids.proofs.GridLaws.{in-grid}
+use Rattle.grant_grids.proofs.UpdateLaws.{updated-long, updated_none, updated-same, updated-next, updated-twice, below_zero, below_all, span_in, span-out}
 use Rattle.grant_grids.specs.Updates.{updated, span, joined_word}
-use Rattle.policy.specs.RuleLaws.{same_in, same_out}
+use Rattle.policy.proofs.RuleLaws.{same_in, same_out}
 use Rattle.policy.specs.Rules.{Setting, Block, Triple, same_block, user, resource}
 use Rattle.role_record.specs.Cells.{grid_at, grid_user, grid_operation, grid_cells}
 use Rattle.role_record.specs.CellsLaws.{grid_parts}

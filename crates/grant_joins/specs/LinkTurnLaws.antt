@@ -9,7 +9,7 @@ use Rattle.std.proofs.Math.Seq.{get_or-set_same}
 use Rattle.std.proofs.Math.Bool.{cond, ◌&&◌, not, and-false, and-true, or-false}
 use Rattle.std.proofs.Math.Path.{sym, ap, ap₂}
 use native.Mathlib.Omega.{arith}
-use Rattle.grant_grids.specs.UpdateLaws.{updated-long, updated_none}
+use Rattle.grant_grids.proofs.UpdateLaws.{updated-long, updated_none}
 use Rattle.grant_grids.specs.Updates.{updated}
 use Rattle.role_record.specs.RecordLaws.{table_ext}
 use Rattle.sets.specs.MemberLaws.{bit-less}

@@ -10,11 +10,11 @@ use Rattle.role_admit.specs.RoleTableLaws.{permitted_on, row-shown, holders-show
 use Rattle.grant_parts.specs.Parts.{same_row, class_row, is_first, is_part_in}
 use Rattle.role_record.specs.Cells.{most_operations, permission_at}
 use Rattle.role_record.specs.Record.{Sized, permission_table, record_with, record_of}
-use Rattle.policy.specs.ClassLaws.{part_facts}
+use Rattle.policy.proofs.ClassLaws.{part_facts}
 use Rattle.policy.specs.Policy.{Policy, held, side_of, setting_of, roles_in}
 use Rattle.policy.specs.Roles.{Part, alike, leads, is_part, parts, class_of}
 use Rattle.policy.specs.Rules.{user, resource}
-use Rattle.policy.specs.WrittenLaws.{mask_some}
+use Rattle.policy.proofs.WrittenLaws.{mask_some}
 use Rattle.sets.specs.MaskLaws.{mask_same, mask_none}
 use Rattle.sets.specs.Sets.{mask_of}
 use Rattle.sets.specs.Tests.{Is, ◌is_in◌, any, up_to}

@@ -4,7 +4,7 @@ use Rattle.std.specs.Prelude.{ℕ, ◌≤◌, length, get_or, List, ◌≡◌, r
 use Rattle.std.proofs.Common.{sym, ap, subst, arith}
 use Rattle.files.specs.Answer.{Answer, told, refused, accepted}
 use Rattle.files.specs.Load.{load_answer}
-use Rattle.files.specs.LoadLaws.{load_written}
+use Rattle.files.proofs.LoadLaws.{load_written}
 use Rattle.load.specs.Room.{Fits}
 use Rattle.load_file.specs.GeneratedNumbers.{generated_numbers, bytes_written}
 use Rattle.load_file.specs.declared.Generated.{Generated}

@@ -6,9 +6,9 @@ use Rattle.std.proofs.lemmas.Bool.{lt-leb}
 use Rattle.std.proofs.lemmas.List.Edits.{sets}
 use Rattle.std.proofs.Math.Path.{ap}
 use Rattle.files.specs.Answer.{Refusal, number_of, Answer, told, code_of, unless, and_then, too_long, beyond, short_output, zero_seed, refused, accepted}
-use Rattle.files.specs.BytesLaws.{number_positive}
+use Rattle.files.proofs.BytesLaws.{number_positive}
 use Rattle.files.specs.Load.{load_bytes, load_answer, load_output, Readable}
-use Rattle.files.specs.LoadLaws.{load_kept, load_written, load_demand}
+use Rattle.files.proofs.LoadLaws.{load_kept, load_written, load_demand}
 use Rattle.files.specs.RoleFile.{take_sizes, blank}
 use Rattle.load_bytes.specs.StoreLaws.{stored-front}
 use Rattle.load_file.specs.GeneratedNumbers.{generated_numbers, bytes_written}

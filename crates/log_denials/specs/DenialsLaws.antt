@@ -8,9 +8,9 @@ use mathlib.Core.List.{List}
 use Rattle.std.proofs.Math.Path.{refl, sym, ap}
 use Rattle.std.proofs.Common.{◌∙◌, arith}
 use Rattle.files.specs.Answer.{number_of, Answer, told, unless, and_then, beyond, wrong_window, ragged_log, refused, accepted}
-use Rattle.files.specs.BytesLaws.{Carries, number_positive}
+use Rattle.files.proofs.BytesLaws.{Carries, number_positive}
 use Rattle.files.specs.Calls.{is_triple, rules_grant, read_both}
-use Rattle.files.specs.DenialLaws.{log_same}
+use Rattle.files.proofs.DenialLaws.{log_same}
 use Rattle.files.specs.Denials.{of_record, record_count, denied_by, log_answer, denial_answer}
 use Rattle.files.specs.RuleFile.{Lines}
 use Rattle.files.specs.Windows.{worst_values, worst}

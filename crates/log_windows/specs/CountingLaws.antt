@@ -6,7 +6,7 @@ use Rattle.std.proofs.lemmas.Bool.{lt-leb}
 use Rattle.std.proofs.Math.Path.{refl}
 use native.Mathlib.Omega.{arith}
 use Rattle.files.specs.Denials.{of_record, record_count, denied_by}
-use Rattle.files.specs.WindowLaws.{SoFar, slides, all_seen}
+use Rattle.files.proofs.WindowLaws.{SoFar, slides, all_seen}
 use Rattle.files.specs.Windows.{plain_count}
 use Rattle.log_records.specs.RecordLaws.{user-inside, operation-inside}
 use Rattle.log_records.specs.Records.{in_sizes}

@@ -3,7 +3,7 @@
 use Rattle.std.specs.Prelude.{ℕ, ◌≤◌, length, get_or, List, ◌≡◌, refl}
 use Rattle.std.proofs.Common.{sym, ap, subst, arith}
 use Rattle.files.specs.Answer.{Answer, told, refused, accepted}
-use Rattle.files.specs.CallLaws.{accepted-output}
+use Rattle.files.proofs.CallLaws.{accepted-output}
 use Rattle.files.specs.Calls.{Counts, count_values, mine_answer}
 use Rattle.mine.specs.Room.{Fits}
 use Rattle.policy.specs.declared.Weights.{Weights}

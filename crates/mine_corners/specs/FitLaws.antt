@@ -10,8 +10,8 @@ use native.Mathlib.Omega.{arith}
 use Rattle.grant_links.specs.Linked.{linked_with, row_of}
 use Rattle.files.specs.Calls.{first}
 use Rattle.grant_grids.specs.Grid.{differ_at, difference_of, is_same}
-use Rattle.grant_grids.specs.GridLaws.{triples-same, same_means}
-use Rattle.grant_grids.specs.LinkLaws.{link_means}
+use Rattle.grant_grids.proofs.GridLaws.{triples-same, same_means}
+use Rattle.grant_grids.proofs.LinkLaws.{link_means}
 use Rattle.grant_grids.specs.Links.{links_of}
 use Rattle.role_record.specs.Record.{Sized}
 use Rattle.mine_corners.specs.Pairing.{table_spans, covering, covered, grouped, first_beyond}
@@ -24,7 +24,7 @@ use Rattle.sets.specs.SetLaws.{bit-none, bit_mask}
 use Rattle.sets.specs.Sets.{narrowing, bit, mask_of}
 use Rattle.sets.specs.TestLaws.{and_l, and_r, test}
 use Rattle.sets.specs.Tests.{Is, imp, all, up_to}
-use Rattle.mine_theory.specs.Words.WordLaws.{same_tests, words_same}
+use Rattle.mine_theory.proofs.Words.WordLaws.{same_tests, words_same}
 use Rattle.mine_theory.specs.Words.Words.{Words, members_of, Roomy, passes, joined, together, atom_in, words_of, atoms_hold, cover_grants, spans, pair_fits, own_fits}
 
 -- every atom of a word is over declared attributes

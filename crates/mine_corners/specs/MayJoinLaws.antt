@@ -8,11 +8,11 @@ use Rattle.std.proofs.Math.Bool.{true, false, not, or_comm, and_comm}
 use Rattle.std.proofs.Math.Path.{refl, sym}
 use Rattle.role_record.specs.Record.{Sized}
 use Rattle.grant_links.specs.Linked.{linked_with, row_of}
-use Rattle.policy.specs.CoverLaws.{pair-out, stands-out, op-in}
+use Rattle.policy.proofs.CoverLaws.{pair-out, stands-out, op-in}
 use Rattle.policy.specs.Covering.{op_in, pair_in, stands_in, fits}
 use Rattle.policy.specs.Policy.{Policy, side_of, setting_of}
-use Rattle.policy.specs.PolicyLaws.{lawful}
-use Rattle.policy.specs.RuleLaws.{Lawful, same_out}
+use Rattle.policy.proofs.PolicyLaws.{lawful}
+use Rattle.policy.proofs.RuleLaws.{Lawful, same_out}
 use Rattle.policy.specs.Rules.{Setting, Block, attrs_of, own_at, Triple, Some, user, resource}
 use Rattle.sets.specs.ListLaws.{all_ext}
 use Rattle.sets.specs.Sets.{narrowing, bit, mask_of, subset}
@@ -20,7 +20,7 @@ use Rattle.sets.specs.MaskLaws.{bit-mask_of, mask_lt, mask_same, empty_law}
 use Rattle.sets.specs.SetLaws.{bit-none, bit_mask, subset_in}
 use Rattle.sets.specs.Tests.{Is, imp, all, any, up_to}
 use Rattle.sets.specs.TestLaws.{and_in, and_l, and_r, or_l, or_r, or_out, never, test, all_in, all-out, any_out, up_to_in, up_to-out, not_in}
-use Rattle.mine_theory.specs.Words.WordLaws.{same_tests, spans-own, fits-words, words_same, roomy, members_pass}
+use Rattle.mine_theory.proofs.Words.WordLaws.{same_tests, spans-own, fits-words, words_same, roomy, members_pass}
 use Rattle.mine_theory.specs.Words.Words.{Words, Roomy, joined, together, words_of, atoms_hold, cover_grants, spans, pair_fits}
 use Rattle.mine_corners.specs.FitLaws.{Declared, declared-joined, row-bit, atoms-linked, words-declared}
 use Rattle.grant_grids.specs.Links.{links_of}

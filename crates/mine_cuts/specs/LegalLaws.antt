@@ -3,7 +3,7 @@
 use Rattle.std.specs.Prelude.{ℕ, zero, suc, ◌+◌, ◌≤◌, ◌<◌, length, get_or, drop, true, false, List, [], ◌∷◌, ◌≡◌, refl}
 use Rattle.std.proofs.Common.{le-ltb, lt-ltb, drop-cons, sym, ap, ◌∙◌, arith}
 use Rattle.files.specs.Calls.{cuts_ok}
-use Rattle.files.specs.CutLaws.{cuts_behind, cuts_told}
+use Rattle.files.proofs.CutLaws.{cuts_behind, cuts_told}
 
 drop-none : (l : List ℕ) (i : ℕ) → length l ≤ i → drop i l ≡ []
 drop-none [] zero h = refl

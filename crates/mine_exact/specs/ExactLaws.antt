@@ -11,8 +11,8 @@ use Rattle.std.proofs.Math.Option.{none}
 use Rattle.std.proofs.Math.Path.{sym, ap, ap₂}
 use Rattle.files.specs.Calls.{first}
 use Rattle.grant_grids.specs.Grid.{differ_at, difference_of, is_same}
-use Rattle.grant_grids.specs.GridLaws.{triples-same, same_means}
-use Rattle.policy.specs.RuleLaws.{same_in, same_out}
+use Rattle.grant_grids.proofs.GridLaws.{triples-same, same_means}
+use Rattle.policy.proofs.RuleLaws.{same_in, same_out}
 use Rattle.policy.specs.Rules.{Setting, by, same_block, user, resource}
 use Rattle.sets.specs.MaskLaws.{mask_lt, bit-low}
 use Rattle.sets.specs.Sets.{bit, subset, mask_of}

@@ -7,10 +7,10 @@ use Rattle.std.proofs.Math.Bool.{Bool, false, not, or-false}
 use Rattle.std.specs.Prelude.{true, ◌&&◌, ◌||◌, ◌⊎◌, ◌≡◌}
 use mathlib.Core.List.{List, map}
 use Rattle.std.proofs.Math.Path.{refl, sym, ap, ap₂}
-use Rattle.files.specs.CallLaws.{first-none}
+use Rattle.files.proofs.CallLaws.{first-none}
 use Rattle.files.specs.Calls.{first}
 use Rattle.grant_grids.specs.Grid.{triple_list, differ_at, difference_of}
-use Rattle.grant_grids.specs.GridLaws.{UsersPassed, ResourcesPassed, OperationsPassed, user-passed, found}
+use Rattle.grant_grids.proofs.GridLaws.{UsersPassed, ResourcesPassed, OperationsPassed, user-passed, found}
 use Rattle.grant_grids.specs.declared.Difference.TheVariants.{Same, At}
 use Rattle.grant_links.specs.Linked.{row_of}
 use Rattle.sets.specs.Sets.{bit, mask_of}

@@ -3,20 +3,20 @@
 use Rattle.std.specs.Prelude.{ℕ, suc, ◌<◌, max, List, [], ◌∷◌, ◌++◌, ◌≡◌}
 use Rattle.std.proofs.Math.Bool.{or-false}
 use Rattle.std.proofs.Math.Path.{fun_ext}
-use Rattle.policy.specs.ClassLaws.{part_in}
-use Rattle.policy.specs.CoverLaws.{exact-fits, fits-exact}
+use Rattle.policy.proofs.ClassLaws.{part_in}
+use Rattle.policy.proofs.CoverLaws.{exact-fits, fits-exact}
 use Rattle.policy.specs.Covering.{cover, fits, level_of}
 use Rattle.policy.specs.Merging.{union, mergeable}
 use Rattle.policy.specs.Mined.{part_count, part_at, part_block}
-use Rattle.policy.specs.PartLaws.{part-some, part-fits}
+use Rattle.policy.proofs.PartLaws.{part-some, part-fits}
 use Rattle.policy.specs.Policy.{Policy, setting_of, roles_in}
-use Rattle.policy.specs.PolicyLaws.{lawful, owned}
+use Rattle.policy.proofs.PolicyLaws.{lawful, owned}
 use Rattle.policy.specs.Rules.{Some}
-use Rattle.policy.specs.ThinLaws.{cover-at, at-3}
+use Rattle.policy.proofs.ThinLaws.{cover-at, at-3}
 use Rattle.sets.specs.Tests.{Is, up_to}
 use Rattle.sets.specs.TestLaws.{or_l, any_out}
 use Rattle.mine_groups.specs.Scratch.{blocks_of}
-use Rattle.mine_theory.specs.Words.WordLaws.{union-joined}
+use Rattle.mine_theory.proofs.Words.WordLaws.{union-joined}
 
 module _ (F : Policy) where
   -- ---- about one part

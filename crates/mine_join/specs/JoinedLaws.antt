@@ -20,7 +20,7 @@ use Rattle.sets.specs.SetLaws.{bit_mask, subset_in, subset-chain}
 use Rattle.sets.specs.Sets.{bit, mask_of, subset}
 use Rattle.sets.specs.TestLaws.{or_l, never, test, fails, and_in, and_l, and_r, or_r, or_out}
 use Rattle.sets.specs.Tests.{Is}
-use Rattle.mine_theory.specs.Words.WordLaws.{words_same}
+use Rattle.mine_theory.proofs.Words.WordLaws.{words_same}
 use Rattle.mine_theory.specs.Words.Words.{Words, joined}
 
 -- ---- the words

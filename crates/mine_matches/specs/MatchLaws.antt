@@ -22,9 +22,9 @@ use Rattle.rule_meeting.specs.MeetingMeansLaws.{meeting_means}
 use Rattle.rule_meeting.specs.Meeting.{meeting_of}
 use Rattle.policy.specs.Covering.{all_know}
 use Rattle.policy.specs.Policy.{Policy, kind_of, held, roles_of, is_set_at, value_at, side_of, setting_of, roles_in}
-use Rattle.policy.specs.PolicyLaws.{attributes-of}
+use Rattle.policy.proofs.PolicyLaws.{attributes-of}
 use Rattle.policy.specs.Rules.{own, Side, Which, by, both, admits, meets, attrs_of, user, resource}
-use Rattle.policy.specs.SideLaws.{declared_in, own_in}
+use Rattle.policy.proofs.SideLaws.{declared_in, own_in}
 use Rattle.sets.specs.ListLaws.{all_append, all_ext}
 use Rattle.sets.specs.MaskLaws.{mask_lt, mask_same, mask_none, bit-low}
 use Rattle.sets.specs.SetLaws.{subset-out, subset_in, bit_mask}

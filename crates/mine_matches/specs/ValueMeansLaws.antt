@@ -15,7 +15,7 @@ use Rattle.role_record.specs.RecordLaws.{table_get, side-room}
 use Rattle.policy.specs.Covering.{all_know, values_of}
 use Rattle.policy.specs.Policy.{Policy, kind_of, meets_value, is_set_at, side_of, setting_of}
 use Rattle.policy.specs.Rules.{own, Which, by, user, resource, conjunct}
-use Rattle.policy.specs.SideLaws.{values-in, values-out, values-rising}
+use Rattle.policy.proofs.SideLaws.{values-in, values-out, values-rising}
 use Rattle.policy.specs.Thinning.{strictly, trim, trim_cond}
 use Rattle.sets.specs.ListLaws.{keep_all}
 use Rattle.sets.specs.MaskLaws.{bit-low}
@@ -24,7 +24,7 @@ use Rattle.sets.specs.SetLaws.{bit_mask, subset-out}
 use Rattle.sets.specs.SortedLaws.{rising_ext, numbers}
 use Rattle.sets.specs.Tests.{Is, ◌is_in◌, any, is_some}
 use Rattle.sets.specs.TestLaws.{and_l, and_r, never, test, fails, all-out, any_out, keep_in, up_to_in, is_some-out, not_in}
-use Rattle.mine_theory.specs.Words.FlagLaws.{cond-conjunct}
+use Rattle.mine_theory.proofs.Words.FlagLaws.{cond-conjunct}
 use Rattle.mine_theory.specs.Words.Flags.{cond_at}
 use Rattle.mine_theory.specs.Words.Words.{Words, members_of}
 use Rattle.mine_matches.specs.MatchLaws.{value_means, know_means}

@@ -1,11 +1,3 @@
 pub mod Steps
 pub mod Traced
 pub mod Progress
-pub mod HeadCountLaws
-pub mod PairLaws
-pub mod JoinLaws
-pub mod FilledLaws
-pub mod AloneLaws
-pub mod ResolveLaws
-pub mod ProgressLaws
-pub mod RunLaws

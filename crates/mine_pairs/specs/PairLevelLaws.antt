@@ -15,7 +15,7 @@ use Rattle.mine_matches.specs.Matches.{known_in, matches_in, met_of, both_member
 use Rattle.policy.specs.Covering.{stands_in, fits, level_of}
 use Rattle.policy.specs.Merging.{union, mergeable}
 use Rattle.policy.specs.Policy.{Policy, side_of, setting_of}
-use Rattle.policy.specs.PolicyLaws.{lawful}
+use Rattle.policy.proofs.PolicyLaws.{lawful}
 use Rattle.policy.specs.Rules.{Which, by, Block, attrs_of, own_at, Some, user, resource}
 use Rattle.sets.specs.LoopLaws.{any_found}
 use Rattle.sets.specs.Lowest.{lowest}
@@ -24,7 +24,7 @@ use Rattle.sets.specs.MaskLaws.{bit-mask_of, mask_lt, mask_same, mask_wide}
 use Rattle.sets.specs.Sets.{bit, subset, mask_of}
 use Rattle.sets.specs.Tests.{Is, imp, all, any, up_to}
 use Rattle.sets.specs.TestLaws.{fails, never, test, any_in, any_out, up_to_in}
-use Rattle.mine_theory.specs.Words.WordLaws.{words-joined, union-joined, fits-words, own-words, roomy}
+use Rattle.mine_theory.proofs.Words.WordLaws.{words-joined, union-joined, fits-words, own-words, roomy}
 use Rattle.mine_theory.specs.Words.Words.{Words, passes, joined, together, words_of, pair_fits}
 use Rattle.mine_corners.specs.FitLaws.{Declared, beyond_means, Bounded, joined-self, own-fits, words-bounded, words-declared}
 use Rattle.grant_grids.specs.Links.{links_of}

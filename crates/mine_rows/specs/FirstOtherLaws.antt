@@ -6,10 +6,10 @@ use Rattle.std.proofs.Math.Bool.{false, not}
 use mathlib.Core.List.{List, map}
 use Rattle.std.proofs.Math.Path.{refl, sym, ap}
 use Rattle.std.proofs.Common.{ap₂, ◌∙◌}
-use Rattle.files.specs.CallLaws.{first-none}
+use Rattle.files.proofs.CallLaws.{first-none}
 use Rattle.files.specs.Calls.{first}
 use Rattle.grant_grids.specs.Grid.{triple_list, differ_at, difference_of}
-use Rattle.grant_grids.specs.GridLaws.{UsersPassed, ResourcesPassed, OperationsPassed, user-passed, found}
+use Rattle.grant_grids.proofs.GridLaws.{UsersPassed, ResourcesPassed, OperationsPassed, user-passed, found}
 use Rattle.grant_grids.specs.declared.Difference.TheVariants.{Same, At}
 use Rattle.mine_corners.specs.Pairing.{table_spans}
 use Rattle.policy.specs.Rules.{Block}

@@ -14,14 +14,14 @@ use Rattle.rule_conjuncts.specs.Summary.{met_by_all}
 use Rattle.grant_links.specs.Linked.{linked_with}
 use Rattle.files.specs.Calls.{first}
 use Rattle.grant_grids.specs.Grid.{differ_at, difference_of, is_same}
-use Rattle.grant_grids.specs.GridLaws.{triples-same, same_means}
+use Rattle.grant_grids.proofs.GridLaws.{triples-same, same_means}
 use Rattle.role_record.specs.Record.{table_of}
 use Rattle.role_record.specs.RecordLaws.{table_get}
 use Rattle.sets.specs.ListLaws.{all_ext}
 use Rattle.sets.specs.MemberLaws.{least_in}
 use Rattle.mine_corners.specs.FitLaws.{row-bit}
 use Rattle.mine_corners.specs.Pairing.{table_spans, less}
-use Rattle.policy.specs.RuleLaws.{same_in, same_out}
+use Rattle.policy.proofs.RuleLaws.{same_in, same_out}
 use Rattle.policy.specs.Rules.{Side, Setting, by, same_block}
 use Rattle.sets.specs.LoopLaws.{table-unique}
 use Rattle.sets.specs.Sets.{narrowing, bit, subset, mask_of, less_one}

@@ -1,4 +1,1 @@
 pub mod RuleLines
-pub mod RuleLinesLaws
-pub mod PartLinesLaws
-pub mod RuleBytesLaws

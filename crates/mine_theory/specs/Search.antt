@@ -1,3 +1,1 @@
 pub mod Frontier
-pub mod FrontierLaws
-pub mod WithinLaws

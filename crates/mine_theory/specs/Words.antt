@@ -1,4 +1,2 @@
 pub mod Words
-pub mod WordLaws
 pub mod Flags
-pub mod FlagLaws

@@ -16,7 +16,7 @@ use Rattle.role_record.specs.Record.{Sized, attribute_table, record_with, record
 use Rattle.rule_conjuncts.specs.Summary.{met_by_all}
 use Rattle.files.specs.Calls.{first}
 use Rattle.grant_grids.specs.Grid.{differ_at, difference_of, is_same}
-use Rattle.grant_grids.specs.GridLaws.{triples-same, same_means}
+use Rattle.grant_grids.proofs.GridLaws.{triples-same, same_means}
 use Rattle.role_record.specs.RecordLaws.{table_get, side-room, attributes-room}
 use Rattle.mine_matches.specs.MatchLaws.{met_means, know_means}
 use Rattle.mine_matches.specs.Matches.{known_in, matches_in, met_of}
@@ -26,7 +26,7 @@ use Rattle.mine_corners.specs.Pairing.{table_spans}
 use Rattle.policy.specs.Covering.{stands_in}
 use Rattle.policy.specs.Policy.{Policy, side_of, setting_of}
 use Rattle.policy.specs.Rules.{own, Side, Which, by, Block, attrs_of, own_at, holds, Triple, same_block, user, resource, atom}
-use Rattle.policy.specs.SideLaws.{attribute_cases, declared_in, own_in}
+use Rattle.policy.proofs.SideLaws.{attribute_cases, declared_in, own_in}
 use Rattle.sets.specs.ListLaws.{all_append, all_ext}
 use Rattle.sets.specs.Sets.{narrowing, bit, mask_of, less_one}
 use Rattle.sets.specs.MaskLaws.{bit-mask_of, mask_lt, mask_same}
@@ -34,7 +34,7 @@ use Rattle.sets.specs.SetLaws.{bit_mask, bit-down}
 use Rattle.sets.specs.Tests.{Is, imp, ◌is_in◌, all, only, from, up_to, elem}
 use Rattle.sets.specs.TestLaws.{and_l, and_r, test, same, only_in, only_out, up_to-out, elem_in, elem_out}
 use Rattle.mine_theory.specs.Words.Flags.{has_at, holds_at, places_grant, thinned_at, thinned_to, kept_places}
-use Rattle.mine_theory.specs.Words.WordLaws.{same_tests}
+use Rattle.mine_theory.proofs.Words.WordLaws.{same_tests}
 use Rattle.mine_theory.specs.Words.Words.{Words, members_of, met_by, words_of, atoms_hold, spans}
 use Rattle.mine_rows.specs.Others.{rule_over, first_other}
 use Rattle.mine_rows.specs.KeptPlaces.{met_at, met_places, allowed_at, conjunct_at, present_places, grants_same, thin_by, thin_to, kept_in}

@@ -12,7 +12,7 @@ use Rattle.role_record.specs.Record.{Sized, attribute_table, record_with, record
 use Rattle.role_record.specs.RecordLaws.{side-room}
 use Rattle.role_admit.specs.RoleTableLaws.{permitted_on, row-shown, holders-shown, holder-within}
 use Rattle.grant_parts.specs.PartTableLaws.{part-role, part-lead, class_shown}
-use Rattle.grant_grids.specs.LinkLaws.{link_means}
+use Rattle.grant_grids.proofs.LinkLaws.{link_means}
 use Rattle.grant_grids.specs.Links.{links_of}
 use Rattle.mine_words.specs.PartWords.{true_of_all, is_atom_of, atoms_of}
 use Rattle.grant_parts.specs.Parts.{class_row}
@@ -24,7 +24,7 @@ use Rattle.sets.specs.Sets.{bit, subset, mask_of}
 use Rattle.sets.specs.SetLaws.{subset-out, subset_in, bit_mask}
 use Rattle.sets.specs.Tests.{Is, imp, ◌is_in◌, all, up_to}
 use Rattle.sets.specs.TestLaws.{and_in, and_l, and_r, same, imp_in, imp-out, all-out, all_in, up_to_in, up_to-out, and_third}
-use Rattle.mine_theory.specs.Words.WordLaws.{part-words, words_same}
+use Rattle.mine_theory.proofs.Words.WordLaws.{part-words, words_same}
 use Rattle.mine_theory.specs.Words.Words.{Words, words_of, part_atom}
 
 -- the words that the tables give for a part

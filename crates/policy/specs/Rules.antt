@@ -98,9 +98,9 @@ module _ (S : Side) where
   attrs_of b = up_to S.attrs ++ only b own
 
 -- "Levels: 0 may use no 255, 1 the user one, 2 the resource one, 3 both." There are no others.
-abbrev pub field_own : Which → ℕ → Bool
-field_own user l = eqb l 1 || eqb l 3
-field_own resource l = eqb l 2 || eqb l 3
+abbrev pub own_at : Which → ℕ → Bool
+own_at user l = eqb l 1 || eqb l 3
+own_at resource l = eqb l 2 || eqb l 3
 
 module _ (P : Setting) where
   -- the form of the atom over two attributes, if they have one: "An atom joins two attributes only if their domains are equal"
@@ -119,7 +119,7 @@ module _ (P : Setting) where
   -- a condition is one of a level: "Neither [255] stands in an atom." ("User numbers stand in no rule": the user 255 is a set
   -- of roles.)
   unfoldable pub allowed : ℕ → Cond → Bool
-  allowed l (conjunct w a vs) = elem a (attrs_of (P.side w) (field_own w l))
+  allowed l (conjunct w a vs) = elem a (attrs_of (P.side w) (own_at w l))
   allowed l (atom a b) = ltb a (P.side user).attrs && ltb b (P.side resource).attrs
 
   -- every condition of a rule is one of a level

@@ -7,7 +7,7 @@ use Rattle.std.proofs.Math.Bool.{true, false}
 use Rattle.std.proofs.Math.Path.{refl, sym, ap₂}
 use Rattle.std.proofs.Common.{ap, ◌∙◌}
 use Rattle.files.specs.Answer.{unless, code_of, wrong_table, beyond, accepted}
-use Rattle.files.specs.AnswerLaws.{unless-code, unless-passed}
+use Rattle.files.proofs.AnswerLaws.{unless-code, unless-passed}
 use Rattle.files.specs.Edits.{Edit, may_fill, may_edit}
 use Rattle.right_answers.specs.Codes.{fill_code, edit_code}
 use Rattle.role_admit.specs.Admit.{below_of, sizes_code}

@@ -9,11 +9,11 @@ use mathlib.Core.List.{List, [], ◌∷◌}
 use Rattle.std.proofs.Math.Path.{refl, sym, ap, ap₂, subst, fun_ext}
 use Rattle.std.proofs.Common.{◌∙◌, arith}
 use Rattle.files.specs.Answer.{Answer, unless, code_of, left_by, wrong_table, beyond, accepted}
-use Rattle.files.specs.BytesLaws.{carried}
+use Rattle.files.proofs.BytesLaws.{carried}
 use Rattle.files.specs.Edits.{Edit, may_edit, with_edit, edit_answer, summary_word, summary, edited_by}
 use Rattle.files.specs.RoleFile.{read_roles}
 use Rattle.grant_grids.specs.Grid.{granted_by}
-use Rattle.grant_grids.specs.GridLaws.{granted_means}
+use Rattle.grant_grids.proofs.GridLaws.{granted_means}
 use Rattle.policy.specs.Policy.{Policy, senior, side_of, setting_of, roles_in}
 use Rattle.policy.specs.Roles.{roles_grant}
 use Rattle.policy.specs.Rules.{user, resource}

@@ -7,7 +7,7 @@ use mathlib.Core.List.{List}
 use Rattle.std.proofs.Math.Path.{sym, ap}
 use Rattle.std.proofs.Common.{◌∙◌, arith}
 use Rattle.files.specs.Answer.{code_of, left_by}
-use Rattle.files.specs.AnswerLaws.{code-kept}
+use Rattle.files.proofs.AnswerLaws.{code-kept}
 use Rattle.files.specs.Edits.{Edit}
 use Rattle.right_answers.specs.Codes.{fill_code, edit_code}
 use Rattle.right_answers.specs.CodeLaws.{fill-code, fill_accepted, edit-code, edit_passed, edit_accepted}

@@ -10,7 +10,7 @@ use Rattle.std.proofs.Common.{◌∙◌, subst}
 use native.Mathlib.Omega.{arith}
 use Rattle.grant_grids.specs.Grid.{granted_by}
 use Rattle.grant_grids.specs.Updates.{updated, span}
-use Rattle.grant_grids.specs.UpdateLaws.{updated-long, updated_none, updated-same, updated-twice, span_in, span-out}
+use Rattle.grant_grids.proofs.UpdateLaws.{updated-long, updated_none, updated-same, updated-twice, span_in, span-out}
 use Rattle.grant_values.specs.PlaceValues.{held_roles}
 use Rattle.right_words.specs.Rights.{rights_word, rights_table, refreshed, held_within, permitted_by, word_by}
 use Rattle.role_record.specs.Cells.{permission_at, row_cells, row_start, cell_at, cell_row, cell_operation, user_cells}

@@ -7,7 +7,7 @@ use Rattle.role_commands.specs.DecodeLaws.{meaning}
 use Rattle.role_commands.specs.declared.Command.{Command}
 use Rattle.role_commands.specs.declared.Command.TheVariants.{Sizes, Declare, Give, Assign, Permit, Line, End}
 use Rattle.files.specs.Answer.{Answer, unless, and_then, code_of, out_of_place, beyond, wrong_kind, refused, accepted}
-use Rattle.files.specs.AnswerLaws.{unless-code}
+use Rattle.files.proofs.AnswerLaws.{unless-code}
 use Rattle.files.specs.RoleFile.{Phase, Loading, blank, side_by, with_kind, with_value, with_assigned, with_permitted, with_line, is_nothing, is_declaring, enter, take_kind, take_value, take_assignment, take_permission, take_line, take_sizes, obey_role, nothing, declaring, telling}
 use Rattle.role_record.specs.declared.Sizes.{Sizes as Counts}
 use Rattle.role_record.specs.Record.{column_side, known_table, attribute_table, kind_table, Sized}

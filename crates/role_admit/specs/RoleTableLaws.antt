@@ -10,9 +10,9 @@ use Rattle.role_record.specs.Cells.{most_operations, permission_at, permission_r
 use Rattle.role_record.specs.CellsLaws.{permission_parts}
 use Rattle.role_record.specs.Record.{Sized, permission_table, record_with, record_of}
 use Rattle.role_record.specs.RecordLaws.{table_get}
-use Rattle.policy.specs.PartLaws.{alike-out, alike_in}
+use Rattle.policy.proofs.PartLaws.{alike-out, alike_in}
 use Rattle.policy.specs.Policy.{Policy, senior, held, side_of, setting_of, roles_in}
-use Rattle.policy.specs.PolicyLaws.{granted}
+use Rattle.policy.proofs.PolicyLaws.{granted}
 use Rattle.policy.specs.Roles.{alike, roles_grant}
 use Rattle.policy.specs.Rules.{Triple, user, resource}
 use Rattle.sets.specs.MaskLaws.{mask_same}

@@ -7,11 +7,11 @@ use mathlib.Core.List.{List, [], ◌∷◌, ◌++◌}
 use Rattle.std.proofs.Math.Path.{refl, ap, subst, fun_ext}
 use Rattle.std.proofs.Math.Decide.{dec_lt}
 use Rattle.files.specs.Answer.{Refusal, number_of, Answer, told, unless, own_senior, short_output, refused, accepted}
-use Rattle.files.specs.BytesLaws.{Bytes, carried, number_positive}
+use Rattle.files.proofs.BytesLaws.{Bytes, carried, number_positive}
 use Rattle.files.specs.Calls.{circle_answer, circle_output}
-use Rattle.files.specs.CircleCallLaws.{circle_accepted, circle_otherwise, seven-only, circle_seven, circle_kept, circle_written, circle_demand}
+use Rattle.files.proofs.CircleCallLaws.{circle_accepted, circle_otherwise, seven-only, circle_seven, circle_kept, circle_written, circle_demand}
 use Rattle.files.specs.RoleFile.{read_roles, read_commands}
-use Rattle.files.specs.SoundLaws.{Sound, commands_sound}
+use Rattle.files.proofs.SoundLaws.{Sound, commands_sound}
 use Rattle.policy.specs.Circles.{closes, circle_in, circle_of, Circle}
 use Rattle.policy.specs.CircleSearch.{leads_back, circle_at, way_back}
 use Rattle.policy.specs.Policy.{Policy, circular}

@@ -10,7 +10,7 @@ use Rattle.std.proofs.Math.Decide.{dec_lt}
 use native.Mathlib.Omega.{arith}
 use Rattle.policy.specs.Circles.{circle_in}
 use Rattle.policy.specs.CircleSearch.{leads_back, followers, way_back, circle_at}
-use Rattle.policy.specs.CircleSearchLaws.{search_found, search_none, followers-some, followers-word, way_next}
+use Rattle.policy.proofs.CircleSearchLaws.{search_found, search_none, followers-some, followers-word, way_next}
 use Rattle.role_circles.specs.BackWords.{line_in, next_in, back_word, IsShortest}
 use Rattle.role_record.specs.Record.{table_of}
 use Rattle.role_record.specs.RecordLaws.{table-length, table_get}

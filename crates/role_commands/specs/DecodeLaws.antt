@@ -16,7 +16,7 @@ use Rattle.role_commands.specs.declared.Command.TheVariants.{Sizes, Declare, Giv
 use Rattle.role_commands.specs.declared.Decoded.{Decoded}
 use Rattle.role_commands.specs.declared.Decoded.TheVariants.{Whole, Unknown, Short}
 use Rattle.files.specs.Answer.{Answer, and_then, cut_off, unknown_command, refused}
-use Rattle.files.specs.BytesLaws.{follow}
+use Rattle.files.proofs.BytesLaws.{follow}
 use Rattle.files.specs.Bytes.{number, one_more, operands, turn, decode, read_on}
 use Rattle.files.specs.RoleFile.{RoleCommand, role_widths, role_command, Loading, is_end, obey_role, role_format, sizes, declare, give, assign, permit, line, end}
 use Rattle.files.specs.RuleFile.{widths_or}

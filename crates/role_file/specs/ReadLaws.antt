@@ -16,8 +16,8 @@ use Rattle.role_record.specs.Cells.{most_operations}
 use Rattle.role_record.specs.Record.{Sized, known_table, value_table, assigned_table, line_table, permission_table, attribute_table, kind_table, domain_table, record_with, record_so_far, set_kinds, set_values, set_assigned, set_lines, set_permissions}
 use Rattle.role_commands.specs.DecodeLaws.{meaning}
 use Rattle.files.specs.Answer.{Answer, unless, and_then, out_of_place, beyond, wrong_kind, accepted}
-use Rattle.files.specs.BytesLaws.{Carries, unless_carries, then_carries}
-use Rattle.files.specs.LineLaws.{same-side}
+use Rattle.files.proofs.BytesLaws.{Carries, unless_carries, then_carries}
+use Rattle.files.proofs.LineLaws.{same-side}
 use Rattle.files.specs.RoleFile.{Phase, Loading, blank, side_by, same_side, with_table, with_kind, with_value, with_assigned, with_permitted, with_line, is_nothing, is_declaring, enter, take_kind, take_value, take_assignment, take_permission, take_line, take_sizes, obey_role, nothing, declaring, telling, is_end}
 use Rattle.files.specs.RuleFile.{value}
 use Rattle.role_record.specs.RecordLaws.{assigned-marked, line_marked, permission_marked, known-marked, value-stored, kind_marked, attribute-counted, kind_values, domain-stored, value_domains}

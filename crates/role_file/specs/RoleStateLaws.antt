@@ -13,7 +13,7 @@ use Rattle.role_commands.specs.Decode.{decoded_of}
 use Rattle.role_commands.specs.DecodeLaws.{meaning, turn-short, turn-unknown, Front, turn-whole}
 use Rattle.files.specs.Answer.{Answer, unless, and_then, code_of, own_senior, refused, accepted}
 use Rattle.files.specs.Bytes.{behind, read_on, read}
-use Rattle.files.specs.BytesLaws.{read_behind, follow, Carries, number_positive}
+use Rattle.files.proofs.BytesLaws.{read_behind, follow, Carries, number_positive}
 use Rattle.files.specs.RoleFile.{Loading, blank, is_end, fresh, settle, obey_role, role_format, read_roles, nothing, Phase, declaring, telling}
 use Rattle.role_record.specs.RecordLaws.{table_none}
 use Rattle.policy.specs.Policy.{Policy, circular}

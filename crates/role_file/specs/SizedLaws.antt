@@ -6,7 +6,7 @@ use Rattle.role_record.specs.Record.{Sized, record_of}
 use Rattle.role_commands.specs.DecodeLaws.{meaning}
 use Rattle.files.specs.Answer.{Answer, and_then, too_long, own_senior, refused, accepted}
 use Rattle.files.specs.Bytes.{read_on, read}
-use Rattle.files.specs.BytesLaws.{Carries, unless_carries, then_carries, read_carries, number_positive}
+use Rattle.files.proofs.BytesLaws.{Carries, unless_carries, then_carries, read_carries, number_positive}
 use Rattle.files.specs.RoleFile.{RoleCommand, Loading, blank, fresh, settle, obey_role, role_format, read_roles, sizes, declare, give, assign, permit, line, end, nothing}
 use Rattle.policy.specs.Policy.{circular, Policy}
 use Rattle.role_file.specs.ReadLaws.{After, blank-sized, obeyed}

@@ -9,8 +9,8 @@ use Rattle.std.proofs.Math.Path.{refl, ap}
 use native.Mathlib.Omega.{arith}
 use Rattle.files.specs.Answer.{Answer, and_then, refused, accepted}
 use Rattle.files.specs.Bytes.{read_on}
-use Rattle.files.specs.BytesLaws.{follow, Carries}
-use Rattle.files.specs.CircleCallLaws.{commands_out}
+use Rattle.files.proofs.BytesLaws.{follow, Carries}
+use Rattle.files.proofs.CircleCallLaws.{commands_out}
 use Rattle.files.specs.RoleFile.{Loading, blank, is_end, fresh, obey_role, role_format, read_commands, nothing}
 use Rattle.policy.specs.Policy.{Policy}
 use Rattle.role_commands.specs.Decode.{decoded_of}

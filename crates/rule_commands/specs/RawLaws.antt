@@ -15,7 +15,7 @@ use Rattle.role_commands.specs.DecodeLaws.{operands-at, operands_short, first_by
 use Rattle.files.specs.Answer.{Answer, and_then, rules_cut_off, rules_unknown, rules_order, refused, accepted}
 use Rattle.files.specs.Beside.{Beside}
 use Rattle.files.specs.Bytes.{operands, turn, decode, read_on}
-use Rattle.files.specs.BytesLaws.{follow}
+use Rattle.files.proofs.BytesLaws.{follow}
 use Rattle.files.specs.RuleFile.{RuleCommand, byte_of, rule_command, precedes, Reading, ends_file, obey_rule, rule_widths, rule_format}
 use Rattle.rule_commands.specs.Raw.{shape-opens, shape_user_single, shape_user_set, shape_resource_single, shape_resource_set, shape-operations, shape-link, shape-part, shape-level, shape-ends, taken_by, raw_by, raw_of, raw_before, command_of, Shape}
 use Rattle.rule_commands.specs.declared.Raw.{Raw}

@@ -11,7 +11,7 @@ use Rattle.std.proofs.Math.Option.{Option, none, some}
 use Rattle.std.proofs.Math.Path.{sym, ap, ap₂}
 use native.Mathlib.Omega.{arith}
 use Rattle.rule_conjuncts.specs.Summary.{values_for, met_for, met_table, asked_places, is_atom, atom_places}
-use Rattle.files.specs.LineLaws.{operations_or, side_same, other-line}
+use Rattle.files.proofs.LineLaws.{operations_or, side_same, other-line}
 use Rattle.files.specs.RoleFile.{side_by, same_side}
 use Rattle.files.specs.RuleFile.{RuleCommand, is_operations, Lines, listed, operations_in, values_in, value, operations, link}
 use Rattle.role_record.specs.Places.{place_side, place_attribute, place_of}

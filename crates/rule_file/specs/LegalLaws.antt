@@ -10,7 +10,7 @@ use Rattle.role_record.specs.Record.{Sized, record_with, record_of, attribute_ta
 use Rattle.files.specs.Beside.{Beside, beside_of}
 use Rattle.files.specs.Answer.{Answer, and_then, unless, rules_order, rules_operand, wrong_level, accepted, refused}
 use Rattle.files.specs.Bytes.{read}
-use Rattle.files.specs.BytesLaws.{Carries, unless_carries, then_carries, any-carried, number_positive, read_carries}
+use Rattle.files.proofs.BytesLaws.{Carries, unless_carries, then_carries, any-carried, number_positive, read_carries}
 use Rattle.files.specs.Calls.{read_both}
 use Rattle.files.specs.RoleFile.{read_roles}
 use Rattle.files.specs.RuleFile.{RuleCommand as Line, Lines, Reading, whole, finished, follows, legal, levelled, add_line, obey_rule, rule_format, opened, read_body, read_rules, reshapes, opens, value, operations, link, part, level, ends}
@@ -18,7 +18,7 @@ use Rattle.policy.specs.Policy.{Policy, setting_of, roles_in}
 use Rattle.policy.specs.Rules.{user, resource}
 use Rattle.role_file.specs.SizedLaws.{accepted-sized}
 use Rattle.rule_reading.specs.BothFiles.{nothing_read, both_of}
-use Rattle.rule_reading.specs.RuleStateLaws.{open_lines, start}
+use Rattle.rule_reading.proofs.RuleStateLaws.{open_lines, start}
 use Rattle.rule_satisfaction.specs.Satisfaction.{Legal}
 use Rattle.sets.specs.Tests.{Is, ◌is_in◌}
 use Rattle.sets.specs.TestLaws.{only_out}

@@ -9,7 +9,7 @@ use Rattle.files.specs.Calls.{read_both}
 use Rattle.files.specs.RoleFile.{read_roles}
 use Rattle.files.specs.RuleFile.{Lines, opened, read_body, read_rules}
 use Rattle.grant_grids.specs.Grid.{grid_of}
-use Rattle.grant_grids.specs.GridLaws.{grid_long}
+use Rattle.grant_grids.proofs.GridLaws.{grid_long}
 use Rattle.policy.specs.Policy.{Policy}
 use Rattle.policy.specs.Rules.{Block}
 use Rattle.role_record.specs.Cells.{grid_cells}

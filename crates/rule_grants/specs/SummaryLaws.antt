@@ -14,16 +14,16 @@ use Rattle.rule_conjuncts.specs.Summary.{met_table, asked_places, is_atom, atom_
 use Rattle.grant_links.specs.Linked.{linked_with}
 use Rattle.files.specs.Beside.{beside_of}
 use Rattle.files.specs.Calls.{is_triple}
-use Rattle.files.specs.LineLaws.{operations_or}
+use Rattle.files.proofs.LineLaws.{operations_or}
 use Rattle.files.specs.RuleFile.{RuleCommand, Lines, link_of, operations_in, conjuncts_in, rule_in, legal, reshapes, opens, value, operations, link, part, level, ends}
-use Rattle.grant_grids.specs.LinkLaws.{link_means}
+use Rattle.grant_grids.proofs.LinkLaws.{link_means}
 use Rattle.grant_grids.specs.Links.{links_of}
 use Rattle.role_record.specs.Record.{Sized}
 use Rattle.policy.specs.Policy.{Policy, side_of, setting_of, roles_in}
 use Rattle.policy.specs.Rules.{Cond, attrs_of, holds, grants, at, user, resource, atom}
 use Rattle.rule_grants.specs.RuleRows.{summary_grants}
 use Rattle.rule_satisfaction.specs.Satisfaction.{Legal, asks}
-use Rattle.rule_satisfaction.specs.SatisfactionLaws.{legal-rest, conjuncts_ask, side-bit}
+use Rattle.rule_satisfaction.proofs.SatisfactionLaws.{legal-rest, conjuncts_ask, side-bit}
 use Rattle.sets.specs.ListLaws.{all_append}
 use Rattle.sets.specs.MaskLaws.{bit-out}
 use Rattle.sets.specs.SetLaws.{bit_mask}

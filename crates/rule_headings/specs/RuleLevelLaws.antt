@@ -12,8 +12,8 @@ use Rattle.std.proofs.Math.Path.{◌≡◌, refl, sym, subst}
 use Rattle.files.specs.Answer.{Refusal, Answer, and_then, unless, rules_order, rules_operand, wrong_level, refused, accepted}
 use Rattle.files.specs.Beside.{beside_of}
 use Rattle.files.specs.Bytes.{read_on}
-use Rattle.files.specs.BytesLaws.{read_behind, follow, Carries, unless_carries, then_carries, read_carries}
-use Rattle.files.specs.LevelLineLaws.{told_by, told-kept, told-first, Tells, tells_more, tells-whole}
+use Rattle.files.proofs.BytesLaws.{read_behind, follow, Carries, unless_carries, then_carries, read_carries}
+use Rattle.files.proofs.LevelLineLaws.{told_by, told-kept, told-first, Tells, tells_more, tells-whole}
 use Rattle.files.specs.RuleFile.{RuleCommand, Lines, levels_in, rule_in, Reading, whole, finished, follows, legal, levelled, add_line, obey_rule, ends_file, rule_format, reshapes, opens, value, operations, link, part, level, ends}
 use Rattle.policy.specs.Policy.{Policy, setting_of}
 use Rattle.policy.specs.Rules.{rule_level}

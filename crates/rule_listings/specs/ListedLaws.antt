@@ -19,7 +19,7 @@ use Rattle.rule_listings.specs.Listed.{lead_of, seen_after, again_after, lists_l
 use Rattle.grant_parts.specs.PartTableLaws.{part-role, part-lead, part-shown, no_part}
 use Rattle.grant_parts.specs.Parts.{is_part_in}
 use Rattle.role_record.specs.RecordLaws.{table_get, table_ext, table_none, table_mark}
-use Rattle.policy.specs.ClassLaws.{part_facts, part_in}
+use Rattle.policy.proofs.ClassLaws.{part_facts, part_in}
 use Rattle.policy.specs.Mined.{part_count, part_at}
 use Rattle.policy.specs.Policy.{Policy, setting_of, roles_in}
 use Rattle.policy.specs.Roles.{Part, is_part, parts, class_of}

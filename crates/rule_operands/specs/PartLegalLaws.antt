@@ -15,12 +15,12 @@ use Rattle.files.specs.RuleFile.{legal, part}
 use Rattle.rule_legal.specs.Operands.{part_legal}
 use Rattle.grant_parts.specs.PartTableLaws.{class_shown}
 use Rattle.grant_parts.specs.Parts.{class_row}
-use Rattle.policy.specs.ClassLaws.{PartFacts, part_facts}
-use Rattle.policy.specs.PartLaws.{alike-out, alike_in, parts_in}
+use Rattle.policy.proofs.ClassLaws.{PartFacts, part_facts}
+use Rattle.policy.proofs.PartLaws.{alike-out, alike_in, parts_in}
 use Rattle.policy.specs.Policy.{Policy, held, side_of, setting_of, roles_in}
 use Rattle.policy.specs.Roles.{Part, alike, parts, class_of}
 use Rattle.policy.specs.Rules.{user, resource}
-use Rattle.policy.specs.WrittenLaws.{mask_some}
+use Rattle.policy.proofs.WrittenLaws.{mask_some}
 use Rattle.sets.specs.Lowest.{lowest_from}
 use Rattle.sets.specs.LowestLaws.{lowest_from-misses, lowest_from-some}
 use Rattle.sets.specs.MaskLaws.{mask_none, least-most}

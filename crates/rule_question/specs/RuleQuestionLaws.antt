@@ -9,13 +9,13 @@ use Rattle.std.proofs.Math.Path.{refl, ap}
 use Rattle.std.proofs.Common.{◌∙◌}
 use Rattle.role_record.specs.Record.{Sized, record_with, record_of}
 use Rattle.files.specs.Answer.{number_of, Answer, told, unless, and_then, beyond, refused, accepted}
-use Rattle.files.specs.BytesLaws.{Carries, number_positive}
+use Rattle.files.proofs.BytesLaws.{Carries, number_positive}
 use Rattle.files.specs.Calls.{yes_no, is_triple, rules_grant, read_both, rule_question}
 use Rattle.files.specs.RuleFile.{Lines}
 use Rattle.grant_grids.specs.Grid.{grid_of, in_grid}
 use Rattle.policy.specs.Policy.{Policy, side_of, setting_of}
 use Rattle.policy.specs.Rules.{user, resource}
-use Rattle.role_question.specs.RoleQuestionLaws.{yes-no}
+use Rattle.role_question.proofs.RoleQuestionLaws.{yes-no}
 use Rattle.role_question.specs.Reply.{reply_numbers}
 use Rattle.rule_reading.specs.BothFiles.{nothing_read, both_of, GridShown}
 use Rattle.rule_file.specs.LegalLaws.{Sound, both-sound}

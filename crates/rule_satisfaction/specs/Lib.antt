@@ -1,3 +1,1 @@
 pub mod Satisfaction
-pub mod HalvesLaws
-pub mod SatisfactionLaws

@@ -9,11 +9,11 @@ use mathlib.Core.List.{List}
 use Rattle.std.proofs.Math.Path.{refl, ap}
 use Rattle.std.proofs.Common.{sym, ◌∙◌, arith}
 use Rattle.files.specs.Answer.{Refusal, number_of, Answer, unless, and_then, too_long, cut_off, unknown_command, out_of_place, beyond, wrong_kind, own_senior, small_scratch, short_output, rules_cut_off, rules_unknown, rules_order, rules_operand, no_such_rule, zero_seed, wrong_shape, wrong_table, wrong_level, wrong_window, ragged_log, bad_cuts, refused, accepted}
-use Rattle.files.specs.BytesLaws.{number_positive}
+use Rattle.files.proofs.BytesLaws.{number_positive}
 use Rattle.files.specs.Calls.{read_both, show_answer, shown_place, shown_byte}
 use Rattle.files.specs.RuleFile.{Lines}
 use Rattle.files.specs.RulePart.{rule_start}
-use Rattle.files.specs.RulePartLaws.{starts-rise}
+use Rattle.files.proofs.RulePartLaws.{starts-rise}
 use Rattle.policy.specs.Policy.{Policy}
 use Rattle.rule_reading.specs.BothFiles.{nothing_read, both_of}
 use Rattle.rule_reading.specs.declared.BothFiles.{BothFiles}

@@ -7,7 +7,7 @@ use Rattle.files.specs.Calls.{is_triple, rules_grant}
 use Rattle.grant_blocks.specs.RowsLaws.{triple-is}
 use Rattle.files.specs.RuleFile.{Lines}
 use Rattle.grant_grids.specs.Grid.{grid_of, in_grid}
-use Rattle.grant_grids.specs.GridLaws.{in-grid}
+use Rattle.grant_grids.proofs.GridLaws.{in-grid}
 use Rattle.policy.specs.Policy.{Policy, side_of, setting_of}
 use Rattle.policy.specs.Rules.{Triple, user, resource}
 use Rattle.rule_steps.specs.Shows.{granted_within}

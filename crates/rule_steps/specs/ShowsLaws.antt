@@ -20,10 +20,10 @@ use Rattle.rule_conjuncts.specs.Summary.{values_for, met_table, asked_places, at
 use Rattle.files.specs.Beside.{beside_of}
 use Rattle.files.specs.Calls.{is_triple, rules_grant, parts_grant, first_stray_rule}
 use Rattle.files.specs.RoleFile.{side_by}
-use Rattle.files.specs.LineLaws.{operations_or}
+use Rattle.files.proofs.LineLaws.{operations_or}
 use Rattle.files.specs.RuleFile.{RuleCommand as Line, Lines, is_operations, is_part_line, is_level, operations_in, values_in, rule_in, whole, no_second, follows, legal, levelled, own_value, reshapes, opens, value, operations, link, part, level, ends}
 use Rattle.grant_grids.specs.Grid.{grid_of}
-use Rattle.grant_grids.specs.GridLaws.{grid_same}
+use Rattle.grant_grids.proofs.GridLaws.{grid_same}
 use Rattle.grant_grids.specs.Updates.{added_part}
 use Rattle.rule_listings.specs.Listed.{seen_after, again_after, seen_table, again_table}
 use Rattle.rule_listings.specs.ListedLaws.{other-line, empty-rule, no-rules, list_means}
@@ -32,8 +32,8 @@ use Rattle.rule_meeting.specs.MeetingMeansLaws.{meeting_means}
 use Rattle.grant_blocks.specs.Rows.{cell_of, added_rows, same_rows}
 use Rattle.grant_blocks.specs.RowsLaws.{rows_added, rows_same}
 use Rattle.grant_blocks.specs.PartGridLaws.{grid_kept, none-listed, part-added, parts_within}
-use Rattle.policy.specs.ClassLaws.{part_facts}
-use Rattle.policy.specs.OrderLaws.{Numbered}
+use Rattle.policy.proofs.ClassLaws.{part_facts}
+use Rattle.policy.proofs.OrderLaws.{Numbered}
 use Rattle.policy.specs.Policy.{Policy, kind_of, is_set_at, side_of, setting_of, roles_in}
 use Rattle.policy.specs.Roles.{parts, class_of}
 use Rattle.policy.specs.Rules.{own, Which, by, Block, grants, rule_level, same_block, user, resource}
@@ -43,7 +43,7 @@ use Rattle.rule_grants.specs.RuleRows.{rule_rows}
 use Rattle.rule_grants.specs.RuleRowsLaws.{rows_low, rows_grant}
 use Rattle.rule_satisfaction.specs.Satisfaction.{Legal}
 use Rattle.rule_grants.specs.SummaryLaws.{summary_means}
-use Rattle.rule_levels.specs.LevelLaws.{lines-level}
+use Rattle.rule_levels.proofs.LevelLaws.{lines-level}
 use Rattle.rule_levels.specs.Levels.{level_for, lists_own, lines_level}
 use Rattle.rule_notes.specs.Tally.{begun_with, counted_with, open_rows, closed_with, may_close, is_second, follows_with, levelled_with}
 use Rattle.rule_notes.specs.LineSteps.{place_by, pair_number, atom_number, tally_with, noted_with, met_more, met_after, PartWithin, listed_after, seen_by, again_by}

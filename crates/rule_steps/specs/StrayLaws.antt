@@ -8,7 +8,7 @@ use Rattle.std.proofs.Math.Bool.{cond}
 use mathlib.Core.List.{List, [], ◌∷◌, ◌++◌}
 use Rattle.std.proofs.Math.Option.{Option, none, some}
 use Rattle.std.proofs.Math.Path.{ap, ap₂}
-use Rattle.files.specs.CallLaws.{first_ext}
+use Rattle.files.proofs.CallLaws.{first_ext}
 use Rattle.files.specs.Calls.{first, rules_grant, parts_grant, first_stray_rule}
 use Rattle.files.specs.RuleFile.{Lines, rule_in}
 use Rattle.policy.specs.Roles.{Roles}

@@ -11,7 +11,7 @@ use Rattle.std.proofs.Math.Path.{refl, sym, subst}
 use Rattle.rule_words.specs.Telling.{AcceptedRules}
 use Rattle.files.specs.Beside.{beside_of}
 use Rattle.files.specs.Answer.{Answer, and_then, unless, rules_order, rules_operand, wrong_level, refused, accepted}
-use Rattle.files.specs.BytesLaws.{number_positive}
+use Rattle.files.proofs.BytesLaws.{number_positive}
 use Rattle.files.specs.Calls.{read_both}
 use Rattle.files.specs.RoleFile.{read_roles}
 use Rattle.files.specs.RuleFile.{RuleCommand, Lines, Reading, whole, finished, follows, legal, levelled, add_line, obey_rule, ends_file, read_body, read_rules, opens, ends}

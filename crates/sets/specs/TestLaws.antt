@@ -66,7 +66,7 @@ iff-out false true h = h
 iff-out false false h = refl
 
 module _ {ℓ} {A : Type ℓ} where
-  pub all-out : (f : A → Bool) {l : List A} → Is (all f l) → {a : A} → a is_in l → Is (f a)
+  pub all-out : (f : A → Bool) {a : A} {l : List A} → Is (all f l) → a is_in l → Is (f a)
   all-out f h (Memᴰ.head {x = x} {xs = xs} e) = rw e (and_l (f x) (all f xs) h)
   all-out f h (Memᴰ.tail {x = x} {xs = xs} m) = all-out f (and_r (f x) (all f xs) h) m
 
@@ -74,7 +74,7 @@ module _ {ℓ} {A : Type ℓ} where
   all_in f [] h = refl
   all_in f (x ∷ xs) h = and_in (h x (Memᴰ.head refl)) (all_in f xs (λ a m. h a (Memᴰ.tail m)))
 
-  pub any_in : (f : A → Bool) {l : List A} {a : A} → a is_in l → Is (f a) → Is (any f l)
+  pub any_in : (f : A → Bool) {a : A} {l : List A} → a is_in l → Is (f a) → Is (any f l)
   any_in f (Memᴰ.head {x = x} {xs = xs} e) h = or_l (any f xs) (rw e at h)
   any_in f (Memᴰ.tail {x = x} m) h = or_r (f x) (any_in f m h)
 
@@ -86,7 +86,7 @@ module _ {ℓ} {A : Type ℓ} where
       go (inl p) r = (x, Memᴰ.head refl, p)
       go (inr q) r = let t = r q in (t.0, Memᴰ.tail t.1, t.2)
 
-  pub keep_in : (f : A → Bool) {l : List A} {a : A} → a is_in l → Is (f a) → a is_in keep f l
+  pub keep_in : (f : A → Bool) {a : A} {l : List A} → a is_in l → Is (f a) → a is_in keep f l
   keep_in f (Memᴰ.head {x = x} {xs = xs} e) h = rw (rw e at h) (Memᴰ.head e)
   keep_in f (Memᴰ.tail {x = x} {xs = xs} m) h = go (f x) (keep_in f m h)
     where
@@ -110,7 +110,7 @@ module _ {ℓ} {A : Type ℓ} where
       go false e r k = down r k
 
 module _ {ℓ κ} {A : Type ℓ} {B : Type κ} where
-  pub each_in : (f : A → List B) {l : List A} {a : A} {b : B} → a is_in l → b is_in f a → b is_in each f l
+  pub each_in : (f : A → List B) {a : A} {b : B} {l : List A} → a is_in l → b is_in f a → b is_in each f l
   each_in f {b = b} (Memᴰ.head {x = x} {xs = xs} e) h = Memᴰ.append_left (each f xs) (rw e at h)
   each_in f (Memᴰ.tail {x = x} {xs = xs} m) h = Memᴰ.append_right (f x) (each_in f m h)
 
@@ -152,7 +152,7 @@ pub elem_out : (a : ℕ) (l : List ℕ) → Is (elem a l) → a is_in l
 elem_out a l h = let t = any_out (eqb a) l h in rw (eqb-true a t.0 t.2) t.1
 
 module _ {ℓ κ} {A : Type ℓ} {B : Type κ} where
-  pub map_in : (f : A → B) {l : List A} {a : A} → a is_in l → f a is_in map f l
+  pub map_in : (f : A → B) {a : A} {l : List A} → a is_in l → f a is_in map f l
   map_in f (Memᴰ.head e) = Memᴰ.head (ap f e)
   map_in f (Memᴰ.tail m) = Memᴰ.tail (map_in f m)
 

@@ -1,4 +1,2 @@
 pub mod MinedNumbers
 pub mod Stages
-pub mod MineLaws
-pub mod AssemblyLaws

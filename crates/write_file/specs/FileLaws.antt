@@ -26,7 +26,7 @@ use Rattle.write_cost.specs.CostSums.{rule_sums, no_sums, all_sums, weighed}
 use Rattle.write_cost.specs.declared.Sums.{Sums}
 use Rattle.write_theory.specs.RuleLists.{rule_sums_in}
 use Rattle.write_theory.specs.RuleTable.{rule_bytes_in}
-use Rattle.write_theory.specs.WriterLaws.{written-bytes, written_sums}
+use Rattle.write_theory.proofs.WriterLaws.{written-bytes, written_sums}
 use Rattle.mine_distinct.specs.InsideValues.{distinct_in, having_in, inside_in}
 use Rattle.sets.specs.ListLaws.{each_map, sum_ext}
 use Rattle.sets.specs.Tests.{Is, keep, each, up_to, sum}
@@ -34,7 +34,7 @@ use Rattle.mine_groups.specs.MergedLaws.{heads-each, heads-sum, heads-count}
 use Rattle.mine_parts.specs.Layout.{words_at, is_head_at}
 use Rattle.mine_groups.specs.Scratch.{blocks_of, Merged, all_parts, Stands}
 use Rattle.mine_thin.specs.KeptPlacesLaws.{kept_means}
-use Rattle.mine_theory.specs.Words.FlagLaws.{sum_if}
+use Rattle.mine_theory.proofs.Words.FlagLaws.{sum_if}
 use Rattle.mine_theory.specs.Words.Flags.{kept_places}
 use Rattle.write_measure.specs.declared.Measured.{Measured}
 

@@ -1,3 +1,1 @@
 pub mod Writing
-pub mod WritingLaws
-pub mod ValueLineLaws

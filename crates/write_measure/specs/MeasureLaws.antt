@@ -8,9 +8,9 @@ use Rattle.std.proofs.Math.Path.{◌≡◌, refl, sym, ap, ap₂}
 use Rattle.std.proofs.Common.{◌∙◌, subst}
 use native.Mathlib.Omega.{arith}
 use Rattle.write_measure.specs.FileTable.{rule_at, sums_at, file_bytes, measured_of, sums_with, rule_with}
-use Rattle.write_theory.specs.SectionLaws.{bytes_most, runs_most}
+use Rattle.write_theory.proofs.SectionLaws.{bytes_most, runs_most}
 use Rattle.write_lines.specs.Writing.{wrote}
-use Rattle.write_lines.specs.WritingLaws.{length-wrote, Runs, runs_end}
+use Rattle.write_lines.proofs.WritingLaws.{length-wrote, Runs, runs_end}
 use Rattle.mine_groups.specs.Scratch.{all_parts}
 use Rattle.sets.specs.ListLaws.{each_more, keep-more}
 use Rattle.sets.specs.Tests.{keep, each, only, up_to}
@@ -21,7 +21,7 @@ use Rattle.write_cost.specs.CostSums.{no_sums, added, all_sums, AtMost}
 use Rattle.write_cost.specs.declared.Sums.{Sums}
 use Rattle.write_theory.specs.RuleLists.{rule_sums_in}
 use Rattle.write_theory.specs.RuleTable.{rule_bytes_in}
-use Rattle.write_theory.specs.ListingLaws.{sums_most}
+use Rattle.write_theory.proofs.ListingLaws.{sums_most}
 
 -- the last byte behind what was written
 pub end-written : (e o : List ℕ) (x : ℕ) → length (e ++ (x ∷ [])) ≤ length o → set (wrote e o) (length e) x ≡ wrote (e ++ (x ∷ [])) o

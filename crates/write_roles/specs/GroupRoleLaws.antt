@@ -14,7 +14,7 @@ use Rattle.sets.specs.Sets.{bit, mask_of}
 use Rattle.sets.specs.SetLaws.{bit_mask}
 use Rattle.sets.specs.Tests.{any, up_to}
 use Rattle.sets.specs.TestLaws.{and_in, never, test, fails, any_in, from_out, up_to_in}
-use Rattle.write_theory.specs.ListingLaws.{classes_none}
+use Rattle.write_theory.proofs.ListingLaws.{classes_none}
 use Rattle.write_theory.specs.RuleLists.{in_group, classes_at}
 use Rattle.write_roles.specs.GroupRoles.{roles_before, roles_for}
 

@@ -8,7 +8,7 @@ use mathlib.Core.List.Memᴰ
 use Rattle.std.proofs.Math.Path.{ap}
 use Rattle.mine_groups.specs.Scratch.{Stands}
 use Rattle.write_lines.specs.Writing.{wrote}
-use Rattle.write_lines.specs.WritingLaws.{tail_of, back_in, Writing, begin, room_for, place-within, write_on, all-written}
+use Rattle.write_lines.proofs.WritingLaws.{tail_of, back_in, Writing, begin, room_for, place-within, write_on, all-written}
 use Rattle.sets.specs.MemberLaws.{least_in, bit-less, less-less}
 use Rattle.mine_theory.specs.Lines.RuleLines.{link_bytes, part_bytes, atom_set}
 use Rattle.sets.specs.Lowest.{lowest_from}

@@ -3,9 +3,9 @@
 use Rattle.std.specs.Prelude.{ℕ, ◌+◌, ◌≤◌, length, List, [], ◌∷◌, ◌++◌, ◌≡◌}
 use Rattle.std.proofs.Common.{length-append, append-nil, sym, ap, subst, arith}
 use Rattle.write_lines.specs.Writing.{wrote}
-use Rattle.write_lines.specs.WritingLaws.{tail_of, back_in, Writing, write_on, all-written}
+use Rattle.write_lines.proofs.WritingLaws.{tail_of, back_in, Writing, write_on, all-written}
 use Rattle.write_shape.specs.ShapedFile.{shaped_bytes}
-use Rattle.write_theory.specs.SectionLaws.{opened}
+use Rattle.write_theory.proofs.SectionLaws.{opened}
 
 module _ (shape rules o out : List ℕ) (six : length shape ≡ 6) (h : 7 + length rules ≤ length o) (w : out ≡ wrote (0x20 ∷ shape) o) where
   -- the 20 is written, the rules are left

@@ -16,7 +16,7 @@ use Rattle.sets.specs.MaskLaws.{size-most}
 use Rattle.sets.specs.Sets.{bit, size}
 use Rattle.sets.specs.Tests.{Is, keep, only, up_to, sum}
 use Rattle.sets.specs.TestLaws.{never}
-use Rattle.write_theory.specs.ListingLaws.{place-members, listed-most, cost-most}
+use Rattle.write_theory.proofs.ListingLaws.{place-members, listed-most, cost-most}
 use Rattle.role_record.specs.Places.{set_place}
 use Rattle.write_theory.specs.RuleLists.{side_place, listed_at, place_cost_in, side_cost_in}
 use Rattle.write_sizes.specs.Sizes.{lines_long, lines_cost, place_long_in, side_long_in}

@@ -11,7 +11,7 @@ use Rattle.std.proofs.Math.Path.{ap, ap₂}
 use Rattle.sets.specs.ListLaws.{length-each, sum_ext, sum-each, sum-most, sum_both}
 use Rattle.sets.specs.MemberLaws.{bit-less}
 use Rattle.policy.specs.Rules.{Which, by, user, resource}
-use Rattle.mine_theory.specs.Lines.RuleBytesLaws.{atom-bytes, atom-length, value-length}
+use Rattle.mine_theory.proofs.Lines.RuleBytesLaws.{atom-bytes, atom-length, value-length}
 use Rattle.mine_theory.specs.Lines.RuleLines.{value_bytes, part_bytes, atom_set, kind_place}
 use Rattle.mine_groups.specs.Scratch.{Stands}
 use Rattle.mine_parts.specs.Layout.{most_parts, operations_at, rest_at, level_in}
@@ -22,7 +22,7 @@ use Rattle.sets.specs.Tests.{Is, iff, each, from, up_to, sum}
 use Rattle.sets.specs.TestLaws.{and_l, test, from_out, up_to-out}
 use Rattle.role_record.specs.Cells.{most_operations}
 use Rattle.role_record.specs.Places.{place_attribute, set_place}
-use Rattle.write_theory.specs.ListingLaws.{classes_most}
+use Rattle.write_theory.proofs.ListingLaws.{classes_most}
 use Rattle.write_theory.specs.RuleLists.{listed_at, classes_at}
 use Rattle.write_sizes.specs.Sizes.{lines_long, place_long_in, side_long_in}
 use Rattle.write_theory.specs.RuleTable.{kept_as, place_bytes_in, kind_bytes_in, atom_bytes_at, atom_bytes_in, role_bytes_in, part_bytes_in, level_bytes_in, rule_bytes_in}

@@ -1,0 +1,17 @@
+pub mod AnswerLaws
+pub mod BytesLaws
+pub mod CallLaws
+pub mod CircleCallLaws
+pub mod CutLaws
+pub mod DemandLaws
+pub mod DenialLaws
+pub mod LevelLineLaws
+pub mod LevelReadLaws
+pub mod LineLaws
+pub mod LoadLaws
+pub mod OrdinaryLaws
+pub mod ReadBackLaws
+pub mod RulePartLaws
+pub mod SoundLaws
+pub mod WindowLaws
+pub mod WriteLaws

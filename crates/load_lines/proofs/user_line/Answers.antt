@@ -1,0 +1,16 @@
+-- The line is put where the draw says so. Assumes nothing.
+use Prim.Native.Nat.{◌%◌}
+use borrow.Author.Rules.{rules}
+use mathlib.Core.List.{◌∷◌}
+use Rattle.load_lines.specs.DrawnLineLaws.{put_drawn, put_not_drawn}
+use Rattle.load_lines.proofs.user_line.Goals as goal
+
+pub returns-then-x-eq0 : goal.returns-then-x-eq0
+returns-then-x-eq0 c =
+    let a = c.args in
+    put_drawn (a.x % 4) (0x05 ∷ a.role ∷ a.user ∷ []) a.out.now _ a.at _ (search rules) c.pair_line.ensures
+
+pub returns : goal.returns
+returns c =
+    let a = c.args in
+    put_not_drawn (a.x % 4) (0x05 ∷ a.role ∷ a.user ∷ []) a.out.now a.at (search rules)

@@ -1,0 +1,3 @@
+pub mod PartLinesLaws
+pub mod RuleBytesLaws
+pub mod RuleLinesLaws

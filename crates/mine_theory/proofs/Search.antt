@@ -1,0 +1,2 @@
+pub mod FrontierLaws
+pub mod WithinLaws

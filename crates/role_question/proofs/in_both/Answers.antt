@@ -1,0 +1,8 @@
+use mathlib.Core.Path.{sym, ◌∙◌}
+use Rattle.role_question.proofs.in_both.Goals as goal
+
+pub returns-then-has : goal.returns-then-has
+returns-then-has c = rw (sym c.has.ensures ∙ c.if-has.true) c.has-then-has.ensures
+
+pub returns : goal.returns
+returns c = rw (sym c.has.ensures ∙ c.if-has.false)

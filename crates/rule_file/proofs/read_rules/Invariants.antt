@@ -1,0 +1,14 @@
+-- Assumes nothing.
+use Prim.Native.Nat.{◌-◌}
+use borrow.Author.Rules.{rules}
+use lib.ListN.{length}
+use Rattle.policy.specs.Policy.{Policy}
+use Rattle.rule_reading.proofs.RuleStateLaws.{State}
+use Rattle.rule_reading.specs.Turns.{Tabled}
+use Rattle.rule_file.proofs.read_rules.Given as goal
+
+abbrev pub invariant-loop-n : goal.invariant-loop-n
+invariant-loop-n l = (F : Policy) → Tabled F l.f l.sizes l.links → State F l.rules l.k l.met l.listed l.grid l.seen l.again l.at
+
+abbrev pub decreases-loop-n : goal.decreases-loop-n
+decreases-loop-n l = length l.rules - l.at

@@ -1,0 +1,3 @@
+pub mod ReadsLaws
+pub mod RuleStateLaws
+pub mod TurnLaws

@@ -1,0 +1,8 @@
+-- Assumes nothing.
+use mathlib.Core.Path.{refl}
+use Rattle.sets.specs.Sets.{subset}
+use Rattle.sets.proofs.within.Goals as goal
+
+pub returns : goal.returns
+unfolding subset
+returns c = refl

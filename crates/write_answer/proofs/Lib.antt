@@ -1,0 +1,2 @@
+pub mod AssemblyLaws
+pub mod MineLaws

@@ -1,0 +1,2 @@
+pub mod ValueLineLaws
+pub mod WritingLaws
