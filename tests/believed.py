@@ -7,7 +7,8 @@ usage: believed.py [ROOT]                prints them for each of these and for a
        believed.py --write-table [ROOT]  puts them there
 
 Checked, with a line `file:line: what` on standard error for each fault, and exit status 1 if there is one:
- - What any contract or any definition in a definitions file cites, transitively, stands in no file named ...Laws.
+ - What any contract or any definition in a definitions file cites, transitively, stands in no file named ...Laws, in `specs/`
+   or in `proofs/`.
  - A definitions file, which is any other file of `specs/`, holds no law and imports nothing from a file of laws.
  - No symbol of the library has another meaning in a contract or a definition (`check_meanings`).
  - The tables in docs/DESIGN.md are those that this script prints.
@@ -106,7 +107,7 @@ def is_laws(path):
 
 
 class Spec:
-    """A file of a crate's `specs/`."""
+    """A file of a crate's `specs/`, or one of laws of its `proofs/`."""
 
     def __init__(self, tree, crate, path):
         self.tree = tree
@@ -201,7 +202,7 @@ class Tree:
         self.faults = set()
         rows = [row for row in self.text("crates.txt").split("\n") if ":" in row.partition("#")[0]]
         self.crates = [row.split(":")[0].split()[0] for row in rows]
-        self.specs = self.files("specs", ".antt", Spec)
+        self.specs = {**self.files("specs", ".antt", Spec), **self.files("proofs", "Laws.antt", Spec)}
         self.sources = self.files("src", ".rt", Source)
 
     def text(self, path):

@@ -231,6 +231,16 @@ class MadeUp(unittest.TestCase):
         self.put(NUMBERS, "use Rattle.std", "use Rattle.base.specs.ListLaws.{none-longer}\nuse Rattle.std")
         self.faults((NUMBERS, "none-longer", "imports none-longer from %s" % LAWS))
 
+    def test_import_from_proofs(self):
+        self.files["crates/base/proofs/MoreLaws.antt"] = self.files[LAWS]
+        write(self.root, self.files)
+        self.put(NUMBERS, "use Rattle.std", "use Rattle.base.proofs.MoreLaws.{one}\nuse Rattle.std")
+        self.put(NUMBERS, "number_of (accepted n) = 0", "number_of (accepted n) = one")
+        self.faults(
+            (NUMBERS, "{one}", "imports one from crates/base/proofs/MoreLaws.antt"),
+            (NUMBERS, "= one", "number_of cites one, which stands in crates/base/proofs/MoreLaws.antt:5"),
+        )
+
     def test_module_names_only(self):
         self.put("crates/base/specs/Lib.antt", "pub mod ListLaws", "pub mod ListLaws\nabbrev pub f : Type 0\nf = Unit")
         self.faults(("crates/base/specs/Lib.antt", "pub mod Lists", "holds more than the names of modules"))
@@ -405,9 +415,8 @@ def with_laws(tree):
 
 
 def imported(path, name):
-    """The path that brings a name of a file of `specs/`."""
-    crate, module = path[len("crates/") : -len(".antt")].split("/specs/")
-    return "Rattle.%s.specs.%s.{%s}" % (crate, module.replace("/", "."), name)
+    """The path that brings a name of a file of `specs/` or `proofs/`."""
+    return "Rattle.%s.{%s}" % (path[len("crates/") : -len(".antt")].replace("/", "."), name)
 
 
 class Project(unittest.TestCase):
