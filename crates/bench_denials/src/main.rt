@@ -12,6 +12,7 @@ ghost use Rattle.log_windows.specs.Counting.{denial_numbers};
 ghost use Rattle.bench_denials.specs.DenialChecksum.{weight_of, sample_of, total};
 
 use log_windows::Denials;
+use std::io;
 
 // What the numbers of the answer come to.
 fn weight(denials: Denials) -> u64
@@ -65,19 +66,16 @@ fn pair(s: &[u8], at: usize) -> usize
 }
 
 // Prints the checksum of what stands behind the numbers in front.
-fn print_checksum(s: &[u8]) {
+fn print_checksum(rt: &impl Print, s: &[u8]) -> io::Result<()> {
     let turns = pair(s, 0);
     let rules = 7 + pair(s, 2);
     let log = rules + pair(s, 4);
     if s.len() < log {
-        return;
+        return Ok(());
     }
     let window = file_bytes::byte_at(s, 6);
-    io::print_decimal(
-        1,
-        checksum(&s[7..rules], &s[rules..log], &s[log..], window, turns),
-    );
-    io::write_all(1, b"\n");
+    let sum = checksum(&s[7..rules], &s[rules..log], &s[log..], window, turns);
+    println!(rt; "{sum}")
 }
 
 // The two files and the log may have this much together.
@@ -87,8 +85,8 @@ fn input_buffer() -> [u8; 3145728]
     [0; 3145728]
 }
 
-fn main() {
+fn main(rt: HostRuntime) -> io::Result<()> {
     let mut input = input_buffer();
-    let n = io::read_full(0, &mut input);
-    print_checksum(&input[..n]);
+    let n = programs::read_open(&mut rt.stdin(), &mut input)?;
+    print_checksum(&rt, &input[..n])
 }

@@ -10,6 +10,7 @@ ghost use Rattle.rule_judge.specs.Judgement.{judgement_numbers};
 ghost use Rattle.bench_judge.specs.JudgeChecksum.{weight_of, sample_of, total};
 
 use rule_judge::Judgement;
+use std::io;
 
 // The verdict's number and values, added up.
 fn weight(judgement: Judgement) -> u64
@@ -46,21 +47,21 @@ fn checksum(file: &[u8], rules: &[u8], turns: usize) -> u64
 }
 
 // Prints the checksum of what stands behind the numbers in front.
-fn print_checksum(s: &[u8]) {
+fn print_checksum(rt: &impl Print, s: &[u8]) -> io::Result<()> {
     let turns = file_bytes::byte_at(s, 0) + 256 * file_bytes::byte_at(s, 1);
     let low = file_bytes::byte_at(s, 2);
     let high = file_bytes::byte_at(s, 3);
     let end = 4 + low + 256 * high;
     if s.len() < end {
-        return;
+        return Ok(());
     }
-    io::print_decimal(1, checksum(&s[4..end], &s[end..], turns));
-    io::write_all(1, b"\n");
+    let sum = checksum(&s[4..end], &s[end..], turns);
+    println!(rt; "{sum}")
 }
 
-fn main() {
+fn main(rt: HostRuntime) -> io::Result<()> {
     // the two files may have this much together
     let mut input = [0u8; 262144];
-    let n = io::read_full(0, &mut input);
-    print_checksum(&input[..n]);
+    let n = programs::read_open(&mut rt.stdin(), &mut input)?;
+    print_checksum(&rt, &input[..n])
 }

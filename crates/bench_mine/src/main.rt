@@ -11,6 +11,7 @@ ghost use Rattle.policy.specs.Cost.{four_ones};
 ghost use Rattle.write_answer.specs.MinedNumbers.{mined_numbers};
 ghost use Rattle.bench_mine.specs.MineChecksum.{weight_of, sample_of, memory_after, total};
 
+use std::io;
 use write_answer::Mined;
 
 // The length, the counts and the cost added up, or the number of the refusal.
@@ -70,24 +71,21 @@ fn checksum(file: &[u8], cuts: &[u8], scratch: &mut [u64], out: &mut [u8], turns
 }
 
 // Prints the checksum of the file that stands behind the numbers in front.
-fn print_checksum(s: &[u8]) {
+fn print_checksum(rt: &impl Print, s: &[u8]) -> io::Result<()> {
     let turns = file_bytes::byte_at(s, 0) + 256 * file_bytes::byte_at(s, 1);
     let start = 3 + file_bytes::byte_at(s, 2);
     if s.len() < start {
-        return;
+        return Ok(());
     }
     let mut scratch = [0u64; mining::SCRATCH];
     // more than the longest rule file of bench/mine
     let mut out = [0u8; 524288];
-    io::print_decimal(
-        1,
-        checksum(&s[start..], &s[3..start], &mut scratch, &mut out, turns),
-    );
-    io::write_all(1, b"\n");
+    let sum = checksum(&s[start..], &s[3..start], &mut scratch, &mut out, turns);
+    println!(rt; "{sum}")
 }
 
-fn main() {
+fn main(rt: HostRuntime) -> io::Result<()> {
     let mut input = [0u8; 65600];
-    let n = io::read_full(0, &mut input);
-    print_checksum(&input[..n]);
+    let n = programs::read_open(&mut rt.stdin(), &mut input)?;
+    print_checksum(&rt, &input[..n])
 }

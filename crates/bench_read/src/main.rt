@@ -9,6 +9,7 @@ ghost use Rattle.role_file.specs.Reading.{loaded_of};
 ghost use Rattle.bench_read.specs.ReadChecksum.{sample_of, total};
 
 use role_record::RoleFile;
+use std::io;
 
 const VALUES: usize = RoleFile::SIDES * RoleFile::ATTRIBUTES * RoleFile::MEMBERS;
 
@@ -40,12 +41,12 @@ fn checksum(s: &[u8], turns: usize) -> u64
     sum
 }
 
-fn main() {
+fn main(rt: HostRuntime) -> io::Result<()> {
     let mut head = [0u8; 2];
-    io::read_full(0, &mut head);
+    programs::read_open(&mut rt.stdin(), &mut head)?;
     let turns = file_bytes::byte_at(&head, 0) + 256 * file_bytes::byte_at(&head, 1);
-    let mut file = io::large_buffer();
-    let n = io::read_full(0, &mut file);
-    io::print_decimal(1, checksum(&file[..n], turns));
-    io::write_all(1, b"\n");
+    let mut file = programs::roles_buffer();
+    let n = programs::read_open(&mut rt.stdin(), &mut file)?;
+    let sum = checksum(&file[..n], turns);
+    println!(rt; "{sum}")
 }

@@ -6,6 +6,7 @@
 
 use right_edits::Edited;
 use role_record::{Grid, RoleFile};
+use std::io;
 
 const WORDS: usize = right_answers::WORDS;
 
@@ -78,13 +79,12 @@ fn checksum(what: usize, file: &[u8], turns: usize) -> u64 {
     look_often(f, turns)
 }
 
-fn main() {
+fn main(rt: HostRuntime) -> io::Result<()> {
     let mut head = [0u8; 3];
-    io::read_full(0, &mut head);
+    programs::read_open(&mut rt.stdin(), &mut head)?;
     let turns = file_bytes::byte_at(&head, 0) + 256 * file_bytes::byte_at(&head, 1);
-    let mut file = io::large_buffer();
-    let n = io::read_full(0, &mut file);
+    let mut file = programs::roles_buffer();
+    let n = programs::read_open(&mut rt.stdin(), &mut file)?;
     let sum = checksum(file_bytes::byte_at(&head, 2), &file[..n], turns);
-    io::print_decimal(1, sum);
-    io::write_all(1, b"\n");
+    println!(rt; "{sum}")
 }

@@ -8,14 +8,15 @@ ghost use Rattle.std.specs.Prelude.{◌<◌};
 use programs::{say, say_count};
 use role_circle::Circled;
 use role_record::RoleFile;
+use std::io;
 
 // The roles, from the lowest on.
-fn say_roles(roles: &[u8], n: usize) -> bool {
-    let mut printed = say(true, b"circle");
+fn say_roles(rt: &impl Print, roles: &[u8], n: usize) -> io::Result<()> {
+    say(rt, b"circle")?;
     for at in 0..n {
-        printed = say_count(printed, b" ", file_bytes::byte_at(roles, at));
+        say_count(rt, b" ", file_bytes::byte_at(roles, at))?;
     }
-    printed
+    Ok(())
 }
 
 // The role behind the one at a place: behind the last stands the first.
@@ -29,56 +30,55 @@ fn senior(roles: &[u8], n: usize, at: usize) -> usize
 }
 
 // One line of seniority.
-fn say_line(printed: bool, at: usize, junior: usize, senior: usize) -> bool {
+fn say_line(rt: &impl Print, at: usize, junior: usize, senior: usize) -> io::Result<()> {
     if at == 0 {
-        let named = say_count(printed, b": role ", junior);
-        return say_count(named, b" is junior to ", senior);
+        say_count(rt, b": role ", junior)?;
+        return say_count(rt, b" is junior to ", senior);
     }
-    let named = say_count(printed, b", ", junior);
-    say_count(named, b" to ", senior)
+    say_count(rt, b", ", junior)?;
+    say_count(rt, b" to ", senior)
 }
 
 // The lines that make the circle.
-fn say_lines(headed: bool, roles: &[u8], n: usize) -> bool {
-    let mut printed = headed;
+fn say_lines(rt: &impl Print, roles: &[u8], n: usize) -> io::Result<()> {
     for at in 0..n {
-        printed = say_line(
-            printed,
-            at,
-            file_bytes::byte_at(roles, at),
-            senior(roles, n, at),
-        );
+        say_line(rt, at, file_bytes::byte_at(roles, at), senior(roles, n, at))?;
     }
-    printed
+    Ok(())
+}
+
+// The circle, if there is one.
+fn say_circle(rt: &impl Print, roles: &[u8], n: usize) -> io::Result<()> {
+    if n == 0 {
+        return say(rt, b"no circle");
+    }
+    say_roles(rt, roles, n)?;
+    say_lines(rt, roles, n)
 }
 
 // Looks for the circle, and prints the answer.
-fn answer(file: &[u8]) {
+fn answer(rt: &HostRuntime, file: &[u8]) {
     let mut roles = [0u8; RoleFile::ROLES];
     match role_circle::circle(file, &mut roles) {
         Circled::Refused(n) => {
-            programs::refuse(b"circle", n);
+            programs::refuse(rt, b"circle", n);
         }
         Circled::Listed(n) => {
-            if n == 0 {
-                programs::end_line(b"circle", say(true, b"no circle"));
-                return;
-            }
-            programs::end_line(b"circle", say_lines(say_roles(&roles, n), &roles, n));
+            programs::end_line(rt, b"circle", say_circle(rt, &roles, n));
         }
     }
 }
 
-fn main() {
-    if os::arg_count() != 2 {
-        programs::complain(b"usage: circle ROLES\n");
+fn main(rt: HostRuntime) {
+    if programs::argument_count(&rt) != 2 {
+        programs::complain(&rt, b"usage: circle ROLES\n");
         return;
     }
-    let mut file = io::large_buffer();
-    let roles = programs::read_named(b"circle", 1, &mut file);
+    let mut file = programs::roles_buffer();
+    let roles = programs::read_named(&rt, b"circle", 1, &mut file);
     if roles.failed {
         return;
     }
     let k = roles.length;
-    answer(&file[0..k]);
+    answer(&rt, &file[0..k]);
 }

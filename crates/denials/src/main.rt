@@ -8,9 +8,13 @@ ghost use Rattle.std.specs.Prelude.{length, ◌≡◌};
 use digits::Number;
 use log_windows::Denials;
 use programs::say_count;
+use std::io;
 
-fn usage() {
-    programs::complain(b"usage: denials ROLES RULES LOG WINDOW, the last a number from 1 to 64\n");
+fn usage(rt: &HostRuntime) {
+    programs::complain(
+        rt,
+        b"usage: denials ROLES RULES LOG WINDOW, the last a number from 1 to 64\n",
+    );
 }
 
 // Memory for a log. 02 sets no limit to its length, so this one is the program's own: a million records and some.
@@ -20,28 +24,34 @@ fn log_buffer() -> [u8; 3145728]
     [0; 3145728]
 }
 
+// Prints how many records are denied at most, and where.
+fn say_counted(rt: &impl Print, most: usize, start: usize) -> io::Result<()> {
+    say_count(rt, b"most ", most)?;
+    say_count(rt, b" start ", start)
+}
+
 // Prints the answer.
-fn answer(denials: Denials) {
+fn answer(rt: &HostRuntime, denials: Denials) {
     match denials {
         Denials::Refused(n) => {
-            programs::refuse(b"denials", n);
+            programs::refuse(rt, b"denials", n);
         }
         Denials::Counted { most, start } => {
-            let counted = say_count(true, b"most ", most);
-            programs::end_line(b"denials", say_count(counted, b" start ", start));
+            programs::end_line(rt, b"denials", say_counted(rt, most, start));
         }
     }
 }
 
 // Of a log that fills the memory, and so may go on behind it, there is no answer; but what is refused before the log is looked at is refused
 // whatever stands in it.
-fn refuse_long(file: &[u8], rules: &[u8], window: usize) {
+fn refuse_long(rt: &HostRuntime, file: &[u8], rules: &[u8], window: usize) {
     match log_denials::denials(file, rules, b"", window) {
         Denials::Refused(n) => {
-            programs::refuse(b"denials", n);
+            programs::refuse(rt, b"denials", n);
         }
         Denials::Counted { most: _, start: _ } => {
             programs::complain_of(
+                rt,
                 b"denials",
                 3,
                 b"the log is longer than this program can hold, 3,145,727 bytes\n",
@@ -51,50 +61,51 @@ fn refuse_long(file: &[u8], rules: &[u8], window: usize) {
 }
 
 // Reads the log, and counts.
-fn count(file: &[u8], rules: &[u8], window: usize) {
+fn count(rt: &HostRuntime, file: &[u8], rules: &[u8], window: usize) {
     let mut log = log_buffer();
-    let read = programs::read_named(b"denials", 3, &mut log);
+    let read = programs::read_named(rt, b"denials", 3, &mut log);
     if read.failed {
         return;
     }
     let n = read.length;
     if n == log.len() {
-        refuse_long(file, rules, window);
+        refuse_long(rt, file, rules, window);
         return;
     }
-    answer(log_denials::denials(file, rules, &log[0..n], window));
+    answer(rt, log_denials::denials(file, rules, &log[0..n], window));
 }
 
 // Reads the role file and the rule file.
-fn count_files(window: usize) {
-    let mut file = io::large_buffer();
-    let roles = programs::read_named(b"denials", 1, &mut file);
+fn count_files(rt: &HostRuntime, window: usize) {
+    let mut file = programs::roles_buffer();
+    let roles = programs::read_named(rt, b"denials", 1, &mut file);
     if roles.failed {
         return;
     }
     let k = roles.length;
     let mut lines = programs::rules_buffer();
-    let rules = programs::read_rules(b"denials", 2, &file[0..k], &mut lines);
+    let rules = programs::read_rules(rt, b"denials", 2, &file[0..k], &mut lines);
     if rules.failed {
         return;
     }
     let m = rules.length;
-    count(&file[0..k], &lines[0..m], window);
+    count(rt, &file[0..k], &lines[0..m], window);
 }
 
-fn main() {
-    if os::arg_count() != 5 {
-        usage();
+fn main(rt: HostRuntime) {
+    if programs::argument_count(&rt) != 5 {
+        usage(&rt);
         return;
     }
     let Number::Given(window) = programs::number_named(
+        &rt,
         b"denials",
         4,
         digits::MANY,
         b"WINDOW is no number of up to 4,096 digits\n",
     ) else {
-        usage();
+        usage(&rt);
         return;
     };
-    count_files(window);
+    count_files(&rt, window);
 }

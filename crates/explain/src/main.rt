@@ -2,10 +2,11 @@
 // system does not read a file, a line on standard error says so and nothing is told.
 #![tactic(auto)]
 
-fn main() {
-    let mut file = io::large_buffer();
+fn main(rt: HostRuntime) {
+    let mut file = programs::roles_buffer();
     let mut rules = programs::rules_buffer();
     let both = programs::read_both(
+        &rt,
         b"explain",
         b"usage: explain ROLES RULES\n",
         &mut file,
@@ -17,5 +18,5 @@ fn main() {
     let n = both.roles;
     let m = both.rules;
     // no rule has a number beyond that of the bytes
-    rule_words::tell_files(b"explain", &file[0..n], &rules[0..m], 0, m);
+    rule_words::tell_files(&rt, b"explain", &file[0..n], &rules[0..m], 0, m);
 }

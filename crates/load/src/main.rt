@@ -19,30 +19,32 @@ enum Asked {
     Wrong,
 }
 
-fn usage() {
+fn usage(rt: &HostRuntime) {
     programs::complain(
+        rt,
         b"usage: load SEED USERS RESOURCES OPERATIONS ROLES, which writes a role file to roles.out in the working directory; all are numbers from 0, SEED has 32 bits\n",
     );
 }
 
 // A size, at its place among the arguments.
-fn size(i: usize, wrong: &[u8]) -> Number {
-    programs::number_named(b"load", i, digits::MANY, wrong)
+fn size(rt: &HostRuntime, i: usize, wrong: &[u8]) -> Number {
+    programs::number_named(rt, b"load", i, digits::MANY, wrong)
 }
 
 // The sizes, beside the seed.
-fn with_sizes(seed: u32) -> Asked {
-    let Number::Given(users) = size(2, b"USERS is no number of up to 4,096 digits\n") else {
+fn with_sizes(rt: &HostRuntime, seed: u32) -> Asked {
+    let Number::Given(users) = size(rt, 2, b"USERS is no number of up to 4,096 digits\n") else {
         return Asked::Wrong;
     };
-    let Number::Given(resources) = size(3, b"RESOURCES is no number of up to 4,096 digits\n") else {
-        return Asked::Wrong;
-    };
-    let Number::Given(operations) = size(4, b"OPERATIONS is no number of up to 4,096 digits\n")
+    let Number::Given(resources) = size(rt, 3, b"RESOURCES is no number of up to 4,096 digits\n")
     else {
         return Asked::Wrong;
     };
-    let Number::Given(roles) = size(5, b"ROLES is no number of up to 4,096 digits\n") else {
+    let Number::Given(operations) = size(rt, 4, b"OPERATIONS is no number of up to 4,096 digits\n")
+    else {
+        return Asked::Wrong;
+    };
+    let Number::Given(roles) = size(rt, 5, b"ROLES is no number of up to 4,096 digits\n") else {
         return Asked::Wrong;
     };
     Asked::Load(
@@ -57,8 +59,9 @@ fn with_sizes(seed: u32) -> Asked {
 }
 
 // The seed and the sizes. A seed of more than 32 bits is not cut: it is none.
-fn arguments() -> Asked {
+fn arguments(rt: &HostRuntime) -> Asked {
     let Number::Given(seed) = programs::number_named(
+        rt,
         b"load",
         1,
         LAST_SEED,
@@ -67,46 +70,46 @@ fn arguments() -> Asked {
         return Asked::Wrong;
     };
     if seed > LAST_SEED as usize {
-        programs::complain_of(b"load", 1, b"SEED is above 4,294,967,295\n");
+        programs::complain_of(rt, b"load", 1, b"SEED is above 4,294,967,295\n");
         return Asked::Wrong;
     }
-    with_sizes(seed as u32)
+    with_sizes(rt, seed as u32)
 }
 
 // Saves what was made, and prints its length.
-fn finish(made: Generated, out: &[u8])
+fn finish(rt: &HostRuntime, made: Generated, out: &[u8])
     requires { Fits made (length out.now) }
 {
     match made {
         Generated::Refused(n) => {
-            programs::refuse(b"load", n);
+            programs::refuse(rt, b"load", n);
         }
         Generated::Written(n) => {
-            if programs::save(b"load", b"roles.out", &out[0..n]) {
-                programs::end_line(b"load", programs::say_count(true, b"length ", n));
+            if programs::save(rt, b"load", b"roles.out", &out[0..n]) {
+                programs::end_line(rt, b"load", programs::say_count(rt, b"length ", n));
             }
         }
     }
 }
 
 // Makes the file, and saves and prints what comes of it. No role file is longer than the memory.
-fn make(seed: u32, sizes: Sizes) {
-    let mut out = io::large_buffer();
+fn make(rt: &HostRuntime, seed: u32, sizes: Sizes) {
+    let mut out = programs::roles_buffer();
     let made = load_file::generate(seed, sizes, &mut out);
-    finish(made, &out);
+    finish(rt, made, &out);
 }
 
-fn main() {
-    if os::arg_count() != 6 {
-        usage();
+fn main(rt: HostRuntime) {
+    if programs::argument_count(&rt) != 6 {
+        usage(&rt);
         return;
     }
-    match arguments() {
+    match arguments(&rt) {
         Asked::Load(seed, sizes) => {
-            make(seed, sizes);
+            make(&rt, seed, sizes);
         }
         Asked::Wrong => {
-            usage();
+            usage(&rt);
         }
     }
 }

@@ -9,6 +9,7 @@ ghost use Rattle.mine.specs.Room.{Fits};
 
 use digits::Number;
 use files::refusal;
+use std::io;
 use write_answer::Mined;
 
 // One more than a list of cuts can have: no role file has as many places between roles. So a longer list is refused as its first cuts are, and
@@ -25,15 +26,17 @@ struct Cutting {
     count: usize,
 }
 
-fn usage() {
+fn usage(rt: &HostRuntime) {
     programs::complain(
+        rt,
         b"usage: mine CUT.. < ROLES, which writes the rules to rules.out in the working directory; cuts are numbers of roles, and may be left out\n",
     );
 }
 
 // The cut that argument i gives.
-fn cut_named(i: usize) -> Number {
+fn cut_named(rt: &HostRuntime, i: usize) -> Number {
     programs::number_named(
+        rt,
         b"mine",
         i,
         LAST_CUT,
@@ -59,12 +62,12 @@ fn hold(cuts: &mut [u8], held: usize, cut: u8) -> usize
 }
 
 // The first of the cuts that the arguments give.
-fn cuts_named(count: usize, cuts: &mut [u8]) -> Cutting
+fn cuts_named(rt: &HostRuntime, count: usize, cuts: &mut [u8]) -> Cutting
     ensures { result.count ≤ length cuts.old }
 {
     let mut held: usize = 0;
     for i in 1..count {
-        let Number::Given(cut) = cut_named(i) else {
+        let Number::Given(cut) = cut_named(rt, i) else {
             return Cutting {
                 right: false,
                 count: 0,
@@ -79,42 +82,46 @@ fn cuts_named(count: usize, cuts: &mut [u8]) -> Cutting
 }
 
 // Prints the counts and the cost.
-fn print_counts(parts: usize, rules: usize, merges: usize, cost: u64) -> bool {
-    let one = programs::say_count(true, b"parts ", parts);
-    let two = programs::say_count(one, b" rules ", rules);
-    let three = programs::say_count(two, b" merges ", merges);
-    programs::say_count(three, b" cost ", cost as usize)
+fn print_counts(
+    rt: &impl Print,
+    parts: usize,
+    rules: usize,
+    merges: usize,
+    cost: u64,
+) -> io::Result<()> {
+    programs::say_count(rt, b"parts ", parts)?;
+    programs::say_count(rt, b" rules ", rules)?;
+    programs::say_count(rt, b" merges ", merges)?;
+    programs::say_count(rt, b" cost ", cost as usize)
 }
 
 // Says how long the output would have to be, for whoever has more of it to lend.
-fn tell_length(file: &[u8], cuts: &[u8]) {
+fn tell_length(rt: &HostRuntime, file: &[u8], cuts: &[u8]) {
     let mut scratch = [0u64; mining::SCRATCH];
-    programs::complain(b"mine: the rule file has ");
-    io::print_decimal(
-        libc::STDERR_FILENO,
-        mining::rule_bytes(file, cuts, &mut scratch) as u64,
-    );
+    programs::complain(rt, b"mine: the rule file has ");
+    let _ = rt.eprint(mining::rule_bytes(file, cuts, &mut scratch));
     programs::complain(
+        rt,
         b" bytes, and this program lends 65,536 for it; the library's call takes output of any length\n",
     );
 }
 
 // Prints the line of a refusal as 01 has it, the number alone; its meaning goes to standard error.
-fn refuse(n: usize, file: &[u8], cuts: &[u8]) {
-    programs::end_line(b"mine", programs::say_count(true, b"refused ", n));
-    programs::complain_refused(b"mine", n);
+fn refuse(rt: &HostRuntime, n: usize, file: &[u8], cuts: &[u8]) {
+    programs::end_line(rt, b"mine", programs::say_count(rt, b"refused ", n));
+    programs::complain_refused(rt, b"mine", n);
     if n == refusal::SHORT_OUTPUT {
-        tell_length(file, cuts);
+        tell_length(rt, file, cuts);
     }
 }
 
 // Saves and prints what came of mining the file.
-fn finish(mined: Mined, file: &[u8], cuts: &[u8], out: &[u8])
+fn finish(rt: &HostRuntime, mined: Mined, file: &[u8], cuts: &[u8], out: &[u8])
     requires { Fits mined (length out.now) }
 {
     match mined {
         Mined::Refused(n) => {
-            refuse(n, file, cuts);
+            refuse(rt, n, file, cuts);
         }
         Mined::Written {
             length,
@@ -123,41 +130,38 @@ fn finish(mined: Mined, file: &[u8], cuts: &[u8], out: &[u8])
             merges,
             cost,
         } => {
-            if programs::save(b"mine", b"rules.out", &out[0..length]) {
-                programs::end_line(b"mine", print_counts(parts, rules, merges, cost));
+            if programs::save(rt, b"mine", b"rules.out", &out[0..length]) {
+                let printed = print_counts(rt, parts, rules, merges, cost);
+                programs::end_line(rt, b"mine", printed);
             }
         }
     }
 }
 
 // Mines the file, and saves and prints what comes of it.
-fn mine_file(file: &[u8], cuts: &[u8]) {
+fn mine_file(rt: &HostRuntime, file: &[u8], cuts: &[u8]) {
     let mut scratch = [0u64; mining::SCRATCH];
-    let mut out = io::large_buffer();
+    let mut out = programs::roles_buffer();
     let mined = mining::mine(file, cuts, mining::ones(), &mut scratch, &mut out);
-    finish(mined, file, cuts, &out);
+    finish(rt, mined, file, cuts, &out);
 }
 
 // Mines what standard input has.
-fn mine_input(cuts: &[u8]) {
-    // one byte more than a role file may have, so that a longer one is seen
-    let mut input = io::large_buffer();
-    let read = programs::read_open(libc::STDIN_FILENO, &mut input);
-    if read.failed {
-        programs::fail(b"mine", b"cannot read standard input");
-        return;
+fn mine_input(rt: &HostRuntime, cuts: &[u8]) {
+    let mut input = programs::roles_buffer();
+    match programs::read_open(&mut rt.stdin(), &mut input) {
+        Ok(n) => mine_file(rt, &input[0..n], cuts),
+        Err(error) => programs::fail(rt, b"mine", b"cannot read standard input", &error),
     }
-    let n = read.length;
-    mine_file(&input[0..n], cuts);
 }
 
-fn main() {
+fn main(rt: HostRuntime) {
     let mut cuts = [0u8; CUTS];
-    let cutting = cuts_named(os::arg_count(), &mut cuts);
+    let cutting = cuts_named(&rt, programs::argument_count(&rt), &mut cuts);
     if !cutting.right {
-        usage();
+        usage(&rt);
         return;
     }
     let n = cutting.count;
-    mine_input(&cuts[0..n]);
+    mine_input(&rt, &cuts[0..n]);
 }

@@ -1,8 +1,12 @@
 // Files, read into lent memory.
-ghost use Rattle.std.specs.Prelude.{◌≤◌, ◌≡◌, length};
+ghost use Rattle.std.specs.Prelude.{◌≤◌, ◌≡◌, length, IfOk};
 
-use crate::argument::{complain_of, fail_long};
+use crate::argument::{argument_count, complain_of, fail_long};
+use crate::name::text_of;
 use crate::print::{complain, fail, refuse};
+use std::fs::File;
+use std::io::{Read, Result};
+use std::rt::Env;
 
 #[derive(Clone, Copy)]
 pub struct Input {
@@ -19,59 +23,64 @@ fn nothing() -> Input
     }
 }
 
-// Reads what is open as fd until it ends or fills what is lent.
-pub fn read_open(fd: i32, into: &mut [u8]) -> Input
-    ensures { result.length ≤ length into.new }
+// Reads what is open until it ends or fills what is lent.
+pub fn read_open<R: Read>(from: &mut R, into: &mut [u8]) -> Result<usize>
+    ensures { IfOk result (λ n. n ≤ length into.new) }
 {
     let mut at: usize = 0;
     while at < into.len() {
-        let got = libc::read(fd, &mut into[at..]);
-        if got < 0 {
-            return nothing();
-        }
-        let more = io::count(got, &into[at..]);
+        let more = from.read(&mut into[at..])?;
         if more == 0 {
-            return Input {
-                failed: false,
-                length: at,
-            };
+            return Ok(at);
         }
         at = at + more;
     }
-    Input {
-        failed: false,
-        length: at,
-    }
+    Ok(at)
+}
+
+// Opens the file of this name and reads it.
+fn read_text(rt: &HostRuntime, name: &[u8], into: &mut [u8]) -> Result<usize>
+    ensures { IfOk result (λ n. n ≤ length into.new) }
+{
+    let mut file = File::open(rt, text_of(name)?)?;
+    read_open(&mut file, into)
 }
 
 // Reads the file of this name. Where the system does not open or read it, a line on standard error says so.
-fn read_file(program: &[u8], name: &[u8], into: &mut [u8]) -> Input
+fn read_file(rt: &HostRuntime, program: &[u8], name: &[u8], into: &mut [u8]) -> Input
     ensures { result.length ≤ length into.new }
 {
-    let fd = os::open_read(name);
-    if fd < 0 {
-        fail(program, name);
-        return nothing();
+    match read_text(rt, name, into) {
+        Ok(length) => Input {
+            failed: false,
+            length,
+        },
+        Err(error) => {
+            fail(rt, program, name, &error);
+            nothing()
+        }
     }
-    let read = read_open(fd, into);
-    if read.failed {
-        fail(program, name);
-    }
-    libc::close(fd);
-    read
 }
 
 // Reads the file that argument i names.
-pub fn read_named(program: &[u8], i: usize, into: &mut [u8]) -> Input
+pub fn read_named(rt: &HostRuntime, program: &[u8], i: usize, into: &mut [u8]) -> Input
     ensures { result.length ≤ length into.new }
 {
-    let mut name = io::buffer();
-    let n = os::arg(i, &mut name);
-    if os::errno() != 0 {
-        fail_long(program, i);
-        return nothing();
+    let mut name = [0u8; 4096];
+    match rt.arg(i, &mut name) {
+        Ok(n) => read_file(rt, program, &name[..n], into),
+        Err(_) => {
+            fail_long(rt, program, i);
+            nothing()
+        }
     }
-    read_file(program, &name[..n], into)
+}
+
+// Memory for a role file: one byte more than one may have, so that a longer one is seen.
+pub fn roles_buffer() -> [u8; 65536]
+    ensures { 65536 ≡ length result }
+{
+    [0; 65536]
 }
 
 // Memory for a rule file. 01 sets no limit to its length, so this one is the programs' own.
@@ -83,13 +92,14 @@ pub fn rules_buffer() -> [u8; 262144]
 
 // Of a rule file that fills the memory, and so may go on behind it, there is no answer; but a role file that is refused is refused
 // whatever stands in the rule file.
-fn refuse_long(program: &[u8], i: usize, file: &[u8]) {
+fn refuse_long(rt: &HostRuntime, program: &[u8], i: usize, file: &[u8]) {
     let l = role_file::read(file);
     if l.code != 0 {
-        refuse(program, l.code);
+        refuse(rt, program, l.code);
         return;
     }
     complain_of(
+        rt,
         program,
         i,
         b"the rule file is longer than this program can hold, 262,143 bytes\n",
@@ -97,17 +107,17 @@ fn refuse_long(program: &[u8], i: usize, file: &[u8]) {
 }
 
 // Reads the rule file that argument i names, which stands beside this role file.
-pub fn read_rules(program: &[u8], i: usize, file: &[u8], into: &mut [u8]) -> Input
+pub fn read_rules(rt: &HostRuntime, program: &[u8], i: usize, file: &[u8], into: &mut [u8]) -> Input
     ensures { result.length ≤ length into.new }
 {
-    let read = read_named(program, i, into);
+    let read = read_named(rt, program, i, into);
     if read.failed {
         return nothing();
     }
     if read.length < into.len() {
         return read;
     }
-    refuse_long(program, i, file);
+    refuse_long(rt, program, i, file);
     nothing()
 }
 
@@ -131,19 +141,25 @@ fn neither() -> Both
 
 // Reads the role file and the rule file that the arguments name, for a program that takes these two and nothing else; for any others
 // says how it is used.
-pub fn read_both(program: &[u8], usage: &[u8], file: &mut [u8], rules: &mut [u8]) -> Both
+pub fn read_both(
+    rt: &HostRuntime,
+    program: &[u8],
+    usage: &[u8],
+    file: &mut [u8],
+    rules: &mut [u8],
+) -> Both
     ensures { (result.roles ≤ length file.new) × (result.rules ≤ length rules.new) }
 {
-    if os::arg_count() != 3 {
-        complain(usage);
+    if argument_count(rt) != 3 {
+        complain(rt, usage);
         return neither();
     }
-    let one = read_named(program, 1, file);
+    let one = read_named(rt, program, 1, file);
     if one.failed {
         return neither();
     }
     let n = one.length;
-    let two = read_rules(program, 2, &file[0..n], rules);
+    let two = read_rules(rt, program, 2, &file[0..n], rules);
     Both {
         failed: two.failed,
         roles: n,

@@ -1,15 +1,18 @@
-// What the programs share: reading a file by its name, writing one, reading a number, and printing answers with their numbers and their
-// meaning.
+// What the programs share: their arguments, reading a file by its name, writing one, reading a number, and printing answers with their
+// numbers and their meaning.
 #![tactic(auto)]
 
 mod argument;
 mod input;
+mod name;
 mod number;
 mod output;
 mod print;
 
-pub use argument::complain_of;
-pub use input::{Both, Input, read_both, read_named, read_open, read_rules, rules_buffer};
+pub use argument::{argument_count, complain_of, read_argument};
+pub use input::{
+    Both, Input, read_both, read_named, read_open, read_rules, roles_buffer, rules_buffer,
+};
 pub use number::number_named;
 pub use output::save;
 pub use print::{

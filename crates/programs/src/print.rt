@@ -1,77 +1,109 @@
-// Lines of words and numbers. An answer goes to standard output: each function that begins with `say` says whether all was printed so far,
-// and prints nothing behind a failure. Everything else goes to standard error, behind the name of the program.
+// Lines of words and numbers. An answer goes to standard output: each function that begins with `say` prints a part of one, or answers why it
+// cannot, and with `?` nothing is printed behind a failure. Everything else goes to standard error, behind the name of the program; where that
+// cannot be written, there is no place left to say so.
 use answer_words::refusal_words;
+use std::io::{Cursor, Error, Result, Write};
+use std::str;
 
-pub fn say(printed: bool, text: &[u8]) -> bool {
-    if printed {
-        return io::write_all(libc::STDOUT_FILENO, text);
-    }
-    false
+pub fn say(rt: &impl Print, text: &[u8]) -> Result<()> {
+    Print::write_all(rt, text)
 }
 
-pub fn say_number(printed: bool, n: usize) -> bool {
-    if printed {
-        return io::print_decimal(libc::STDOUT_FILENO, n as u64);
-    }
-    false
+pub fn say_number(rt: &impl Print, n: usize) -> Result<()> {
+    rt.print(n)
 }
 
 // A name and a number behind it.
-pub fn say_count(printed: bool, name: &[u8], n: usize) -> bool {
-    let named = say(printed, name);
-    say_number(named, n)
+pub fn say_count(rt: &impl Print, name: &[u8], n: usize) -> Result<()> {
+    say(rt, name)?;
+    say_number(rt, n)
 }
 
 // A user, a resource and an operation.
-pub fn say_triple(printed: bool, user: usize, resource: usize, operation: usize) -> bool {
-    let one = say_count(printed, b"user ", user);
-    let two = say_count(one, b", resource ", resource);
-    say_count(two, b", operation ", operation)
+pub fn say_triple(rt: &impl Print, user: usize, resource: usize, operation: usize) -> Result<()> {
+    say_count(rt, b"user ", user)?;
+    say_count(rt, b", resource ", resource)?;
+    say_count(rt, b", operation ", operation)
+}
+
+// Ends the line of what was printed.
+fn ended(rt: &impl Print, printed: Result<()>) -> Result<()> {
+    printed?;
+    say(rt, b"\n")
 }
 
 // Ends the line. Where not all was printed, a line on standard error says so.
-pub fn end_line(program: &[u8], printed: bool) {
-    if !say(printed, b"\n") {
-        fail(program, b"cannot print the answer");
+pub fn end_line(rt: &HostRuntime, program: &[u8], printed: Result<()>) {
+    match ended(rt, printed) {
+        Ok(()) => {}
+        Err(error) => fail(rt, program, b"cannot print the answer", &error),
     }
 }
 
 // A refusal, its number and its meaning.
-pub fn say_refusal(printed: bool, n: usize) -> bool {
+pub fn say_refusal(rt: &impl Print, n: usize) -> Result<()> {
     let mut words = [0u8; 160];
     let length = refusal_words(n, &mut words);
-    let numbered = say_count(printed, b"refused ", n);
-    let marked = say(numbered, b": ");
-    say(marked, &words[..length])
+    say_count(rt, b"refused ", n)?;
+    say(rt, b": ")?;
+    say(rt, &words[..length])
 }
 
 // The line of a refusal.
-pub fn refuse(program: &[u8], n: usize) {
-    end_line(program, say_refusal(true, n));
+pub fn refuse(rt: &HostRuntime, program: &[u8], n: usize) {
+    end_line(rt, program, say_refusal(rt, n));
 }
 
 // A text on standard error.
-pub fn complain(text: &[u8]) {
-    io::write_all(libc::STDERR_FILENO, text);
+pub fn complain(rt: &HostRuntime, text: &[u8]) {
+    let _ = Print::write_all(&rt.stderr(), text);
 }
 
 // The start of a line on standard error: who complains.
-pub fn name_program(program: &[u8]) {
-    complain(program);
-    complain(b": ");
+pub fn name_program(rt: &HostRuntime, program: &[u8]) {
+    complain(rt, program);
+    complain(rt, b": ");
 }
 
 // The meaning of a refusal, for a program whose line of a refusal has the number alone.
-pub fn complain_refused(program: &[u8], n: usize) {
+pub fn complain_refused(rt: &HostRuntime, program: &[u8], n: usize) {
     let mut words = [0u8; 160];
     let length = refusal_words(n, &mut words);
-    name_program(program);
-    complain(&words[..length]);
-    complain(b"\n");
+    name_program(rt, program);
+    complain(rt, &words[..length]);
+    complain(rt, b"\n");
 }
 
-// What failed, and the system's words for it. A write that succeeds leaves these as they are.
-pub fn fail(program: &[u8], what: &[u8]) {
-    name_program(program);
-    os::fail(what);
+// The system's words in an error's text, which has their number in brackets behind them.
+fn without_number(text: &str) -> &str {
+    match text.split_once(" (os error ") {
+        Some((words, _)) => words,
+        None => text,
+    }
+}
+
+// The words for an error.
+fn complain_error(rt: &HostRuntime, error: &Error) {
+    let mut text = [0u8; 160];
+    let mut held = Cursor::new(text.as_mut_slice());
+    let _ = write!(held, "{error}");
+    let n = (held.position() as usize).min(text.len());
+    match str::from_utf8(&text[..n]) {
+        Ok(all) => complain(rt, without_number(all).as_bytes()),
+        Err(_) => complain(rt, &text[..n]),
+    }
+}
+
+// What failed, behind what stands in the line so far, and the words for it, which end the line.
+pub fn complain_failed(rt: &HostRuntime, what: &[u8], error: &Error) {
+    complain(rt, what);
+    complain(rt, b": ");
+    complain_error(rt, error);
+    complain(rt, b"\n");
+}
+
+// What failed, and the system's words for it.
+pub fn fail(rt: &HostRuntime, program: &[u8], what: &[u8], error: &Error) {
+    name_program(rt, program);
+    complain_failed(rt, what, error);
 }

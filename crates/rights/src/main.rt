@@ -10,9 +10,13 @@ use digits::Number;
 use programs::{say, say_count};
 use right_edits::Edited;
 use role_record::{Grid, RoleFile};
+use std::io;
 
-fn usage() {
-    programs::complain(b"usage: rights ROLES [+ROLE,USER | -ROLE,USER].., numbers from 0\n");
+fn usage(rt: &HostRuntime) {
+    programs::complain(
+        rt,
+        b"usage: rights ROLES [+ROLE,USER | -ROLE,USER].., numbers from 0\n",
+    );
 }
 
 // The edit that an argument asks for, if it is one.
@@ -82,18 +86,18 @@ fn edit_in(text: &[u8]) -> Wanted {
 }
 
 // Argument i. One that is too long to be read whole is no edit.
-fn edit_named(i: usize) -> Wanted {
-    let mut text = io::buffer();
-    let n = os::arg(i, &mut text);
+fn edit_named(rt: &HostRuntime, i: usize) -> Wanted {
+    let mut text = [0u8; 4096];
+    let n = programs::read_argument(rt, i, &mut text);
     edit_in(&text[..n])
 }
 
 // Whether every argument behind the role file is an edit.
-fn all_edits(count: usize) -> bool {
+fn all_edits(rt: &HostRuntime, count: usize) -> bool {
     for i in 2..count {
-        let wanted = edit_named(i);
+        let wanted = edit_named(rt, i);
         if !wanted.right {
-            programs::complain_of(b"rights", i, b"an edit is +ROLE,USER or -ROLE,USER\n");
+            programs::complain_of(rt, b"rights", i, b"an edit is +ROLE,USER or -ROLE,USER\n");
             return false;
         }
     }
@@ -101,75 +105,71 @@ fn all_edits(count: usize) -> bool {
 }
 
 // Argument i as it was given.
-fn say_argument(i: usize) -> bool {
-    let mut text = io::buffer();
-    let n = os::arg(i, &mut text);
-    say(true, &text[..n])
+fn say_argument(rt: &HostRuntime, i: usize) -> io::Result<()> {
+    let mut text = [0u8; 4096];
+    let n = programs::read_argument(rt, i, &mut text);
+    say(rt, &text[..n])
 }
 
 // What an edit has come to: whether the user is assigned to the role now, or the refusal.
-fn say_edit(i: usize, wanted: Wanted, code: usize) -> bool {
-    let named = say(say_argument(i), b": ");
+fn say_edit(rt: &HostRuntime, i: usize, wanted: Wanted, code: usize) -> io::Result<()> {
+    say_argument(rt, i)?;
+    say(rt, b": ")?;
     if code != 0 {
-        return say(programs::say_refusal(named, code), b"\n");
+        programs::say_refusal(rt, code)?;
+        return say(rt, b"\n");
     }
-    let who = say_count(named, b"user ", wanted.user);
+    say_count(rt, b"user ", wanted.user)?;
     if wanted.gives {
-        return say(say_count(who, b" is assigned to role ", wanted.role), b"\n");
+        say_count(rt, b" is assigned to role ", wanted.role)?;
+        return say(rt, b"\n");
     }
-    say(
-        say_count(who, b" is not assigned to role ", wanted.role),
-        b"\n",
-    )
+    say_count(rt, b" is not assigned to role ", wanted.role)?;
+    say(rt, b"\n")
 }
 
 // The members of a set, in a row.
-fn say_members(named: bool, members: u64) -> bool {
-    let mut printed = named;
+fn say_members(rt: &impl Print, members: u64) -> io::Result<()> {
     let mut between = false;
     for r in 0..RoleFile::RESOURCES {
         if sets::has(members, r) {
-            printed = say_member(printed, between, r);
+            say_member(rt, between, r)?;
             between = true;
         }
     }
-    printed
+    Ok(())
 }
 
-fn say_member(printed: bool, between: bool, r: usize) -> bool {
+fn say_member(rt: &impl Print, between: bool, r: usize) -> io::Result<()> {
     if between {
-        return say_count(printed, b", ", r);
+        return say_count(rt, b", ", r);
     }
-    say_count(printed, b" ", r)
+    say_count(rt, b" ", r)
 }
 
 // The line of a user and an operation.
-fn say_word(printed: bool, user: usize, operation: usize, resources: u64) -> bool {
-    let who = say_count(printed, b"user ", user);
-    let what = say_count(who, b", operation ", operation);
-    say(say_members(say(what, b": resources"), resources), b"\n")
+fn say_word(rt: &impl Print, user: usize, operation: usize, resources: u64) -> io::Result<()> {
+    say_count(rt, b"user ", user)?;
+    say_count(rt, b", operation ", operation)?;
+    say(rt, b": resources")?;
+    say_members(rt, resources)?;
+    say(rt, b"\n")
 }
 
 // The lines of all that have a right.
-fn say_table(table: &Grid) -> bool {
-    let mut printed = true;
+fn say_table(rt: &impl Print, table: &Grid) -> io::Result<()> {
     let mut some = false;
     for i in 0..right_answers::WORDS {
         let word = table[i];
         if word != 0 {
-            printed = say_word(
-                printed,
-                i / RoleFile::OPERATIONS,
-                i % RoleFile::OPERATIONS,
-                word,
-            );
+            say_word(rt, i / RoleFile::OPERATIONS, i % RoleFile::OPERATIONS, word)?;
             some = true;
         }
     }
     if some {
-        return printed;
+        return Ok(());
     }
-    say(printed, b"no rights\n")
+    say(rt, b"no rights\n")
 }
 
 // One edit. Of a table whose length is in its type, so that the loop below has nothing to say of it.
@@ -178,43 +178,41 @@ fn edit(kept: RoleFile, table: &mut Grid, wanted: Wanted) -> Edited {
 }
 
 // Fills the table, edits one after the other, and prints.
-fn answer(file: &[u8], count: usize) -> bool {
+fn answer(rt: &HostRuntime, file: &[u8], count: usize) -> io::Result<()> {
     let l = role_file::read(file);
     if l.code != 0 {
-        return say(programs::say_refusal(true, l.code), b"\n");
+        programs::say_refusal(rt, l.code)?;
+        return say(rt, b"\n");
     }
     let mut kept = l.file;
     let mut table = [0u64; right_answers::WORDS];
     right_edits::fill(kept, &mut table);
     for i in 2..count {
-        let wanted = edit_named(i);
+        let wanted = edit_named(rt, i);
         let edited = edit(kept, &mut table, wanted);
         kept = edited.file;
-        // the first that is not printed ends it, so that the system's words for why are still at hand
-        if !say_edit(i, wanted, edited.code) {
-            return false;
-        }
+        say_edit(rt, i, wanted, edited.code)?;
     }
-    say_table(&table)
+    say_table(rt, &table)
 }
 
-fn main() {
-    let count = os::arg_count();
+fn main(rt: HostRuntime) {
+    let count = programs::argument_count(&rt);
     if count < 2 {
-        usage();
+        usage(&rt);
         return;
     }
-    if !all_edits(count) {
-        usage();
+    if !all_edits(&rt, count) {
+        usage(&rt);
         return;
     }
-    let mut file = io::large_buffer();
-    let roles = programs::read_named(b"rights", 1, &mut file);
+    let mut file = programs::roles_buffer();
+    let roles = programs::read_named(&rt, b"rights", 1, &mut file);
     if roles.failed {
         return;
     }
     let k = roles.length;
-    if !answer(&file[0..k], count) {
-        programs::fail(b"rights", b"cannot print the answer");
+    if let Err(error) = answer(&rt, &file[0..k], count) {
+        programs::fail(&rt, b"rights", b"cannot print the answer", &error);
     }
 }

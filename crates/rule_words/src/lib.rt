@@ -1,4 +1,4 @@
-// Rules in words. Each function but the last says whether all was printed so far, as those of `programs` do.
+// Rules in words. Each function but the last prints a part of an answer, or answers why it cannot, as those of `programs` do.
 #![tactic(auto)]
 
 ghost use Rattle.role_record.specs.Record.{WithinLimits, FewAttributes};
@@ -13,35 +13,44 @@ use line_words::{say_operations, tell_checked};
 use programs::{say, say_count};
 use role_record::{ByAttribute, ByRole, ByRoleOperation, BySide, CountBySide, RoleFile, Sizes};
 use rule_headings::{front, heading_of};
+use std::io;
 
 // What parts the paragraph of a rule from the one before it, if there is one: the first that is told has this number.
-fn say_gap(printed: bool, first: usize, number: usize) -> bool {
+fn say_gap(rt: &impl Print, first: usize, number: usize) -> io::Result<()> {
     if number == first {
-        return printed;
+        return Ok(());
     }
-    say(printed, b"\n\n")
+    say(rt, b"\n\n")
 }
 
 // The heading of the rule of this number, whose lines stand in front, if it is one that is told.
-fn tell_heading(printed: bool, wanted: bool, first: usize, number: usize, s: &[u8]) -> bool
+fn tell_heading(
+    rt: &impl Print,
+    wanted: bool,
+    first: usize,
+    number: usize,
+    s: &[u8],
+) -> io::Result<()>
     requires { (F : Policy) × (rules : List Lines) × RuleAt F rules number s.now }
 {
     if !wanted {
-        return printed;
+        return Ok(());
     }
     let h = heading_of(s);
-    let named = say_count(say_gap(printed, first, number), b"rule ", number);
-    let leveled = say_count(named, b", level ", h.level as usize);
-    let told = say_operations(say(leveled, b": any user may do "), h.operations);
-    say(told, b" on any resource")
+    say_gap(rt, first, number)?;
+    say_count(rt, b"rule ", number)?;
+    say_count(rt, b", level ", h.level as usize)?;
+    say(rt, b": any user may do ")?;
+    say_operations(rt, h.operations)?;
+    say(rt, b" on any resource")
 }
 
 // The end of the file.
-fn tell_end(printed: bool, number: usize) -> bool {
+fn tell_end(rt: &impl Print, number: usize) -> io::Result<()> {
     if number == 0 {
-        return say(printed, b"there is no rule: nobody may do anything");
+        return say(rt, b"there is no rule: nobody may do anything");
     }
-    printed
+    Ok(())
 }
 
 // Whether a rule that has a condition, or has none, has one with this line.
@@ -83,6 +92,7 @@ fn domain_of(domains: &ByAttribute, attribute: u64) -> u64
 
 // A paragraph for each rule of a legal rule file that has one of the numbers from the first to the last; its last line is left open.
 fn tell_rules<'a>(
+    rt: &impl Print,
     rules: &[u8],
     first: usize,
     last: usize,
@@ -92,10 +102,9 @@ fn tell_rules<'a>(
     domains: &'a ByAttribute,
     holders: &'a ByRole,
     permissions: &'a ByRoleOperation,
-) -> bool
+) -> io::Result<()>
     requires { WithinLimits sizes × FewAttributes attributes.now × AcceptedRules rules.now }
 {
-    let mut printed = true;
     let mut number: usize = 0;
     let mut wanted = false;
     let mut some = false;
@@ -105,12 +114,12 @@ fn tell_rules<'a>(
     loop {
         let l = front(&rules[at..]);
         if l.width == 0 {
-            return tell_end(printed, number);
+            return tell_end(rt, number);
         }
         at = at + l.width;
         if l.byte == rule_byte::OPENS {
             wanted = digits::within(number, first, last);
-            printed = tell_heading(printed, wanted, first, number, &rules[at..]);
+            tell_heading(rt, wanted, first, number, &rules[at..])?;
             number = number + 1;
             some = false;
         } else {
@@ -127,7 +136,7 @@ fn tell_rules<'a>(
                 permissions,
             );
             let domain = domain_of(domains, l.first);
-            printed = tell_checked(printed, wanted, same, some, checked, domain);
+            tell_checked(rt, wanted, same, some, checked, domain)?;
             some = has_condition(some, l.byte);
         }
         former = l.byte;
@@ -136,13 +145,20 @@ fn tell_rules<'a>(
 }
 
 // Reads both files and tells the rules of these numbers, or prints the line of a refusal, for the program of this name.
-pub fn tell_files(program: &[u8], file: &[u8], rules: &[u8], first: usize, last: usize) {
+pub fn tell_files(
+    rt: &HostRuntime,
+    program: &[u8],
+    file: &[u8],
+    rules: &[u8],
+    first: usize,
+    last: usize,
+) {
     let b = rule_file::read(file, rules);
     if b.code != 0 {
-        programs::refuse(program, b.code);
+        programs::refuse(rt, program, b.code);
         return;
     }
-    let f = b.file;
+    let f = &b.file;
     let sizes = Sizes {
         users: f.users,
         resources: f.resources,
@@ -150,6 +166,7 @@ pub fn tell_files(program: &[u8], file: &[u8], rules: &[u8], first: usize, last:
         roles: f.roles,
     };
     let told = tell_rules(
+        rt,
         &rules[rule_opening::BYTES..],
         first,
         last,
@@ -160,5 +177,5 @@ pub fn tell_files(program: &[u8], file: &[u8], rules: &[u8], first: usize, last:
         &f.holders,
         &f.permissions,
     );
-    programs::end_line(program, told);
+    programs::end_line(rt, program, told);
 }

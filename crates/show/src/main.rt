@@ -4,81 +4,82 @@
 
 use digits::Number;
 use programs::say;
+use std::io;
 
-fn usage() {
-    programs::complain(b"usage: show ROLES RULES NUMBER, the last a number from 0\n");
+fn usage(rt: &HostRuntime) {
+    programs::complain(
+        rt,
+        b"usage: show ROLES RULES NUMBER, the last a number from 0\n",
+    );
 }
 
 // A byte by its two digits.
-fn say_byte(printed: bool, b: u8) -> bool {
-    let text = [digits::hex_digit(b / 16), digits::hex_digit(b % 16)];
-    say(printed, &text)
+fn say_byte(rt: &impl Print, b: u8) -> io::Result<()> {
+    say(rt, &[digits::hex_digit(b / 16), digits::hex_digit(b % 16)])
 }
 
 // What stands between two bytes, and not before the first.
-fn say_blank(printed: bool, at: usize) -> bool {
+fn say_blank(rt: &impl Print, at: usize) -> io::Result<()> {
     if at == 0 {
-        return printed;
+        return Ok(());
     }
-    say(printed, b" ")
+    say(rt, b" ")
 }
 
 // A line of bytes.
-fn say_bytes(bytes: &[u8]) -> bool {
-    let mut printed = true;
-    let mut at: usize = 0;
-    while at < bytes.len() {
-        printed = say_byte(say_blank(printed, at), bytes[at]);
-        at = at + 1;
+fn say_bytes(rt: &impl Print, bytes: &[u8]) -> io::Result<()> {
+    for at in 0..bytes.len() {
+        say_blank(rt, at)?;
+        say_byte(rt, bytes[at])?;
     }
-    say(printed, b"\n")
+    say(rt, b"\n")
 }
 
 // The rule's bytes, and behind them its words.
-fn show(file: &[u8], rules: &[u8], n: usize) {
+fn show(rt: &HostRuntime, file: &[u8], rules: &[u8], n: usize) {
     let mut answer: u8 = 0;
     let part = rule_show::show(file, rules, n, &mut answer);
     if answer != 0 {
-        programs::refuse(b"show", answer as usize);
+        programs::refuse(rt, b"show", answer as usize);
         return;
     }
-    if !say_bytes(part) {
-        programs::end_line(b"show", false);
-        return;
+    match say_bytes(rt, part) {
+        Ok(()) => rule_words::tell_files(rt, b"show", file, rules, n, n),
+        Err(error) => programs::end_line(rt, b"show", Err(error)),
     }
-    rule_words::tell_files(b"show", file, rules, n, n);
 }
 
 // Reads both files, and shows the rule.
-fn show_files(n: usize) {
-    let mut file = io::large_buffer();
-    let roles = programs::read_named(b"show", 1, &mut file);
+fn show_files(rt: &HostRuntime, n: usize) {
+    let mut file = programs::roles_buffer();
+    let roles = programs::read_named(rt, b"show", 1, &mut file);
     if roles.failed {
         return;
     }
     let k = roles.length;
     let mut lines = programs::rules_buffer();
-    let rules = programs::read_rules(b"show", 2, &file[0..k], &mut lines);
+    let rules = programs::read_rules(rt, b"show", 2, &file[0..k], &mut lines);
     if rules.failed {
         return;
     }
     let m = rules.length;
-    show(&file[0..k], &lines[0..m], n);
+    show(rt, &file[0..k], &lines[0..m], n);
 }
 
-fn main() {
-    if os::arg_count() != 4 {
-        usage();
+fn main(rt: HostRuntime) {
+    if programs::argument_count(&rt) != 4 {
+        usage(&rt);
         return;
     }
     let Number::Given(n) = programs::number_named(
+        &rt,
         b"show",
         3,
         digits::MANY,
         b"NUMBER is no number of up to 4,096 digits\n",
     ) else {
-        usage();
+        usage(&rt);
         return;
     };
-    show_files(n);
+    show_files(&rt, n);
 }

@@ -6,6 +6,7 @@ ghost use Rattle.std.specs.Prelude.{◌≡◌, ◌≤◌, min, length};
 use files::role_byte;
 use role_question::Reply;
 use role_record::RoleFile;
+use std::io;
 
 // One byte more than a role file may have.
 pub const BYTES: usize = RoleFile::BYTES + 1;
@@ -30,24 +31,18 @@ const PERMIT: u8 = role_byte::PERMIT as u8;
 const END: u8 = role_byte::END as u8;
 
 // Prints a word with the spaces around it, and a number.
-pub fn print_number(name: &[u8], n: usize) {
-    io::write_all(1, name);
-    io::print_decimal(1, n as u64);
+pub fn print_number(rt: &impl Print, name: &[u8], n: usize) -> io::Result<()> {
+    programs::say_count(rt, name, n)
 }
 
 // Prints the reply and ends the line.
-pub fn print_reply(reply: Reply) {
+pub fn print_reply(rt: &impl Print, reply: Reply) -> io::Result<()> {
     match reply {
-        Reply::Yes => {
-            io::write_all(1, b"yes\n");
-        }
-        Reply::No => {
-            io::write_all(1, b"no\n");
-        }
+        Reply::Yes => programs::say(rt, b"yes\n"),
+        Reply::No => programs::say(rt, b"no\n"),
         Reply::Refused(n) => {
-            io::write_all(1, b"refused ");
-            io::print_decimal(1, n as u64);
-            io::write_all(1, b"\n");
+            print_number(rt, b"refused ", n)?;
+            programs::say(rt, b"\n")
         }
     }
 }
@@ -57,7 +52,7 @@ pub fn print_reply(reply: Reply) {
 pub fn longest() -> [u8; BYTES]
     ensures { 65536 ≡ length result }
 {
-    let mut s = io::large_buffer();
+    let mut s = programs::roles_buffer();
     s[0] = SIZES;
     s[1] = 1;
     s[2] = 1;
@@ -85,21 +80,22 @@ fn checksum(s: &[u8]) -> usize
 }
 
 // Prints the bytes in hexadecimal.
-fn print_bytes(s: &[u8]) {
-    for i in 0..s.len() {
-        io::print_hex(1, file_bytes::byte_at(s, i) as u64, 2);
+fn print_bytes(rt: &impl Print, s: &[u8]) -> io::Result<()> {
+    for byte in s {
+        print!(rt; "{byte:02x}")?;
     }
+    Ok(())
 }
 
 // Prints what the memory for output holds, a long one by its checksum, and ends the line.
-pub fn print_memory(s: &[u8]) {
+pub fn print_memory(rt: &impl Print, s: &[u8]) -> io::Result<()> {
     if s.len() <= 48 {
-        io::write_all(1, b", memory ");
-        print_bytes(s);
+        programs::say(rt, b", memory ")?;
+        print_bytes(rt, s)?;
     } else {
-        print_number(b", checksum ", checksum(s));
+        print_number(rt, b", checksum ", checksum(s))?;
     }
-    io::write_all(1, b"\n");
+    programs::say(rt, b"\n")
 }
 
 // Fills the memory for output with bytes that differ from place to place and from seed to seed.

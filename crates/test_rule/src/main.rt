@@ -3,97 +3,95 @@
 // lines that these are held to.
 #![tactic(auto)]
 
-ghost use Rattle.std.specs.Prelude.{◌≡◌, ◌+◌, ◌≤◌, min, length};
+ghost use Rattle.std.specs.Prelude.{◌≡◌, ◌+◌, ◌≤◌, min, length, IfOk};
 ghost use Rattle.file_bytes.specs.Numbers.{number_at};
 
 use files::rule_byte;
 use role_record::RoleFile;
 use rule_judge::Judgement;
+use std::io;
 
 // Prints a verdict with its number and its values, or a refusal.
-fn print_judgement(judgement: Judgement) {
+fn print_judgement(rt: &impl Print, judgement: Judgement) -> io::Result<()> {
     match judgement {
-        Judgement::Sound => {
-            io::write_all(1, b"verdict 0");
-        }
+        Judgement::Sound => programs::say(rt, b"verdict 0"),
         Judgement::Differ(user, resource, operation) => {
-            io::write_all(1, b"verdict 1");
-            test_lines::print_number(b" ", user);
-            test_lines::print_number(b" ", resource);
-            test_lines::print_number(b" ", operation);
+            test_lines::print_number(rt, b"verdict 1 ", user)?;
+            test_lines::print_number(rt, b" ", resource)?;
+            test_lines::print_number(rt, b" ", operation)
         }
-        Judgement::StrayRule(n) => {
-            io::write_all(1, b"verdict 2");
-            test_lines::print_number(b" ", n);
-        }
-        Judgement::StrayPart(n) => {
-            io::write_all(1, b"verdict 3");
-            test_lines::print_number(b" ", n);
-        }
-        Judgement::Refused(n) => {
-            io::write_all(1, b"refused");
-            test_lines::print_number(b" ", n);
-        }
+        Judgement::StrayRule(n) => test_lines::print_number(rt, b"verdict 2 ", n),
+        Judgement::StrayPart(n) => test_lines::print_number(rt, b"verdict 3 ", n),
+        Judgement::Refused(n) => test_lines::print_number(rt, b"refused ", n),
     }
 }
 
 // Prints the line of a role file, a rule file and a question.
-fn print_answers(file: &[u8], rules: &[u8], user: usize, resource: usize, operation: usize) {
-    print_judgement(rule_judge::judge(file, rules));
-    io::write_all(1, b", ");
-    test_lines::print_reply(rule_question::ask(file, rules, user, resource, operation));
+fn print_answers(
+    rt: &impl Print,
+    file: &[u8],
+    rules: &[u8],
+    user: usize,
+    resource: usize,
+    operation: usize,
+) -> io::Result<()> {
+    print_judgement(rt, rule_judge::judge(file, rules))?;
+    programs::say(rt, b", ")?;
+    let reply = rule_question::ask(file, rules, user, resource, operation);
+    test_lines::print_reply(rt, reply)
 }
 
 // Prints the line of the case in front, and returns how many bytes the case takes. A case is the length of its rule file (two bytes,
 // low byte first), user, resource and operation, and the rule file. One that is cut off takes what is left, and has no line.
-fn case(file: &[u8], s: &[u8]) -> usize
-    ensures { result ≡ min (5 + number_at 2 s.now 0) (length s.now) }
+fn case(rt: &impl Print, file: &[u8], s: &[u8]) -> io::Result<usize>
+    ensures { IfOk result (λ n. n ≡ min (5 + number_at 2 s.now 0) (length s.now)) }
 {
     let low = file_bytes::byte_at(s, 0);
     let high = file_bytes::byte_at(s, 1);
     let end = 5 + low + 256 * high;
     if s.len() < end {
-        return s.len();
+        return Ok(s.len());
     }
     let user = file_bytes::byte_at(s, 2);
     let resource = file_bytes::byte_at(s, 3);
     let operation = file_bytes::byte_at(s, 4);
-    print_answers(file, &s[5..end], user, resource, operation);
-    end
+    print_answers(rt, file, &s[5..end], user, resource, operation)?;
+    Ok(end)
 }
 
 // Prints the lines of that many cases with one role file, and returns how many bytes they take.
-fn cases(file: &[u8], count: usize, s: &[u8]) -> usize
-    ensures { result ≤ length s.now }
+fn cases(rt: &impl Print, file: &[u8], count: usize, s: &[u8]) -> io::Result<usize>
+    ensures { IfOk result (λ n. n ≤ length s.now) }
 {
     let mut at: usize = 0;
     for k in 0..count {
-        at = at + case(file, &s[at..]);
+        at = at + case(rt, file, &s[at..])?;
     }
-    at
+    Ok(at)
 }
 
 // Prints the lines of the cases in front that have one role file, and returns how many bytes they take. Such a group is the length of
 // the role file (two bytes, low byte first), the number of cases, the role file, and the cases.
-fn group(s: &[u8]) -> usize
-    ensures { (min 3 (length s.now) ≤ result) × (result ≤ length s.now) }
+fn group(rt: &impl Print, s: &[u8]) -> io::Result<usize>
+    ensures { IfOk result (λ n. (min 3 (length s.now) ≤ n) × (n ≤ length s.now)) }
 {
     let low = file_bytes::byte_at(s, 0);
     let high = file_bytes::byte_at(s, 1);
     let end = 3 + low + 256 * high;
     if s.len() < end {
-        return s.len();
+        return Ok(s.len());
     }
     let count = file_bytes::byte_at(s, 2);
-    end + cases(&s[3..end], count, &s[end..])
+    Ok(end + cases(rt, &s[3..end], count, &s[end..])?)
 }
 
 // The groups one after the other.
-fn groups(s: &[u8]) {
+fn groups(rt: &impl Print, s: &[u8]) -> io::Result<()> {
     let mut at: usize = 0;
     while at < s.len() {
-        at = at + group(&s[at..]);
+        at = at + group(rt, &s[at..])?;
     }
+    Ok(())
 }
 
 const SHAPE: u8 = rule_byte::SHAPE as u8;
@@ -140,23 +138,23 @@ fn many_rules() -> [u8; LENGTH + 1]
 }
 
 // Prints the lines of a long rule file: whole, a byte less and a byte more.
-fn print_long(file: &[u8], s: &[u8])
+fn print_long(rt: &impl Print, file: &[u8], s: &[u8]) -> io::Result<()>
     requires { 65539 ≡ length s.now }
 {
-    print_answers(file, &s[0..LENGTH], 0, 0, 0);
-    print_answers(file, &s[0..LAST], 0, 0, 0);
-    print_answers(file, s, 0, 0, 0);
+    print_answers(rt, file, &s[0..LENGTH], 0, 0, 0)?;
+    print_answers(rt, file, &s[0..LAST], 0, 0, 0)?;
+    print_answers(rt, file, s, 0, 0, 0)
 }
 
-fn main() {
+fn main(rt: HostRuntime) -> io::Result<()> {
     // tests/rulecases.py makes no longer corpus
     let mut corpus = [0u8; 327680];
-    let n = io::read_full(0, &mut corpus);
-    groups(&corpus[..n]);
-    let zeros = io::large_buffer();
-    print_answers(&zeros, &zeros, 0, 0, 0);
+    let n = programs::read_open(&mut rt.stdin(), &mut corpus)?;
+    groups(&rt, &corpus[..n])?;
+    let zeros = programs::roles_buffer();
+    print_answers(&rt, &zeros, &zeros, 0, 0, 0)?;
     // one user, resource, operation and role; the assignment, the permission, the end
     let file = b"\x01\x01\x01\x01\x01\x05\x00\x00\x06\x00\x00\x00\x0F";
     let rules = many_rules();
-    print_long(file, &rules);
+    print_long(&rt, file, &rules)
 }

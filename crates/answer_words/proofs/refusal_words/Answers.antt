@@ -92,5 +92,5 @@ returns-in-21 c = holds_same (ap refusal_words (sym c.in-21.is)) c.put-in-21.ens
 pub returns-in_default : goal.returns-in_default
 returns-in_default c =
     let n = c.args.n in
-    let other = c.in_default.rest in
+    let other = c.in_default.in_default-own.rest in
     holds_same (past_refusals n (λ z. above 21 (above 20 (above 19 (above 18 (above 17 (above 16 (above 15 (above 14 (above 13 (above 12 (above 11 (above 10 (above 9 (above 8 (above 7 (above 6 (above 5 (above 4 (above 3 (above 2 (above 1 (omega arith) other.0.0.0.0.0.0.0.0.0.0.0.0.0.0.0.0.0.0.0.0.1) other.0.0.0.0.0.0.0.0.0.0.0.0.0.0.0.0.0.0.0.1) other.0.0.0.0.0.0.0.0.0.0.0.0.0.0.0.0.0.0.1) other.0.0.0.0.0.0.0.0.0.0.0.0.0.0.0.0.0.1) other.0.0.0.0.0.0.0.0.0.0.0.0.0.0.0.0.1) other.0.0.0.0.0.0.0.0.0.0.0.0.0.0.0.1) other.0.0.0.0.0.0.0.0.0.0.0.0.0.0.1) other.0.0.0.0.0.0.0.0.0.0.0.0.0.1) other.0.0.0.0.0.0.0.0.0.0.0.0.1) other.0.0.0.0.0.0.0.0.0.0.0.1) other.0.0.0.0.0.0.0.0.0.0.1) other.0.0.0.0.0.0.0.0.0.1) other.0.0.0.0.0.0.0.0.1) other.0.0.0.0.0.0.0.1) other.0.0.0.0.0.0.1) other.0.0.0.0.0.1) other.0.0.0.0.1) other.0.0.0.1) other.0.0.1) other.0.1) other.1)) c.put-in_default.ensures

@@ -24,5 +24,5 @@ returns-in-3 c = holds_same (ap verdict_words (sym c.in-3.is)) c.put-in-3.ensure
 pub returns-in_default : goal.returns-in_default
 returns-in_default c =
     let n = c.args.n in
-    let other = c.in_default.rest in
+    let other = c.in_default.in_default-own.rest in
     holds_same (past_verdicts n (above 3 (above 2 (above 1 (above 0 (omega arith) other.0.0.0.1) other.0.0.1) other.0.1) other.1)) c.put-in_default.ensures

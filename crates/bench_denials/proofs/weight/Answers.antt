@@ -1,4 +1,5 @@
 -- Each arm adds up the values of its case. Assumes nothing.
+use mathlib.Core.List.{[]}
 use Rattle.std.proofs.Common.{◌≡◌, ℕ, ◌%◌, ◌^◌, ◌∷◌, refl, arith}
 use Rattle.bench_denials.specs.DenialChecksum.{plus, weight_of}
 use Rattle.sets.specs.Tests.{sum}

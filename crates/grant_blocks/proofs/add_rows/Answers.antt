@@ -17,7 +17,7 @@ loop-o-preserved c =
     let a = c.args in
     let turn = c.loop-o in
     let next : c.if-has.grid ≡ rows_so_far a.operations a.rows.now a.acts a.grid.now (turn.o + 1) =
-    elim c.if-has.branch [ then-has w ↦ w.5 ∙ rows_in a.operations a.rows.now a.acts a.grid.now turn.o turn.grid _ turn.invariant.2 (sym c.has.ensures ∙ w.0.true) w.2.ensures | else-has w ↦ rows_out a.operations a.rows.now a.acts a.grid.now turn.o turn.grid _ turn.invariant.2 (sym c.has.ensures ∙ w.0.left) w.1 ] in (
+    elim c.if-has.branch [ then-has w ↦ w.grid-is ∙ rows_in a.operations a.rows.now a.acts a.grid.now turn.o turn.grid _ turn.invariant.2 (sym c.has.ensures ∙ w.if-has.true) w.add_row.ensures | else-has w ↦ rows_out a.operations a.rows.now a.acts a.grid.now turn.o turn.grid _ turn.invariant.2 (sym c.has.ensures ∙ w.if-has.false) w.grid-is ] in (
       turn-within turn.o a.operations c.loop-o-test.true,
       rows_so_long a.operations a.rows.now a.acts a.grid.now (turn.o + 1) c.if-has.grid next,
       next,

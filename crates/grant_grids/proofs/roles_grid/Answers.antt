@@ -12,7 +12,7 @@ use Rattle.grant_grids.proofs.roles_grid.Goals as goal
 pub loop-k-init : goal.loop-k-init
 loop-k-init c =
     let a = c.args in
-    let none = roles-none a.operations a.holders.now a.permissions.now c.clear.new.0 (no_triples a.operations a.out.now c.clear.new.0 c.requires.2 c.clear.ensures) in
+    let none = roles-none a.operations a.holders.now a.permissions.now c.clear.new.out (no_triples a.operations a.out.now c.clear.new.out c.requires.2 c.clear.ensures) in
     (search rules, ap length none ∙ grid_long a.operations (granted_by a.holders.now a.permissions.now 0), none)
 
 pub loop-k-preserved : goal.loop-k-preserved

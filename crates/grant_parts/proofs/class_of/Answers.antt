@@ -15,7 +15,7 @@ loop-q-preserved c =
     let a = c.args in
     let turn = c.loop-q in (
       search rules,
-      elim c.if-permissions-q.branch [ then-permissions-q w ↦ fill_with turn.q turn.m _ (same_row a.permissions.now a.role a.o) (omega arith) turn.invariant.1 (eq-eqb _ _ w.0.true) (w.2 ∙ w.1.ensures) | else-permissions-q w ↦ fill_out turn.q turn.m _ (same_row a.permissions.now a.role a.o) turn.invariant.1 (ne_eqb _ _ w.0.left) w.1 ],
+      elim c.if-permissions-q.branch [ then-permissions-q w ↦ fill_with turn.q turn.m _ (same_row a.permissions.now a.role a.o) (omega arith) turn.invariant.1 (eq-eqb _ _ w.if-permissions-q.true) (w.m-is ∙ w.with-m.ensures) | else-permissions-q w ↦ fill_out turn.q turn.m _ (same_row a.permissions.now a.role a.o) turn.invariant.1 (ne_eqb _ _ w.if-permissions-q.false) w.m-is ],
     )
 
 pub returns : goal.returns

@@ -16,7 +16,7 @@ loop-k-preserved c =
     let a = c.args in
     let turn = c.loop-k in (
       turn-within turn.k a.roles c.loop-k-test.true,
-      elim c.if-has.branch [ then-has w ↦ fill_with turn.k turn.m _ (holding a.holders.now a.user) (omega arith) turn.invariant.1 (sym c.has.ensures ∙ w.0.true) (w.2 ∙ w.1.ensures) | else-has w ↦ fill_out turn.k turn.m _ (holding a.holders.now a.user) turn.invariant.1 (sym c.has.ensures ∙ w.0.left) w.1 ],
+      elim c.if-has.branch [ then-has w ↦ fill_with turn.k turn.m _ (holding a.holders.now a.user) (omega arith) turn.invariant.1 (sym c.has.ensures ∙ w.if-has.true) (w.m-is ∙ w.with-m.ensures) | else-has w ↦ fill_out turn.k turn.m _ (holding a.holders.now a.user) turn.invariant.1 (sym c.has.ensures ∙ w.if-has.false) w.m-is ],
     )
 
 pub returns : goal.returns

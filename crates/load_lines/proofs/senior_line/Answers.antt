@@ -1,7 +1,7 @@
 -- The line is put where the draw says so. Assumes nothing.
 use Prim.Native.Nat.{◌%◌}
 use borrow.Author.Rules.{rules}
-use mathlib.Core.List.{◌∷◌}
+use mathlib.Core.List.{[], ◌∷◌}
 use Rattle.load_lines.specs.DrawnLineLaws.{put_drawn, put_not_drawn}
 use Rattle.load_lines.proofs.senior_line.Goals as goal
 

@@ -20,16 +20,7 @@ use Rattle.rule_reading.specs.BothFiles.{GridShown}
 use Rattle.rule_reading.specs.declared.BothFiles.{BothFiles}
 use Rattle.log_denials.specs.DenialsLaws.{sizes_in, counted_by, counted_means, counted-refused, no_window, ragged, whole}
 use Rattle.log_denials.proofs.denials_in.Goals as goal
-use Rattle.log_denials.proofs.denials_in.Goals.{After-read_into-b, Else-b-ne0}
-
--- what was read answers for the log
-means : (c : After-read_into-b) (grid : List ℕ) (x : Denials)
-    → let a = c.args in GridShown (read_both 2 a.file.now a.rules.now) grid
-    → x ≡ counted_by c.read_into-b.result grid a.log.now a.window
-    → denial_numbers x ≡ told worst_values (denial_answer 2 a.file.now a.rules.now a.log.now a.window)
-means c grid x g e =
-    let a = c.args in
-    ap denial_numbers (e ∙ ap (λ (b : BothFiles). counted_by b grid a.log.now a.window) c.read_into-b.ensures.0) ∙ counted_means a.file.now a.rules.now a.log.now a.window grid g
+use Rattle.log_denials.proofs.denials_in.Goals.{Else-b-ne0}
 
 -- the sizes are within the limits
 limits : (c : Else-b-ne0) → let b = c.read_into-b.result in (b.file.users ≤ 64) × (b.file.resources ≤ 64) × (b.file.operations ≤ 16) × (b.file.roles ≤ 32)
@@ -38,15 +29,31 @@ limits c =
     both-sizes a.file.now a.rules.now c.read_into-b.result c.read_into-b.ensures.0 c.if-b-ne0.false
 
 pub returns-then-b-ne0 : goal.returns-then-b-ne0
-returns-then-b-ne0 c = means (goal.at.returns-then-b-ne0 c).After-read_into-b _ (Refused _) c.read_into-b.ensures.1 (counted-refused _ _ _ _ c.if-b-ne0.true)
+returns-then-b-ne0 c =
+    let means : (grid : List ℕ) (x : Denials)
+    → let a = c.args in GridShown (read_both 2 a.file.now a.rules.now) grid
+    → x ≡ counted_by c.read_into-b.result grid a.log.now a.window
+    → denial_numbers x ≡ told worst_values (denial_answer 2 a.file.now a.rules.now a.log.now a.window) = λ grid x g e. let a = c.args in
+    ap denial_numbers (e ∙ ap (λ (b : BothFiles). counted_by b grid a.log.now a.window) c.read_into-b.ensures.0) ∙ counted_means a.file.now a.rules.now a.log.now a.window grid g in
+    means _ (Refused _) c.read_into-b.ensures.1 (counted-refused _ _ _ _ c.if-b-ne0.true)
 
 pub returns-then-not-fits : goal.returns-then-not-fits
 returns-then-not-fits c =
-    means (goal.at.returns-then-not-fits c).After-read_into-b _ (Refused 19) c.read_into-b.ensures.1 (no_window _ _ _ _ c.if-b-ne0.false (sym c.fits2.ensures ∙ c.if-not-fits.true))
+    let means : (grid : List ℕ) (x : Denials)
+    → let a = c.args in GridShown (read_both 2 a.file.now a.rules.now) grid
+    → x ≡ counted_by c.read_into-b.result grid a.log.now a.window
+    → denial_numbers x ≡ told worst_values (denial_answer 2 a.file.now a.rules.now a.log.now a.window) = λ grid x g e. let a = c.args in
+    ap denial_numbers (e ∙ ap (λ (b : BothFiles). counted_by b grid a.log.now a.window) c.read_into-b.ensures.0) ∙ counted_means a.file.now a.rules.now a.log.now a.window grid g in
+    means _ (Refused 19) c.read_into-b.ensures.1 (no_window _ _ _ _ c.if-b-ne0.false (sym c.fits.ensures ∙ c.if-not-fits.true))
 
 pub returns-then-log-ne0 : goal.returns-then-log-ne0
 returns-then-log-ne0 c =
-    means (goal.at.returns-then-log-ne0 c).After-read_into-b _ (Refused 20) c.read_into-b.ensures.1 (ragged _ _ _ _ c.if-b-ne0.false (sym c.fits2.ensures ∙ c.if-not-fits.false) c.if-log-ne0.true)
+    let means : (grid : List ℕ) (x : Denials)
+    → let a = c.args in GridShown (read_both 2 a.file.now a.rules.now) grid
+    → x ≡ counted_by c.read_into-b.result grid a.log.now a.window
+    → denial_numbers x ≡ told worst_values (denial_answer 2 a.file.now a.rules.now a.log.now a.window) = λ grid x g e. let a = c.args in
+    ap denial_numbers (e ∙ ap (λ (b : BothFiles). counted_by b grid a.log.now a.window) c.read_into-b.ensures.0) ∙ counted_means a.file.now a.rules.now a.log.now a.window grid g in
+    means _ (Refused 20) c.read_into-b.ensures.1 (ragged _ _ _ _ c.if-b-ne0.false (sym c.fits.ensures ∙ c.if-not-fits.false) c.if-log-ne0.true)
 
 pub overflow_mul-words : goal.overflow_mul-words
 overflow_mul-words c = let few = (limits (goal.at.overflow_mul-words c).Else-b-ne0).2 in omega (arith, few)
@@ -65,9 +72,14 @@ count-requires c =
 
 pub returns : goal.returns
 returns c =
+    let means : (grid : List ℕ) (x : Denials)
+    → let a = c.args in GridShown (read_both 2 a.file.now a.rules.now) grid
+    → x ≡ counted_by c.read_into-b.result grid a.log.now a.window
+    → denial_numbers x ≡ told worst_values (denial_answer 2 a.file.now a.rules.now a.log.now a.window) = λ grid x g e. let a = c.args in
+    ap denial_numbers (e ∙ ap (λ (b : BothFiles). counted_by b grid a.log.now a.window) c.read_into-b.ensures.0) ∙ counted_means a.file.now a.rules.now a.log.now a.window grid g in
     let a = c.args in
-    let words = c.read_into-b.new.1.1.1.0 in
+    let words = c.read_into-b.new.grid in
     let n = grid_cells c.read_into-b.result.file.operations in
-    means (goal.at.returns c).After-read_into-b (take n words) c.count.result c.read_into-b.ensures.1
-    (whole c.read_into-b.result (take n words) a.log.now a.window c.if-b-ne0.false (sym c.fits2.ensures ∙ c.if-not-fits.false) c.if-log-ne0.false c.count.result
+    means (take n words) c.count.result c.read_into-b.ensures.1
+    (whole c.read_into-b.result (take n words) a.log.now a.window c.if-b-ne0.false (sym c.fits.ensures ∙ c.if-not-fits.false) c.if-log-ne0.false c.count.result
     (c.count.ensures ∙ ap (λ (g : List ℕ). counted_of (in_grid g) (sizes_in c.read_into-b.result.file) a.log.now a.window) (first-words n words)))

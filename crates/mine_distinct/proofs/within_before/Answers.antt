@@ -17,7 +17,7 @@ loop-l-preserved c =
     let turn = c.loop-l in
     let a = c.args in (
       turn-within turn.l a.number c.loop-l-test.true,
-      elim c.if-strictly_within.branch [ then-strictly_within w ↦ join_in 0 (within a.distinct.now a.place a.number) (who a.having.now a.place) turn.l turn.m _ turn.invariant.1 (sym c.strictly_within.ensures ∙ w.0.true) (w.3 ∙ w.2.ensures) | else-strictly_within w ↦ join-out 0 (within a.distinct.now a.place a.number) (who a.having.now a.place) turn.l turn.m _ turn.invariant.1 (sym c.strictly_within.ensures ∙ w.0.left) w.1 ],
+      elim c.if-strictly_within.branch [ then-strictly_within w ↦ join_in 0 (within a.distinct.now a.place a.number) (who a.having.now a.place) turn.l turn.m _ turn.invariant.1 (sym c.strictly_within.ensures ∙ w.if-strictly_within.true) (w.m-is ∙ w.union-m.ensures) | else-strictly_within w ↦ join-out 0 (within a.distinct.now a.place a.number) (who a.having.now a.place) turn.l turn.m _ turn.invariant.1 (sym c.strictly_within.ensures ∙ w.if-strictly_within.false) w.m-is ],
     )
 
 pub returns : goal.returns

@@ -15,7 +15,7 @@ level_of_group-level-requires c =
       p.0,
       p.1,
       p.2,
-      (met-first a.matches.now 0 c.Group-of.result.users c.widen.new.1.1.1.0 m.0, met-first a.matches.now 1 c.Group-of.result.resources (drop 6 c.widen.new.1.1.1.0) m.1),
+      (met-first a.matches.now 0 c.Group-of.result.users c.widen.new.met m.0, met-first a.matches.now 1 c.Group-of.result.resources (drop 6 c.widen.new.met) m.1),
     )
 
 pub pack-rest-requires : goal.pack-rest-requires

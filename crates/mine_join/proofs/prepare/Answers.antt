@@ -8,6 +8,6 @@ returns c =
     let m = c.widen.ensures 0 0 c.requires.3 in
     record {
       marks = c.requires.2;
-      group = group-first a.matches.now a.scratch.now a.c c.widen.new.1.1.1.0 c.users_at-users.ensures c.resources_at-resources.ensures m;
+      group = group-first a.matches.now a.scratch.now a.c c.widen.new.met c.users_at-users.ensures c.resources_at-resources.ensures m;
       reach = c.mark_open.ensures;
     }

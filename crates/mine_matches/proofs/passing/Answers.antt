@@ -34,7 +34,7 @@ loop-a-preserved c =
     let asks = asked g.knowing.now g.side g.members in
     let meet = meeting g.met.now g.side in (
       turn-within turn.a g.attributes c.loop-a-test.true,
-      elim c.if-within.branch [ then-within w ↦ narrow_in (everybody g.count) asks meet turn.a turn.m _ turn.invariant.1 (sym c.within.ensures ∙ w.0.true) (w.3 ∙ w.2.ensures) | else-within w ↦ narrow-out (everybody g.count) asks meet turn.a turn.m _ turn.invariant.1 (sym c.within.ensures ∙ w.0.left) w.1 ],
+      elim c.if-within.branch [ then-within w ↦ narrow_in (everybody g.count) asks meet turn.a turn.m _ turn.invariant.1 (sym c.within.ensures ∙ w.if-within.true) (w.m-is ∙ w.meet-m.ensures) | else-within w ↦ narrow-out (everybody g.count) asks meet turn.a turn.m _ turn.invariant.1 (sym c.within.ensures ∙ w.if-within.false) w.m-is ],
     )
 
 pub returns : goal.returns

@@ -15,14 +15,14 @@ use Rattle.mine_merge.proofs.merge.Goals as goal
 
 pub merge_runs-within_runs-requires : goal.merge_runs-within_runs-requires
 merge_runs-within_runs-requires c =
-    let all-filled : c.fill-parts.result ≡ all_parts c.fill-parts.new.1.0 = c.fill-parts.ensures.2 ∙ sym (c.fill-parts.ensures.4 32 (omega arith)) in
-    let stands : Stands c.fill-parts.new.0 c.fill-parts.new.1.0 = let filled = c.fill-parts.ensures in
+    let all-filled : c.fill-parts.result ≡ all_parts c.fill-parts.new.starts = c.fill-parts.ensures.2 ∙ sym (c.fill-parts.ensures.4 32 (omega arith)) in
+    let stands : Stands c.fill-parts.new.scratch c.fill-parts.new.starts = let filled = c.fill-parts.ensures in
     let a = c.args in
     let all = all-filled in
     record {
       room = omega (arith, all, filled.0, filled.1, c.requires.3);
-      begun = subst (λ (n : ℕ). Started n c.fill-parts.new.0 c.fill-parts.new.1.0) all
-          (starts-filled a.links.now a.matches.now a.knowing.now a.attributes.now a.holders.now a.permissions.now a.sizes.users a.sizes.resources a.sizes.operations c.requires.0.2 _ c.fill-parts.new.0 c.fill-parts.new.1.0 filled.2 filled.3 filled.4);
+      begun = subst (λ (n : ℕ). Started n c.fill-parts.new.scratch c.fill-parts.new.starts) all
+          (starts-filled a.links.now a.matches.now a.knowing.now a.attributes.now a.holders.now a.permissions.now a.sizes.users a.sizes.resources a.sizes.operations c.requires.0.2 _ c.fill-parts.new.scratch c.fill-parts.new.starts filled.2 filled.3 filled.4);
     } in
     let p = c.requires in
     (p.0, p.1, p.2, p.4, stands)
@@ -38,7 +38,7 @@ resolve-requires c =
 
 pub overflow_add-result : goal.overflow_add-result
 overflow_add-result c =
-    let most = heads-most c.fill-parts.new.0 in
+    let most = heads-most c.fill-parts.new.scratch in
     omega (arith, most, c.merge_within-over_all.ensures.1, c.merge_runs-within_runs.ensures.1)
 
 pub shape_of-scratch : goal.shape_of-scratch
@@ -47,18 +47,18 @@ shape_of-scratch c =
 
 pub returns : goal.returns
 returns c =
-    let all-filled : c.fill-parts.result ≡ all_parts c.fill-parts.new.1.0 = c.fill-parts.ensures.2 ∙ sym (c.fill-parts.ensures.4 32 (omega arith)) in
-    let stands : Stands c.fill-parts.new.0 c.fill-parts.new.1.0 = let filled = c.fill-parts.ensures in
+    let all-filled : c.fill-parts.result ≡ all_parts c.fill-parts.new.starts = c.fill-parts.ensures.2 ∙ sym (c.fill-parts.ensures.4 32 (omega arith)) in
+    let stands : Stands c.fill-parts.new.scratch c.fill-parts.new.starts = let filled = c.fill-parts.ensures in
     let a = c.args in
     let all = all-filled in
     record {
       room = omega (arith, all, filled.0, filled.1, c.requires.3);
-      begun = subst (λ (n : ℕ). Started n c.fill-parts.new.0 c.fill-parts.new.1.0) all
-          (starts-filled a.links.now a.matches.now a.knowing.now a.attributes.now a.holders.now a.permissions.now a.sizes.users a.sizes.resources a.sizes.operations c.requires.0.2 _ c.fill-parts.new.0 c.fill-parts.new.1.0 filled.2 filled.3 filled.4);
+      begun = subst (λ (n : ℕ). Started n c.fill-parts.new.scratch c.fill-parts.new.starts) all
+          (starts-filled a.links.now a.matches.now a.knowing.now a.attributes.now a.holders.now a.permissions.now a.sizes.users a.sizes.resources a.sizes.operations c.requires.0.2 _ c.fill-parts.new.scratch c.fill-parts.new.starts filled.2 filled.3 filled.4);
     } in
     let filled = c.fill-parts.ensures in
     let a = c.args in
-    let starts = c.fill-parts.new.1.0 in
+    let starts = c.fill-parts.new.starts in
     let all = all-filled in
     let stood = stands in
     let room = stood.room in
@@ -69,9 +69,9 @@ returns c =
         begun = started_kept stood.begun (λ i h. name-stays _ _ (c.resolve.ensures.low i (omega (arith, h, all))) ∙ c.merge_within-over_all.ensures.3 i ∙ c.merge_runs-within_runs.ensures.3 i);
       },
       λ F Z T.
-          let alone-there = subst (λ (n : ℕ). Traced F n c.fill-parts.new.0 alone) all (alone_traced F Z T _ c.fill-parts.new.0 filled.2 filled.3) in
+          let alone-there = subst (λ (n : ℕ). Traced F n c.fill-parts.new.scratch alone) all (alone_traced F Z T _ c.fill-parts.new.scratch filled.2 filled.3) in
           let L = c.merge_runs-within_runs.ensures.2 F Z (paired-tables T) alone-there in
           let S = c.merge_within-over_all.ensures.2 F Z (paired-tables T) (all_parts starts) L.groups (omega (arith, all)) L.shown in
-          last-left F a.cuts.now (all_parts starts) L (subst (λ (n : ℕ). Settled F (all_parts starts) 0 n L.groups c.merge_within-over_all.new.0 c.merge_within-over_all.result n) all S)
-          (subst (λ (n : ℕ). Resolved n c.merge_within-over_all.new.0 c.resolve.new.0) all c.resolve.ensures),
+          last-left F a.cuts.now (all_parts starts) L (subst (λ (n : ℕ). Settled F (all_parts starts) 0 n L.groups c.merge_within-over_all.new.scratch c.merge_within-over_all.result n) all S)
+          (subst (λ (n : ℕ). Resolved n c.merge_within-over_all.new.scratch c.resolve.new.scratch) all c.resolve.ensures),
     )

@@ -10,17 +10,6 @@ use Rattle.mine_search.specs.PartnerSearch.{pair_at, partner_at}
 use Rattle.mine_search.specs.PartnerSearchLaws.{partner-first, partner-later, first-later, chosen-partner, chosen-behind, Taking, taking}
 use Rattle.mine_widen.specs.MetLaws.{none-met}
 use Rattle.mine_merge.proofs.settle_head.Goals as goal
-use Rattle.mine_merge.proofs.settle_head.Goals.{Else-end-other}
-
--- the two heads in order
-taken : (c : Else-end-other) (i : ℕ) → let a = c.args in let l = c.loop-window in let other = c.first_partner-other.result in
-    i ≡ min l.seeking.head other.head → Taking a.window.end a.links.now a.matches.now a.knowing.now a.attributes.now a.sizes.users a.sizes.resources a.sizes.operations l.scratch l.seeking.head i (max l.seeking.head other.head) other.level
-taken c i e =
-    let a = c.args in
-    let l = c.loop-window in
-    let other = c.first_partner-other.result in
-    let finds = c.first_partner-other.ensures in
-    taking a.window.end a.links.now a.matches.now a.knowing.now a.attributes.now a.sizes.users a.sizes.resources a.sizes.operations l.scratch l.seeking.head i (max l.seeking.head other.head) other.level (l.invariant.4 _ _ finds).0 finds.leveled (omega (arith, c.if-end-other.false)) (omega (arith, l.invariant.1, c.requires.4)) e refl
 
 pub prepare-requires : goal.prepare-requires
 prepare-requires c =
@@ -65,9 +54,15 @@ returns-then-end-other c =
 
 pub join_found-c-requires : goal.join_found-c-requires
 join_found-c-requires c =
+    let taken : (i : ℕ) → let a = c.args in let l = c.loop-window in let other = c.first_partner-other.result in
+    i ≡ min l.seeking.head other.head → Taking a.window.end a.links.now a.matches.now a.knowing.now a.attributes.now a.sizes.users a.sizes.resources a.sizes.operations l.scratch l.seeking.head i (max l.seeking.head other.head) other.level = λ i e. let a = c.args in
+    let l = c.loop-window in
+    let other = c.first_partner-other.result in
+    let finds = c.first_partner-other.ensures in
+    taking a.window.end a.links.now a.matches.now a.knowing.now a.attributes.now a.sizes.users a.sizes.resources a.sizes.operations l.scratch l.seeking.head i (max l.seeking.head other.head) other.level (l.invariant.4 _ _ finds).0 finds.leveled (omega (arith, c.if-end-other.false)) (omega (arith, l.invariant.1, c.requires.4)) e refl in
     let l = c.loop-window in
     let p = c.requires in
-    let o = taken (goal.at.join_found-c-requires c).Else-end-other _ refl in
+    let o = taken _ refl in
     (omega (arith, l.invariant.1, p.4), omega (arith, c.if-end-other.false), omega (arith, l.invariant.0, p.5), record { order = o.order; below = o.below; low = o.low; head = o.first }, l.invariant.5)
 
 pub overflow_add-merges : goal.overflow_add-merges
@@ -77,15 +72,27 @@ overflow_add-merges c =
 
 pub loop-window-smaller : goal.loop-window-smaller
 loop-window-smaller c =
-    let fewer : let l = c.loop-window in suc (head_count c.join_found-c.new.0) ≤ head_count l.scratch = let p = c.requires in
-    let o = taken (goal.at.loop-window-smaller c).Else-end-other _ c.join_found-c.ensures.0 in
+    let taken : (i : ℕ) → let a = c.args in let l = c.loop-window in let other = c.first_partner-other.result in
+    i ≡ min l.seeking.head other.head → Taking a.window.end a.links.now a.matches.now a.knowing.now a.attributes.now a.sizes.users a.sizes.resources a.sizes.operations l.scratch l.seeking.head i (max l.seeking.head other.head) other.level = λ i e. let a = c.args in
+    let l = c.loop-window in
+    let other = c.first_partner-other.result in
+    let finds = c.first_partner-other.ensures in
+    taking a.window.end a.links.now a.matches.now a.knowing.now a.attributes.now a.sizes.users a.sizes.resources a.sizes.operations l.scratch l.seeking.head i (max l.seeking.head other.head) other.level (l.invariant.4 _ _ finds).0 finds.leveled (omega (arith, c.if-end-other.false)) (omega (arith, l.invariant.1, c.requires.4)) e refl in
+    let fewer : let l = c.loop-window in suc (head_count c.join_found-c.new.scratch) ≤ head_count l.scratch = let p = c.requires in
+    let o = taken _ c.join_found-c.ensures.0 in
     heads-fewer o.order c.join_found-c.ensures.1 o.first (omega (arith, o.below, p.5)) o.second in
     let less = fewer in omega (arith, less)
 
 pub loop-window-preserved : goal.loop-window-preserved
 loop-window-preserved c =
-    let fewer : let l = c.loop-window in suc (head_count c.join_found-c.new.0) ≤ head_count l.scratch = let p = c.requires in
-    let o = taken (goal.at.loop-window-preserved c).Else-end-other _ c.join_found-c.ensures.0 in
+    let taken : (i : ℕ) → let a = c.args in let l = c.loop-window in let other = c.first_partner-other.result in
+    i ≡ min l.seeking.head other.head → Taking a.window.end a.links.now a.matches.now a.knowing.now a.attributes.now a.sizes.users a.sizes.resources a.sizes.operations l.scratch l.seeking.head i (max l.seeking.head other.head) other.level = λ i e. let a = c.args in
+    let l = c.loop-window in
+    let other = c.first_partner-other.result in
+    let finds = c.first_partner-other.ensures in
+    taking a.window.end a.links.now a.matches.now a.knowing.now a.attributes.now a.sizes.users a.sizes.resources a.sizes.operations l.scratch l.seeking.head i (max l.seeking.head other.head) other.level (l.invariant.4 _ _ finds).0 finds.leveled (omega (arith, c.if-end-other.false)) (omega (arith, l.invariant.1, c.requires.4)) e refl in
+    let fewer : let l = c.loop-window in suc (head_count c.join_found-c.new.scratch) ≤ head_count l.scratch = let p = c.requires in
+    let o = taken _ c.join_found-c.ensures.0 in
     heads-fewer o.order c.join_found-c.ensures.1 o.first (omega (arith, o.below, p.5)) o.second in
     let a = c.args in
     let p = c.requires in
@@ -94,7 +101,7 @@ loop-window-preserved c =
     let i = c.join_found-c.result in
     let first = c.join_found-c.ensures.0 in
     let both = c.join_found-c.ensures.1 in
-    let o = taken (goal.at.loop-window-preserved c).Else-end-other i first in
+    let o = taken i first in
     let less = fewer in
     let later = first-later {f = partner_at a.links.now a.matches.now a.knowing.now a.attributes.now a.sizes.users a.sizes.resources a.sizes.operations l.scratch l.seeking.head} l.invariant.2 c.first_partner-other.ensures.first in
     let inside : a.window.first ≤ i = omega (arith, first, later, l.invariant.7, l.invariant.8) in (
@@ -103,14 +110,14 @@ loop-window-preserved c =
       omega (arith, p.3, p.4),
       omega (arith, less, l.invariant.3),
       (λ r level finds.
-          let next = partner-first a.links.now a.matches.now a.knowing.now a.attributes.now a.sizes.users a.sizes.resources a.sizes.operations c.join_found-c.new.0 i finds.first inside (omega (arith, o.order, o.below)) in (
-            chosen-partner (pair_at a.links.now a.matches.now a.knowing.now a.attributes.now a.sizes.users a.sizes.resources a.sizes.operations c.join_found-c.new.0) i next,
-            (λ F Z P parts old made S. going-turn F Z a.links.now a.matches.now a.knowing.now a.attributes.now a.sizes.users a.sizes.resources a.sizes.operations P parts a.window.first a.window.end old l.scratch c.join_found-c.new.0 (made + l.merges) (made + (l.merges + 1)) (a.start + 1) l.seeking.head other.head i (max l.seeking.head other.head) other.level r (omega arith) (omega (arith, l.invariant.1)) l.invariant.7 (omega (arith, l.invariant.1, p.4)) (omega (arith, c.if-end-other.false))
+          let next = partner-first a.links.now a.matches.now a.knowing.now a.attributes.now a.sizes.users a.sizes.resources a.sizes.operations c.join_found-c.new.scratch i finds.first inside (omega (arith, o.order, o.below)) in (
+            chosen-partner (pair_at a.links.now a.matches.now a.knowing.now a.attributes.now a.sizes.users a.sizes.resources a.sizes.operations c.join_found-c.new.scratch) i next,
+            (λ F Z P parts old made S. going-turn F Z a.links.now a.matches.now a.knowing.now a.attributes.now a.sizes.users a.sizes.resources a.sizes.operations P parts a.window.first a.window.end old l.scratch c.join_found-c.new.scratch (made + l.merges) (made + (l.merges + 1)) (a.start + 1) l.seeking.head other.head i (max l.seeking.head other.head) other.level r (omega arith) (omega (arith, l.invariant.1)) l.invariant.7 (omega (arith, l.invariant.1, p.4)) (omega (arith, c.if-end-other.false))
                 first refl o.leveled both next ((l.invariant.4 _ _ c.first_partner-other.ensures).1 F Z P parts old made S)),
           )),
       c.join_found-c.ensures.2,
       (λ n. both.names n ∙ l.invariant.6 n),
       inside,
       omega arith,
-      eq-eqb (head_in (rest_at c.join_found-c.new.0 i)) i both.head,
+      eq-eqb (head_in (rest_at c.join_found-c.new.scratch i)) i both.head,
     )

@@ -27,5 +27,5 @@ returns c =
           let of-links = c.links.ensures a.known.now (record_of F).values a.holders.now a.sizes.users a.sizes.roles d h in
           let of-matched = c.matches.ensures a.known.now (record_of F).values a.holders.now a.sizes.users a.sizes.resources a.sizes.roles p.0.0 p.0.1 c.known_places.ensures d h in
           let w = c.merge-merges.ensures.2 F Z (tables-so F a.known.now a.kinds.now a.domains.now a.attributes.now a.holders.now a.permissions.now a.distinct.now a.having.now a.sizes.users a.sizes.resources a.sizes.operations a.sizes.roles M _ _ _ of-links of-matched c.known_places.ensures) in
-          (w.0, w.1, kept-so F a.known.now a.kinds.now a.domains.now a.attributes.now a.holders.now a.permissions.now a.distinct.now a.having.now a.sizes.users a.sizes.resources a.sizes.operations a.sizes.roles M _ _ _ of-links of-matched c.known_places.ensures c.kept_places.new.1.1.1.1.1.1.1.0 c.merge-merges.new.1.0 _ c.kept_places.ensures),
+          (w.0, w.1, kept-so F a.known.now a.kinds.now a.domains.now a.attributes.now a.holders.now a.permissions.now a.distinct.now a.having.now a.sizes.users a.sizes.resources a.sizes.operations a.sizes.roles M _ _ _ of-links of-matched c.known_places.ensures c.kept_places.new.out c.merge-merges.new.starts _ c.kept_places.ensures),
     )

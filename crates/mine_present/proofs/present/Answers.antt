@@ -19,7 +19,7 @@ loop-i-preserved c =
     let turn = c.loop-i in
     let there = conjunct_at a.knowing.now a.attributes.now (words_in a.g) a.level in (
       turn-within turn.i 14 c.loop-i-test.true,
-      elim c.if-conjunct_at.branch [ then-conjunct_at w ↦ fill_with turn.i turn.m _ there (omega arith) turn.invariant.1 (sym c.conjunct_at.ensures ∙ w.0.true) (w.2 ∙ w.1.ensures) | else-conjunct_at w ↦ fill_out turn.i turn.m _ there turn.invariant.1 (sym c.conjunct_at.ensures ∙ w.0.left) w.1 ],
+      elim c.if-conjunct_at.branch [ then-conjunct_at w ↦ fill_with turn.i turn.m _ there (omega arith) turn.invariant.1 (sym c.conjunct_at.ensures ∙ w.if-conjunct_at.true) (w.m-is ∙ w.with-m.ensures) | else-conjunct_at w ↦ fill_out turn.i turn.m _ there turn.invariant.1 (sym c.conjunct_at.ensures ∙ w.if-conjunct_at.false) w.m-is ],
     )
 
 pub returns : goal.returns

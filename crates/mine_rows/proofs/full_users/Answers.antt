@@ -17,7 +17,7 @@ loop-u-preserved c =
     let turn = c.loop-u in
     let has = is_full a.rows.now (words_in a.g) in (
       turn-within turn.u 64 c.loop-u-test.true,
-      elim c.if-is_full.branch [ then-is_full w ↦ fill_with turn.u turn.m _ has (omega arith) turn.invariant.1 (sym c.is_full.ensures ∙ w.0.true) (w.2 ∙ w.1.ensures) | else-is_full w ↦ fill_out turn.u turn.m _ has turn.invariant.1 (sym c.is_full.ensures ∙ w.0.left) w.1 ],
+      elim c.if-is_full.branch [ then-is_full w ↦ fill_with turn.u turn.m _ has (omega arith) turn.invariant.1 (sym c.is_full.ensures ∙ w.if-is_full.true) (w.m-is ∙ w.with-m.ensures) | else-is_full w ↦ fill_out turn.u turn.m _ has turn.invariant.1 (sym c.is_full.ensures ∙ w.if-is_full.false) w.m-is ],
     )
 
 pub returns : goal.returns

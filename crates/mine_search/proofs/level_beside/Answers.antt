@@ -20,10 +20,10 @@ level_if_joined-requires c =
       search rules,
       search rules,
       (
-        beside_met a.matches.now 0 (users_at a.scratch.now) a.c a.k c.widen.new.1.1.1.0 c.lower-i.ensures c.higher-j.ensures
-            (subst (λ (x : ℕ). Met a.matches.now 0 (both_members (users_at a.scratch.now a.c) x) c.widen.new.1.1.1.0) c.users_at.ensures m.0),
-        beside_met a.matches.now 1 (resources_at a.scratch.now) a.c a.k (drop 6 c.widen.new.1.1.1.0) c.lower-i.ensures c.higher-j.ensures
-            (subst (λ (x : ℕ). Met a.matches.now 1 (both_members (resources_at a.scratch.now a.c) x) (drop 6 c.widen.new.1.1.1.0)) c.resources_at.ensures m.1),
+        beside_met a.matches.now 0 (users_at a.scratch.now) a.c a.k c.widen.new.met c.lower-i.ensures c.higher-j.ensures
+            (subst (λ (x : ℕ). Met a.matches.now 0 (both_members (users_at a.scratch.now a.c) x) c.widen.new.met) c.users_at.ensures m.0),
+        beside_met a.matches.now 1 (resources_at a.scratch.now) a.c a.k (drop 6 c.widen.new.met) c.lower-i.ensures c.higher-j.ensures
+            (subst (λ (x : ℕ). Met a.matches.now 1 (both_members (resources_at a.scratch.now a.c) x) (drop 6 c.widen.new.met)) c.resources_at.ensures m.1),
       ),
     )
 

@@ -31,7 +31,7 @@ loop-left-preserved c =
     let t = least_in turn.left turn.invariant.0 _ c.least.ensures c.loop-left-test.true in (
       search rules,
       c.add_member.ensures.0,
-      (λ m h. adds-turn a.matches.now a.side turn.met c.add_member.new.1.1.1.0 turn.left c.without_least-left.result (both_members m a.members) c.least.result turn.invariant.0 t.0 t.1 c.add_member.ensures.1
+      (λ m h. adds-turn a.matches.now a.side turn.met c.add_member.new.met turn.left c.without_least-left.result (both_members m a.members) c.least.result turn.invariant.0 t.0 t.1 c.add_member.ensures.1
           (c.without_least-left.ensures ∙ ap (less_one turn.left) (sym c.least.ensures)) (turn.invariant.2 m h)),
     )
 

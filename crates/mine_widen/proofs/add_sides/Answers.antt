@@ -8,6 +8,6 @@ returns c m n h =
     let a = c.args in
     let front = c.add_members.ensures in
     let back = c.add_members-2.ensures in
-    sides-met a.matches.now (both_members m a.users) (both_members n a.resources) a.met.now c.add_members.new.1.1.1.0 c.add_members-2.new.1.1.1.0 _ front.0 back.0
+    sides-met a.matches.now (both_members m a.users) (both_members n a.resources) a.met.now c.add_members.new.met c.add_members-2.new.met _ front.0 back.0
     (front.1 m (met-cut a.matches.now 0 m a.met.now h.0))
-    (back.1 n (met-behind a.matches.now n a.met.now c.add_members.new.1.1.1.0 front.0 h.1))
+    (back.1 n (met-behind a.matches.now n a.met.now c.add_members.new.met front.0 h.1))

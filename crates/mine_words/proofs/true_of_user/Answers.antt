@@ -41,10 +41,10 @@ loop-rest-preserved c =
     let t = least-atom turn.rest _ turn.invariant.1 c.least-i.ensures c.loop-rest-test.true in
     let l = less-less turn.rest (omega arith) _ t.1 in
     let e = c.without_least-rest.ensures ∙ ap (less_one turn.rest) (sym c.least-i.ensures) in (
-      elim c.if-within.branch [ then-within w ↦ with_low turn.m c.least-i.result _ (w.2 ∙ w.1.ensures) | else-within w ↦ let same = w.1 in omega arith ],
+      elim c.if-within.branch [ then-within w ↦ with_low turn.m c.least-i.result _ (w.m-is ∙ w.with-m.ensures) | else-within w ↦ let same = w.m-is in omega arith ],
       omega arith,
       ap (λ (m : ℕ). mask_of 64 (keeping (joined a.links.now a.user a.resources) c.if-within.m m)) e
-          ∙ elim c.if-within.branch [ then-within w ↦ keep_in (joined a.links.now a.user a.resources) turn.m turn.rest c.least-i.result (omega arith) t.1 _ (sym c.within.ensures ∙ w.0.true) (w.2 ∙ w.1.ensures) | else-within w ↦ keep_out (joined a.links.now a.user a.resources) turn.m turn.rest c.least-i.result (omega arith) t.1 _ (sym c.within.ensures ∙ w.0.left) w.1 ]
+          ∙ elim c.if-within.branch [ then-within w ↦ keep_in (joined a.links.now a.user a.resources) turn.m turn.rest c.least-i.result (omega arith) t.1 _ (sym c.within.ensures ∙ w.if-within.true) (w.m-is ∙ w.with-m.ensures) | else-within w ↦ keep_out (joined a.links.now a.user a.resources) turn.m turn.rest c.least-i.result (omega arith) t.1 _ (sym c.within.ensures ∙ w.if-within.false) w.m-is ]
           ∙ turn.invariant.2,
     )
 

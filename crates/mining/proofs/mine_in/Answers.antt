@@ -10,13 +10,6 @@ use Rattle.write_answer.proofs.MineLaws.{unread, bad-cuts, unread-bytes, uncut_b
 use Rattle.policy.specs.Policy.{Policy}
 use Rattle.role_file.specs.SizedLaws.{loaded_policy}
 use Rattle.mining.proofs.mine_in.Goals as goal
-use Rattle.mining.proofs.mine_in.Goals.{After-legal}
-
--- what the test of the cuts says of this policy's roles
-cuts-tested : (c : After-legal) (b : Bool) → c.legal.result ≡ b → cuts_ok c.args.cuts.now (policy c).0.roles ≡ b
-cuts-tested c b h =
-    let p = policy c in
-    cuts_so p.0 c.read-l.result.file p.3 c.args.cuts.now b (sym c.legal.ensures ∙ h)
 
 pub returns-then-l-ne0 : goal.returns-then-l-ne0
 returns-then-l-ne0 c =
@@ -26,9 +19,11 @@ returns-then-l-ne0 c =
 pub returns-then-not-legal : goal.returns-then-not-legal
 returns-then-not-legal c =
     let policy : (F : Policy) × Sized F × (read_roles 2 c.args.file.now ≡ accepted F) × (c.read-l.result.file ≡ record_of F) = loaded_policy c.args.file.now c.read-l.result c.read-l.ensures c.if-l-ne0.false in
+    let cuts-tested : (b : Bool) → c.legal.result ≡ b → cuts_ok c.args.cuts.now policy.0.roles ≡ b = λ b h. let p = policy in
+    cuts_so p.0 c.read-l.result.file p.3 c.args.cuts.now b (sym c.legal.ensures ∙ h) in
     let a = c.args in
     let p = policy in
-    let k = cuts-tested (goal.at.returns-then-not-legal c).After-legal false (c.if-not-legal.true) in
+    let k = cuts-tested false (c.if-not-legal.true) in
     (λ n h. bad-cuts a.file.now a.cuts.now n a.out.now h p.0 p.2 k, uncut_bytes a.file.now a.cuts.now p.0 p.2 k)
 
 pub mine_record-requires : goal.mine_record-requires
@@ -41,8 +36,10 @@ mine_record-requires c =
 pub returns : goal.returns
 returns c =
     let policy : (F : Policy) × Sized F × (read_roles 2 c.args.file.now ≡ accepted F) × (c.read-l.result.file ≡ record_of F) = loaded_policy c.args.file.now c.read-l.result c.read-l.ensures c.if-l-ne0.false in
+    let cuts-tested : (b : Bool) → c.legal.result ≡ b → cuts_ok c.args.cuts.now policy.0.roles ≡ b = λ b h. let p = policy in
+    cuts_so p.0 c.read-l.result.file p.3 c.args.cuts.now b (sym c.legal.ensures ∙ h) in
     let a = c.args in
     let p = policy in
-    let k = cuts-tested (goal.at.returns c).After-legal true (c.if-not-legal.false) in
+    let k = cuts-tested true (c.if-not-legal.false) in
     let s = c.mine_record.ensures p.0 p.1 (stored p.0 c.read-l.result.file p.3) in
     (λ n h. s.0 a.file.now n h p.2 k, s.1 ∙ cut-bytes a.file.now a.cuts.now p.0 p.2 k)

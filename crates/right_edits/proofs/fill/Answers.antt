@@ -26,6 +26,6 @@ fill-requires c =
 pub returns : goal.returns
 returns c =
     let a = c.args in
-    let after = c.fill.new.1.1.1.0 in
-    let p = fill_done a.t1 a.table.now c.holders.new.1.1.1.0 after (sym c.fill_refusal-code.ensures ∙ c.if-code-ne0.false) c.holders.ensures c.fill.ensures in
+    let after = c.fill.new.table in
+    let p = fill_done a.t1 a.table.now c.holders.new.out after (sym c.fill_refusal-code.ensures ∙ c.if-code-ne0.false) c.holders.ensures c.fill.ensures in
     (p.0, p.1, every_list a.t1 a.table.now after 0 p.0 p.1)

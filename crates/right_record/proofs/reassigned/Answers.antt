@@ -6,4 +6,4 @@ use Rattle.right_record.proofs.reassigned.Goals as goal
 pub returns : goal.returns
 returns c =
     let a = c.args in
-    record-stored a.f (an_edit a.gives a.role a.user) c.change_one.new.0 c.holders.new.1.1.1.0 c.change_one.ensures c.holders.ensures
+    record-stored a.f (an_edit a.gives a.role a.user) c.change_one.new.assigned c.holders.new.out c.change_one.ensures c.holders.ensures

@@ -18,7 +18,7 @@ loop-i-init c =
 pub overflow_cast-out-in-loop-i : goal.overflow_cast-out-in-loop-i
 overflow_cast-out-in-loop-i c =
     let left : ℕ = c.args.more - 1 - c.loop-i.i in
-    let back : List ℕ = c.back_words.new.1.1.1.0 in
+    let back : List ℕ = c.back_words.new.out in
     let chosen : c.least_next-x.result ≡ lowest_from (bit (next_in c.args.lines.now c.args.low (get_or back left 0) c.loop-i.x)) 0 64 = c.least_next-x.ensures in
     let word : get_or back left 0 ≡ back_word c.args.lines.now c.args.roles c.args.low left = let a = c.args in
     let m = c.requires.2 in
@@ -27,12 +27,12 @@ overflow_cast-out-in-loop-i c =
     let role : c.least_next-x.result < c.args.roles = let a = c.args in
     let r = c.requires.3 in
     let n = length-set a.out.now 0 a.low in
-    list_role a.lines.now a.roles a.low a.more c.requires.0 (set a.out.now 0 a.low) c.loop-i.out c.loop-i.i c.loop-i.x c.loop-i-test.true (omega arith) c.loop-i.inv.2 _ _ word chosen in
+    list_role a.lines.now a.roles a.low a.more c.requires.0 (set a.out.now 0 a.low) c.loop-i.out c.loop-i.i c.loop-i.x c.loop-i-test.true (omega arith) c.loop-i.invariant.2 _ _ word chosen in
     let r = role in let p = c.requires.0 in omega arith
 
 pub bounds-out-i : goal.bounds-out-i
 bounds-out-i c =
-    let l = c.loop-i.inv.2.long in
+    let l = c.loop-i.invariant.2.long in
     let r = c.requires.3 in
     let n = length-set c.args.out.now 0 c.args.low in
     let t = c.loop-i-test.true in
@@ -41,7 +41,7 @@ bounds-out-i c =
 pub loop-i-preserved : goal.loop-i-preserved
 loop-i-preserved c =
     let left : ℕ = c.args.more - 1 - c.loop-i.i in
-    let back : List ℕ = c.back_words.new.1.1.1.0 in
+    let back : List ℕ = c.back_words.new.out in
     let chosen : c.least_next-x.result ≡ lowest_from (bit (next_in c.args.lines.now c.args.low (get_or back left 0) c.loop-i.x)) 0 64 = c.least_next-x.ensures in
     let word : get_or back left 0 ≡ back_word c.args.lines.now c.args.roles c.args.low left = let a = c.args in
     let m = c.requires.2 in
@@ -50,11 +50,11 @@ loop-i-preserved c =
     let role : c.least_next-x.result < c.args.roles = let a = c.args in
     let r = c.requires.3 in
     let n = length-set a.out.now 0 a.low in
-    list_role a.lines.now a.roles a.low a.more c.requires.0 (set a.out.now 0 a.low) c.loop-i.out c.loop-i.i c.loop-i.x c.loop-i-test.true (omega arith) c.loop-i.inv.2 _ _ word chosen in
+    list_role a.lines.now a.roles a.low a.more c.requires.0 (set a.out.now 0 a.low) c.loop-i.out c.loop-i.i c.loop-i.x c.loop-i-test.true (omega arith) c.loop-i.invariant.2 _ _ word chosen in
     let next : Listing c.args.lines.now c.args.roles c.args.low c.args.more (set c.args.out.now 0 c.args.low) (set c.loop-i.out (c.loop-i.i + 1) c.least_next-x.result) (c.loop-i.i + 1) c.least_next-x.result = let a = c.args in
     let r = c.requires.3 in
     let n = length-set a.out.now 0 a.low in
-    list_on a.lines.now a.roles a.low a.more c.requires.0 (set a.out.now 0 a.low) c.loop-i.out c.loop-i.i c.loop-i.x c.loop-i-test.true (omega arith) c.loop-i.inv.2 _ _ word chosen in
+    list_on a.lines.now a.roles a.low a.more c.requires.0 (set a.out.now 0 a.low) c.loop-i.out c.loop-i.i c.loop-i.x c.loop-i-test.true (omega arith) c.loop-i.invariant.2 _ _ word chosen in
     (search rules, role, next)
 
 pub shape_of-out : goal.shape_of-out

@@ -38,5 +38,5 @@ returns-in-8 c = rw (c.in-8.is, c.byte_at-in-8-3.ensures.0, c.byte_at-in-8-2.ens
 pub returns-in_default : goal.returns-in_default
 unfolding command_by
 returns-in_default c =
-    let n = c.in_default.rest in
+    let n = c.in_default.in_default-own.rest in
     simp (ne_eqb _ _ n.1, ne_eqb _ _ n.0.1, ne_eqb _ _ n.0.0.1, ne_eqb _ _ n.0.0.0.1, ne_eqb _ _ n.0.0.0.0.1, ne_eqb _ _ n.0.0.0.0.0.1, ne_eqb _ _ n.0.0.0.0.0.0.1, ne_eqb _ _ n.0.0.0.0.0.0.0.1)

@@ -10,29 +10,34 @@ use Rattle.role_question.specs.Reply.{reply_numbers}
 use Rattle.role_question.specs.declared.Reply.{Reply}
 use Rattle.role_question.specs.declared.Reply.TheVariants.{Yes, No, Refused}
 use Rattle.role_question.proofs.ask.Goals as goal
-use Rattle.role_question.proofs.ask.Goals.{After-read-l}
-
--- what was loaded answers the question
-means : (c : After-read-l) (x : Reply) → x ≡ asked c.read-l.result c.args.user c.args.resource c.args.operation
-    → reply_numbers x ≡ told yes_no (role_question 2 c.args.file.now c.args.user c.args.resource c.args.operation)
-means c x e =
-    let a = c.args in
-    ap reply_numbers (e ∙ ap (λ (l : Loaded). asked l a.user a.resource a.operation) c.read-l.ensures) ∙ asked_means a.file.now a.user a.resource a.operation
 
 pub returns-then-l-ne0 : goal.returns-then-l-ne0
-returns-then-l-ne0 c = means (goal.at.returns-then-l-ne0 c).After-read-l (Refused _) (asked-refused _ _ _ _ c.if-l-ne0.true)
+returns-then-l-ne0 c =
+    let means : (x : Reply) → x ≡ asked c.read-l.result c.args.user c.args.resource c.args.operation
+    → reply_numbers x ≡ told yes_no (role_question 2 c.args.file.now c.args.user c.args.resource c.args.operation) = λ x e. let a = c.args in
+    ap reply_numbers (e ∙ ap (λ (l : Loaded). asked l a.user a.resource a.operation) c.read-l.ensures) ∙ asked_means a.file.now a.user a.resource a.operation in
+    means (Refused _) (asked-refused _ _ _ _ c.if-l-ne0.true)
 
 pub returns-then-f-user : goal.returns-then-f-user
 returns-then-f-user c =
-    means (goal.at.returns-then-f-user c).After-read-l (Refused 5) (sym (asked_by _ _ _ _ false _ _ _ c.if-l-ne0.false (le-ltb _ _ c.if-f-user.true) refl refl refl))
+    let means : (x : Reply) → x ≡ asked c.read-l.result c.args.user c.args.resource c.args.operation
+    → reply_numbers x ≡ told yes_no (role_question 2 c.args.file.now c.args.user c.args.resource c.args.operation) = λ x e. let a = c.args in
+    ap reply_numbers (e ∙ ap (λ (l : Loaded). asked l a.user a.resource a.operation) c.read-l.ensures) ∙ asked_means a.file.now a.user a.resource a.operation in
+    means (Refused 5) (sym (asked_by _ _ _ _ false _ _ _ c.if-l-ne0.false (le-ltb _ _ c.if-f-user.true) refl refl refl))
 
 pub returns-then-f-resource : goal.returns-then-f-resource
 returns-then-f-resource c =
-    means (goal.at.returns-then-f-resource c).After-read-l (Refused 5) (sym (asked_by _ _ _ _ true false _ _ c.if-l-ne0.false (lt-ltb _ _ c.if-f-user.false) (le-ltb _ _ c.if-f-resource.true) refl refl))
+    let means : (x : Reply) → x ≡ asked c.read-l.result c.args.user c.args.resource c.args.operation
+    → reply_numbers x ≡ told yes_no (role_question 2 c.args.file.now c.args.user c.args.resource c.args.operation) = λ x e. let a = c.args in
+    ap reply_numbers (e ∙ ap (λ (l : Loaded). asked l a.user a.resource a.operation) c.read-l.ensures) ∙ asked_means a.file.now a.user a.resource a.operation in
+    means (Refused 5) (sym (asked_by _ _ _ _ true false _ _ c.if-l-ne0.false (lt-ltb _ _ c.if-f-user.false) (le-ltb _ _ c.if-f-resource.true) refl refl))
 
 pub returns-then-f-operation : goal.returns-then-f-operation
 returns-then-f-operation c =
-    means (goal.at.returns-then-f-operation c).After-read-l (Refused 5) (sym (asked_by _ _ _ _ true true false _ c.if-l-ne0.false (lt-ltb _ _ c.if-f-user.false) (lt-ltb _ _ c.if-f-resource.false) (le-ltb _ _ c.if-f-operation.true) refl))
+    let means : (x : Reply) → x ≡ asked c.read-l.result c.args.user c.args.resource c.args.operation
+    → reply_numbers x ≡ told yes_no (role_question 2 c.args.file.now c.args.user c.args.resource c.args.operation) = λ x e. let a = c.args in
+    ap reply_numbers (e ∙ ap (λ (l : Loaded). asked l a.user a.resource a.operation) c.read-l.ensures) ∙ asked_means a.file.now a.user a.resource a.operation in
+    means (Refused 5) (sym (asked_by _ _ _ _ true true false _ c.if-l-ne0.false (lt-ltb _ _ c.if-f-user.false) (lt-ltb _ _ c.if-f-resource.false) (le-ltb _ _ c.if-f-operation.true) refl))
 
 pub granted-requires : goal.granted-requires
 granted-requires c =
@@ -41,8 +46,14 @@ granted-requires c =
 
 pub returns-then-granted : goal.returns-then-granted
 returns-then-granted c =
-    means (goal.at.returns-then-granted c).After-read-l Yes (sym (asked_by _ _ _ _ true true true true c.if-l-ne0.false (lt-ltb _ _ c.if-f-user.false) (lt-ltb _ _ c.if-f-resource.false) (lt-ltb _ _ c.if-f-operation.false) (sym c.granted.ensures ∙ c.if-granted.true)))
+    let means : (x : Reply) → x ≡ asked c.read-l.result c.args.user c.args.resource c.args.operation
+    → reply_numbers x ≡ told yes_no (role_question 2 c.args.file.now c.args.user c.args.resource c.args.operation) = λ x e. let a = c.args in
+    ap reply_numbers (e ∙ ap (λ (l : Loaded). asked l a.user a.resource a.operation) c.read-l.ensures) ∙ asked_means a.file.now a.user a.resource a.operation in
+    means Yes (sym (asked_by _ _ _ _ true true true true c.if-l-ne0.false (lt-ltb _ _ c.if-f-user.false) (lt-ltb _ _ c.if-f-resource.false) (lt-ltb _ _ c.if-f-operation.false) (sym c.granted.ensures ∙ c.if-granted.true)))
 
 pub returns : goal.returns
 returns c =
-    means (goal.at.returns c).After-read-l No (sym (asked_by _ _ _ _ true true true false c.if-l-ne0.false (lt-ltb _ _ c.if-f-user.false) (lt-ltb _ _ c.if-f-resource.false) (lt-ltb _ _ c.if-f-operation.false) (sym c.granted.ensures ∙ c.if-granted.false)))
+    let means : (x : Reply) → x ≡ asked c.read-l.result c.args.user c.args.resource c.args.operation
+    → reply_numbers x ≡ told yes_no (role_question 2 c.args.file.now c.args.user c.args.resource c.args.operation) = λ x e. let a = c.args in
+    ap reply_numbers (e ∙ ap (λ (l : Loaded). asked l a.user a.resource a.operation) c.read-l.ensures) ∙ asked_means a.file.now a.user a.resource a.operation in
+    means No (sym (asked_by _ _ _ _ true true true false c.if-l-ne0.false (lt-ltb _ _ c.if-f-user.false) (lt-ltb _ _ c.if-f-resource.false) (lt-ltb _ _ c.if-f-operation.false) (sym c.granted.ensures ∙ c.if-granted.false)))

@@ -1,4 +1,4 @@
-use mathlib.Core.List.{◌∷◌}
+use mathlib.Core.List.{[], ◌∷◌}
 use mathlib.Core.Path.{refl}
 use Rattle.rule_commands.specs.RawLaws.{taken-short, taken-whole}
 use Rattle.rule_commands.proofs.one_pair.Goals as goal

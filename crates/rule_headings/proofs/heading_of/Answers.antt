@@ -17,7 +17,7 @@ pub returns-then-not-in_rule : goal.returns-then-not-in_rule
 returns-then-not-in_rule c =
     let source : List ℕ = c.args.s.now in
     let found : c.front-l.result ≡ line_of (drop c.loop-l.at source) = c.front-l.ensures.0 ∙ ap line_of (tail c.loop-l.at source) in
-    let e = ended source _ _ c.loop-l.inv _ found (sym c.in_rule.ensures ∙ c.if-not-in_rule.true) in
+    let e = ended source _ _ c.loop-l.invariant _ found (sym c.in_rule.ensures ∙ c.if-not-in_rule.true) in
     (e, heading_level _ _ e)
 
 pub overflow_add-at : goal.overflow_add-at
@@ -25,7 +25,7 @@ overflow_add-at c =
     let source : List ℕ = c.args.s.now in
     let found : c.front-l.result ≡ line_of (drop c.loop-l.at source) = c.front-l.ensures.0 ∙ ap line_of (tail c.loop-l.at source) in
     let inside : in_rule c.front-l.result.byte ≡ true = sym c.in_rule.ensures ∙ c.if-not-in_rule.false in
-    let bytes : (0 < c.front-l.result.width) × (c.loop-l.at + c.front-l.result.width ≤ length source) = taken source _ _ c.loop-l.inv _ found inside in
+    let bytes : (0 < c.front-l.result.width) × (c.loop-l.at + c.front-l.result.width ≤ length source) = taken source _ _ c.loop-l.invariant _ found inside in
     let t = bytes in omega (arith, t.0, t.1, c.well-formed)
 
 pub loop-l-smaller : goal.loop-l-smaller
@@ -33,7 +33,7 @@ loop-l-smaller c =
     let source : List ℕ = c.args.s.now in
     let found : c.front-l.result ≡ line_of (drop c.loop-l.at source) = c.front-l.ensures.0 ∙ ap line_of (tail c.loop-l.at source) in
     let inside : in_rule c.front-l.result.byte ≡ true = sym c.in_rule.ensures ∙ c.if-not-in_rule.false in
-    let bytes : (0 < c.front-l.result.width) × (c.loop-l.at + c.front-l.result.width ≤ length source) = taken source _ _ c.loop-l.inv _ found inside in
+    let bytes : (0 < c.front-l.result.width) × (c.loop-l.at + c.front-l.result.width ≤ length source) = taken source _ _ c.loop-l.invariant _ found inside in
     let t = bytes in omega (arith, t.0, t.1)
 
 pub loop-l-preserved : goal.loop-l-preserved
@@ -41,4 +41,4 @@ loop-l-preserved c =
     let source : List ℕ = c.args.s.now in
     let found : c.front-l.result ≡ line_of (drop c.loop-l.at source) = c.front-l.ensures.0 ∙ ap line_of (tail c.loop-l.at source) in
     let inside : in_rule c.front-l.result.byte ≡ true = sym c.in_rule.ensures ∙ c.if-not-in_rule.false in
-    one_more_lem source _ _ c.loop-l.inv _ found inside _ c.note-h.ensures
+    one_more_lem source _ _ c.loop-l.invariant _ found inside _ c.note-h.ensures

@@ -28,5 +28,5 @@ returns c =
     let low = c.least-lead in
     let has = c.has in (
       seen_by a.seen.now a.role a.class low.result c.with-2.result low.ensures c.with-2.ensures,
-      elim c.if-has.branch [ then-has w ↦ w.3 ∙ again_by a.seen.now a.again.now a.role a.class low.result w.2.result low.ensures (sym has.ensures ∙ w.0.true) w.2.ensures | else-has w ↦ w.1 ∙ again_kept a.seen.now a.again.now a.role a.class low.result low.ensures (sym has.ensures ∙ w.0.left) ],
+      elim c.if-has.branch [ then-has w ↦ w.again-is ∙ again_by a.seen.now a.again.now a.role a.class low.result w.with.result low.ensures (sym has.ensures ∙ w.if-has.true) w.with.ensures | else-has w ↦ w.again-is ∙ again_kept a.seen.now a.again.now a.role a.class low.result low.ensures (sym has.ensures ∙ w.if-has.false) ],
     )

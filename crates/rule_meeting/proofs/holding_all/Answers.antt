@@ -20,7 +20,7 @@ loop-k-preserved c =
     let a = c.args in
     let turn = c.loop-k in (
       turn-within turn.k a.roles c.loop-k-test.true,
-      elim c.if-has.branch [ then-has w ↦ narrow_in (mask_of 64 (λ x. ltb x a.users)) (bit a.v) (λ j. get_or a.holders.now j 0) turn.k turn.m _ turn.invariant.1 (sym c.has.ensures ∙ w.0.true) (w.3 ∙ w.2.ensures) | else-has w ↦ narrow-out (mask_of 64 (λ x. ltb x a.users)) (bit a.v) (λ j. get_or a.holders.now j 0) turn.k turn.m _ turn.invariant.1 (sym c.has.ensures ∙ w.0.left) w.1 ],
+      elim c.if-has.branch [ then-has w ↦ narrow_in (mask_of 64 (λ x. ltb x a.users)) (bit a.v) (λ j. get_or a.holders.now j 0) turn.k turn.m _ turn.invariant.1 (sym c.has.ensures ∙ w.if-has.true) (w.m-is ∙ w.meet-m.ensures) | else-has w ↦ narrow-out (mask_of 64 (λ x. ltb x a.users)) (bit a.v) (λ j. get_or a.holders.now j 0) turn.k turn.m _ turn.invariant.1 (sym c.has.ensures ∙ w.if-has.false) w.m-is ],
     )
 
 pub returns : goal.returns

@@ -31,5 +31,5 @@ returns-in-41 c = at_level _ _ _ _ _ _ _ _ _ _ _ c.in-41.is
 
 pub returns-in_default : goal.returns-in_default
 returns-in_default c =
-    let n = c.in_default.rest in
+    let n = c.in_default.in_default-own.rest in
     at_rest _ _ _ _ _ _ _ _ _ _ _ n.0.0.0.0.0.0.0.0.1 n.0.0.0.0.0.0.0.1 n.0.0.0.0.0.0.1 n.0.0.0.0.0.1 n.0.0.0.0.1 n.0.0.0.1 n.0.0.1 n.0.1 n.1

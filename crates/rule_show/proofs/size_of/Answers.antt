@@ -34,7 +34,7 @@ returns-in-41 c = (of 0x29 c.in-41.is, omega arith)
 
 pub returns-in_default : goal.returns-in_default
 returns-in_default c =
-    let other = c.in_default.rest in
+    let other = c.in_default.in_default-own.rest in
     let bare = other.0.0.0.0.0.0.1 in
     let pairs = other.0.0.0.0.0.1 in
     let words = other.0.0.0.0.1 in (

@@ -1,7 +1,7 @@
 -- Assumes nothing.
 use lib.ListN.{length-set, get_or}
 use lib.Seq.{sets-eq}
-use mathlib.Core.List.{◌∷◌}
+use mathlib.Core.List.{[], ◌∷◌}
 use native.Mathlib.Omega.{arith}
 use Rattle.write_shape.proofs.put_shape.Goals as goal
 

@@ -33,7 +33,7 @@ pub loop-k-preserved : goal.loop-k-preserved
 loop-k-preserved c =
     let turn = c.loop-k in (
       turn-within turn.k 64 c.loop-k-test.true,
-      elim c.if-is_listed.branch [ then-is_listed w ↦ passed_in _ _ turn.n turn.elements turn.k _ _ turn.invariant.1 (sym c.is_listed.ensures ∙ w.0.true) w.3 (w.4 ∙ ap (λ x. turn.elements + x) w.2.ensures) | else-is_listed w ↦ passed-out _ _ turn.n turn.elements turn.k _ _ turn.invariant.1 (sym c.is_listed.ensures ∙ w.0.left) w.1 w.2 ],
+      elim c.if-is_listed.branch [ then-is_listed w ↦ passed_in _ _ turn.n turn.elements turn.k _ _ turn.invariant.1 (sym c.is_listed.ensures ∙ w.if-is_listed.true) w.n-is (w.elements-is ∙ ap (λ x. turn.elements + x) w.count-elements.ensures) | else-is_listed w ↦ passed-out _ _ turn.n turn.elements turn.k _ _ turn.invariant.1 (sym c.is_listed.ensures ∙ w.if-is_listed.false) w.n-is w.elements-is ],
     )
 
 pub returns-then-set : goal.returns-then-set
