@@ -239,7 +239,7 @@ judged_means P R rules a b p q = difference_means P (roles_grant P R) (rules_gra
 
 -- ---- grids without a difference stand for the same triples
 
-first_out : {T : Type 0} (f : T → Bool) {l : List T} → first f l ≡ none → {x : T} → x is_in l → f x ≡ false
+first_out : {T : Type 0} (f : T → Bool) {x : T} {l : List T} → first f l ≡ none → x is_in l → f x ≡ false
 first_out f h (Memᴰ.head {x = y} {xs = ys} e) = ap f e ∙ fails (f y) (λ k. some_not_none (rw k at h))
 first_out f h (Memᴰ.tail {x = y} {xs = ys} m) = first_out f (past (f y) h) m
   where

@@ -164,10 +164,10 @@ module _ (P S : Setting) (π : Renumbering (P.side user).count) (A : SettingAs P
     unfolding mergeable
     mergeable-same = fun_ext λ g. fun_ext λ k.
         ap₂ (λ (f : ℕ → Bool) (n : ℕ). any f (up_to (suc n)))
-            (fits-same (union P block (g ++ k)) (union S other (g ++ k)) (union-same (g ++ k)))
-            (ap₂ (λ (m n : ℕ). max m n)
-                (level-same (union P block g) (union S other g) (union-same g))
-                (level-same (union P block k) (union S other k) (union-same k)))
+        (fits-same (union P block (g ++ k)) (union S other (g ++ k)) (union-same (g ++ k)))
+        (ap₂ (λ (m n : ℕ). max m n)
+        (level-same (union P block g) (union S other g) (union-same g))
+        (level-same (union P block k) (union S other k) (union-same k)))
 
   -- ---- thinning
 
@@ -289,8 +289,8 @@ module _ (P S : Setting) (π : Renumbering (P.side user).count) (A : SettingAs P
   unfolding segments
   segments-same = fun_ext λ cuts.
       ap₂ (λ (n : ℕ) (part : ℕ → Part).
-          map (λ j. map (λ p. p ∷ []) (keep (λ p. eqb (run_of cuts (part p).role) j) (up_to n))) (up_to (suc (length cuts))))
-          count_same at_same
+      map (λ j. map (λ p. p ∷ []) (keep (λ p. eqb (run_of cuts (part p).role) j) (up_to n))) (up_to (suc (length cuts))))
+      count_same at_same
 
   merges-same : mergeable S (part_block S T) ≡ mergeable P (part_block P R)
   merges-same = mergeable-same P S π A (part_block P R) (part_block S T) numbered-same

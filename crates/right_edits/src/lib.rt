@@ -14,7 +14,7 @@ use role_record::{RoleFile, Sizes};
 
 // 0 and the record with the edit, or the number of the refusal and the record as it was.
 #[repr(C)]
-#[derive(Drop)]
+#[derive(Clone, Copy)]
 pub struct Edited {
     pub code: usize,
     pub file: RoleFile,

@@ -16,7 +16,7 @@ use role_record::{
 
 // A role file read: 0 and the record, or the number of the refusal and the empty record.
 #[repr(C)]
-#[derive(Drop)]
+#[derive(Clone, Copy)]
 pub struct Loaded {
     pub code: usize,
     pub file: RoleFile,

@@ -6,7 +6,7 @@ ghost use Rattle.role_record.specs.Record.{table_of, empty_record, same_domain};
 
 // Its numbers stand one behind the other, as C has them: the record is handed over by value. Any numbers may stand there.
 #[repr(C)]
-#[derive(Drop)]
+#[derive(Clone, Copy)]
 pub struct RoleFile {
     pub users: usize,
     pub resources: usize,

@@ -384,7 +384,7 @@ module _ (F : Policy) (Z : Sized F) (s : List ℕ) (k : Tally) (met listed grid 
       pub record OfRule : Type 0 where
         pub low : 0x22 ≤ b
         pub high : b ≤ 0x29
-        pub goes_on_lem : ends_file (command_of b x y) ≡ false
+        pub goes_on : ends_file (command_of b x y) ≡ false
         pub adds : obey_rule (beside_of F) t.reading (command_of b x y) ≡ add_line (beside_of F) t.reading (command_of b x y)
 
       of-rule : (b ≡ 0x20 → ⊥) → OfRule
@@ -394,7 +394,7 @@ module _ (F : Policy) (Z : Sized F) (s : List ℕ) (k : Tally) (met listed grid 
           go (reshaping p) = absurd (other p)
           go (opening p q) = absurd (false≢true (sym n ∙ or_l (eqb b 0x2F) (eq-eqb b 0x21 p)))
           go (ending p q) = absurd (false≢true (sym n ∙ or_r (eqb b 0x21) (eq-eqb b 0x2F p)))
-          go (lining p q u v) = record { low = p; high = q; goes_on_lem = u; adds = v (beside_of F) t.reading }
+          go (lining p q u v) = record { low = p; high = q; goes_on = u; adds = v (beside_of F) t.reading }
 
       follows_is : (b ≡ 0x20 → ⊥) → (ls : Lines) → t.reading.current ≡ some ls → follows_with k b x y ≡ follows ls (command_of b x y)
       follows_is other ls q = follows_means F Z t.reading.complete ls k met listed grid seen again (shows-lines (some ls) q) b x y (inside_is (some ls) q) (front.shape other) (of-rule other).low (of-rule other).high

@@ -14,7 +14,7 @@ use rule_operands::Checked;
 // Both files read: 0, the record of the role file, how many rules there are, whether some rule grants other than its parts and which is the
 // first of them, and by role the lowest operations of the parts that the rules list, once or more and more than once; or the number of the
 // refusal and nothing else. What the rules grant together stands in a grid that the caller lends.
-#[derive(Drop)]
+#[derive(Clone, Copy)]
 pub struct BothFiles {
     pub code: usize,
     pub file: RoleFile,

@@ -54,7 +54,7 @@ pub struct Attempt {
 }
 
 // What merging leaves: how many merges were made, the places that the rule of each group keeps, and where the parts of each role stand.
-#[derive(Drop)]
+#[derive(Clone, Copy)]
 pub struct Merging {
     pub made: usize,
     pub kept: ByPart,

@@ -9,8 +9,8 @@ use Rattle.answers.proofs.store_mined.Goals as goal
 
 pub bounds-counts-4 : goal.bounds-counts-4
 bounds-counts-4 c =
-    let v = c.mined-in-Written-1.given.0 in
-    let same = put_long zero (v.0 ∷ v.1.0 ∷ v.1.1.0 ∷ v.1.1.1.0 ∷ []) c.args.counts.now in
+    let v = c.in-Written in
+    let same = put_long zero (v.length ∷ v.parts ∷ v.rules ∷ v.merges ∷ []) c.args.counts.now in
     omega (arith, same)
 
 pub returns-in-Written : goal.returns-in-Written

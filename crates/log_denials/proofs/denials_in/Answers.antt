@@ -44,7 +44,7 @@ returns-then-not-fits c =
     → x ≡ counted_by c.read_into-b.result grid a.log.now a.window
     → denial_numbers x ≡ told worst_values (denial_answer 2 a.file.now a.rules.now a.log.now a.window) = λ grid x g e. let a = c.args in
     ap denial_numbers (e ∙ ap (λ (b : BothFiles). counted_by b grid a.log.now a.window) c.read_into-b.ensures.0) ∙ counted_means a.file.now a.rules.now a.log.now a.window grid g in
-    means _ (Refused 19) c.read_into-b.ensures.1 (no_window _ _ _ _ c.if-b-ne0.false (sym c.fits2.ensures ∙ c.if-not-fits.true))
+    means _ (Refused 19) c.read_into-b.ensures.1 (no_window _ _ _ _ c.if-b-ne0.false (sym c.fits.ensures ∙ c.if-not-fits.true))
 
 pub returns-then-log-ne0 : goal.returns-then-log-ne0
 returns-then-log-ne0 c =
@@ -53,7 +53,7 @@ returns-then-log-ne0 c =
     → x ≡ counted_by c.read_into-b.result grid a.log.now a.window
     → denial_numbers x ≡ told worst_values (denial_answer 2 a.file.now a.rules.now a.log.now a.window) = λ grid x g e. let a = c.args in
     ap denial_numbers (e ∙ ap (λ (b : BothFiles). counted_by b grid a.log.now a.window) c.read_into-b.ensures.0) ∙ counted_means a.file.now a.rules.now a.log.now a.window grid g in
-    means _ (Refused 20) c.read_into-b.ensures.1 (ragged _ _ _ _ c.if-b-ne0.false (sym c.fits2.ensures ∙ c.if-not-fits.false) c.if-log-ne0.true)
+    means _ (Refused 20) c.read_into-b.ensures.1 (ragged _ _ _ _ c.if-b-ne0.false (sym c.fits.ensures ∙ c.if-not-fits.false) c.if-log-ne0.true)
 
 pub overflow_mul-words : goal.overflow_mul-words
 overflow_mul-words c = let few = (limits (goal.at.overflow_mul-words c).Else-b-ne0).2 in omega (arith, few)
@@ -81,5 +81,5 @@ returns c =
     let words = c.read_into-b.new.grid in
     let n = grid_cells c.read_into-b.result.file.operations in
     means (take n words) c.count.result c.read_into-b.ensures.1
-    (whole c.read_into-b.result (take n words) a.log.now a.window c.if-b-ne0.false (sym c.fits2.ensures ∙ c.if-not-fits.false) c.if-log-ne0.false c.count.result
+    (whole c.read_into-b.result (take n words) a.log.now a.window c.if-b-ne0.false (sym c.fits.ensures ∙ c.if-not-fits.false) c.if-log-ne0.false c.count.result
     (c.count.ensures ∙ ap (λ (g : List ℕ). counted_of (in_grid g) (sizes_in c.read_into-b.result.file) a.log.now a.window) (first-words n words)))

@@ -61,7 +61,7 @@ overflow_sub-counted c =
 
 pub loop-i-preserved : goal.loop-i-preserved
 loop-i-preserved c =
-    let first = c.start_of_lem.ensures in (
+    let first = c.start_of-first.ensures in (
       turn-within c.loop-i.i _ c.loop-i-test.true,
       seen (goal.at.loop-i-preserved c).Else-not-within,
       elim c.if-most-counted.branch [ then-most-counted w ↦ so _ _ _ _ _ _ _ _ w.most-is (w.start-is ∙ first) (worse _ _ _ _ _ _ c.loop-i.invariant.2 _ (counts (goal.at.loop-i-preserved c).After-leaving-counted) w.if-most-counted.true) | else-most-counted w ↦ so _ _ _ _ _ _ _ _ w.most-is w.start-is (no_worse _ _ _ _ _ _ c.loop-i.invariant.2 _ (counts (goal.at.loop-i-preserved c).After-leaving-counted) w.if-most-counted.false) ],

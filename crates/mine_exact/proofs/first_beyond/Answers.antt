@@ -1,5 +1,4 @@
 use borrow.Author.Rules.{rules}
-use borrow.Author.Tests.{not-true}
 use mathlib.Core.Path.{sym, ◌∙◌}
 use native.Mathlib.Omega.{arith}
 use Rattle.grant_grids.proofs.GridLaws.{no_users, no_resources, no_operations, operation-passed, resource-passed, user-passed}
@@ -18,7 +17,7 @@ loop-u-preserved-then-not-has c =
     let a = c.args in (
       turn-within c.loop-u.u a.sizes.users c.loop-u-test.true,
       user-skipped a.links.now (words_in a.g) (words_in a.h) a.who a.what a.among a.sizes.users a.sizes.resources a.sizes.operations c.loop-u.u c.requires.0.1 (omega (arith, c.requires.0.2)) c.loop-u-test.true
-          c.requires.1 (sym c.has.ensures ∙ not-true c.has.result c.if-not-has.true) c.loop-u.invariant.1,
+          c.requires.1 (sym c.has.ensures ∙ c.if-not-has.true) c.loop-u.invariant.1,
     )
 
 pub loop-u-preserved-then-agree : goal.loop-u-preserved-then-agree

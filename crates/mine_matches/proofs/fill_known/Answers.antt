@@ -15,7 +15,7 @@ loop-i-preserved c =
     let turn = c.loop-i in (
       search rules,
       search rules,
-      store_next turn.out turn.i c.known_at_lem.result (known_for a.users a.resources a.known.now) turn.invariant.2 c.known_at_lem.ensures (omega arith),
+      store_next turn.out turn.i c.known_at.result (known_for a.users a.resources a.known.now) turn.invariant.2 c.known_at.ensures (omega arith),
     )
 
 pub returns : goal.returns

@@ -25,23 +25,16 @@ by_tests : (set : Bool) (side a x : ℕ) (n : Sizes) (attributes kinds known : L
 unfolding value_code
 by_tests set side a x n attributes kinds known b1 b2 b3 b4 h p q r s = rw (h, p, q, r, s) refl
 
--- at the last tests: what is known of those before
-module _ (c : tie.After-differ) where
-  abbrev start : tie.Start
-  start = c.before.before.before.before.before.before.before.before
-
-  size-there : ltb start.args.who (size_of start.args.side start.args.sizes) ≡ true
-  size-there = ap (ltb start.args.who) (sym c.before.before.before.before.type_size.ensures) ∙ lt-ltb _ _ c.before.before.before.if3.false
-
-  verdict : (b3 b4 : Bool) → not (iff (bit (get_or start.args.kinds.now start.args.side 0) start.args.attribute) start.args.set) ≡ not b3
-      → bit (get_or start.args.known.now (6 * start.args.side + start.args.attribute) 0) start.args.who ≡ b4
-      → value_code start.args.set start.args.side start.args.attribute start.args.who start.args.sizes start.args.attributes.now start.args.kinds.now start.args.known.now ≡ cond b3 (cond b4 6 0) 6
-  verdict b3 b4 r s =
-      by_tests start.args.set start.args.side start.args.attribute start.args.who start.args.sizes start.args.attributes.now start.args.kinds.now start.args.known.now true true b3 b4
-      (lt-ltb _ _ c.before.before.before.before.before.before.before.if1.false) (lt-ltb _ _ c.before.before.before.before.before.if2.false) size-there (not_same _ b3 r) s
-
-  kind-differs : c.differ.result ≡ not (iff (bit (get_or start.args.kinds.now start.args.side 0) start.args.attribute) start.args.set)
-  kind-differs = c.differ.ensures ∙ ap (λ (b : Bool). not (iff b start.args.set)) c.before.has.ensures
+-- the verdict of the last two tests, by what is known of those before
+verdict : (set : Bool) (side a x : ℕ) (n : Sizes) (attributes kinds known : List ℕ) (size : ℕ) (has differs b3 b4 : Bool)
+    → side < 2 → a < get_or attributes side 0 → size ≡ size_of side n → x < size
+    → has ≡ bit (get_or kinds side 0) a → differs ≡ not (iff has set) → differs ≡ not b3
+    → bit (get_or known (6 * side + a) 0) x ≡ b4
+    → value_code set side a x n attributes kinds known ≡ cond b3 (cond b4 6 0) 6
+verdict set side a x n attributes kinds known size has differs b3 b4 h p z q k d r s =
+    by_tests set side a x n attributes kinds known true true b3 b4
+    (lt-ltb _ _ h) (lt-ltb _ _ p) (ap (ltb x) (sym z) ∙ lt-ltb _ _ q)
+    (not_same _ b3 (ap (λ (b : Bool). not (iff b set)) (sym k) ∙ sym d ∙ r)) s
 
 pub returns-then-side-ge-SIDES : goal.returns-then-side-ge-SIDES
 unfolding value_code
@@ -54,10 +47,12 @@ returns-then-attributes-side c = simp (lt-ltb _ _ c.if-side-ge-SIDES.false, le-l
 pub returns-then-size_of-who : goal.returns-then-size_of-who
 unfolding value_code
 returns-then-size_of-who c =
-    rw (← c.type_size.ensures) (simp (lt-ltb _ _ c.if-side-ge-SIDES.false, lt-ltb _ _ c.if-attributes-side.false, le-ltb _ _ c.if-size_of-who.true))
+    rw (← c.size_of.ensures) (simp (lt-ltb _ _ c.if-side-ge-SIDES.false, lt-ltb _ _ c.if-attributes-side.false, le-ltb _ _ c.if-size_of-who.true))
 
 pub returns-then-differ : goal.returns-then-differ
-returns-then-differ c = sym (verdict c false _ (sym (kind-differs c) ∙ c.if-differ.true) refl)
+returns-then-differ c =
+    let a = c.args in
+    sym (verdict a.set a.side a.attribute a.who a.sizes a.attributes.now a.kinds.now a.known.now _ _ _ false _ c.if-side-ge-SIDES.false c.if-attributes-side.false c.size_of.ensures c.if-size_of-who.false c.has.ensures c.differ.ensures c.if-differ.true refl)
 
 pub overflow_add-column : goal.overflow_add-column
 overflow_add-column c =
@@ -75,7 +70,11 @@ bounds-known-column c =
     omega (arith, c.if-attributes-side.false, c.if-side-ge-SIDES.false)
 
 pub returns-then-has : goal.returns-then-has
-returns-then-has c = sym (verdict c true true (sym (kind-differs c) ∙ c.if-differ.false) (sym c.has-2.ensures ∙ c.if-has.true))
+returns-then-has c =
+    let a = c.args in
+    sym (verdict a.set a.side a.attribute a.who a.sizes a.attributes.now a.kinds.now a.known.now _ _ _ true true c.if-side-ge-SIDES.false c.if-attributes-side.false c.size_of.ensures c.if-size_of-who.false c.has.ensures c.differ.ensures c.if-differ.false (sym c.has-2.ensures ∙ c.if-has.true))
 
 pub returns : goal.returns
-returns c = sym (verdict c true false (sym (kind-differs c) ∙ c.if-differ.false) (sym c.has-2.ensures ∙ c.if-has.false))
+returns c =
+    let a = c.args in
+    sym (verdict a.set a.side a.attribute a.who a.sizes a.attributes.now a.kinds.now a.known.now _ _ _ true false c.if-side-ge-SIDES.false c.if-attributes-side.false c.size_of.ensures c.if-size_of-who.false c.has.ensures c.differ.ensures c.if-differ.false (sym c.has-2.ensures ∙ c.if-has.false))

@@ -5,10 +5,6 @@ use native.Mathlib.Omega.{arith}
 use Rattle.files.proofs.BytesLaws.{Bytes, bytes-all}
 use Rattle.role_circle.specs.CircledLaws.{Faulty, circle_none, circle_other, faulty, circle_more, circle_low, circle_leads, circle_lacks, circle_fits}
 use Rattle.role_circle.proofs.circle.Goals as goal
-use Rattle.role_circle.proofs.circle.Goals.{After-lines-2-1}
-
-abbrev former : After-lines-2-1 → List ℕ
-former k = (reading k).before.before.before.args.out.now
 
 pub returns-then-code-eq0 : goal.returns-then-code-eq0
 returns-then-code-eq0 c =
@@ -24,29 +20,29 @@ returns-then-code-ne-OWN_SENIOR c =
 
 pub shortest-c-requires : goal.shortest-c-requires
 shortest-c-requires c =
-    let lines : List ℕ = c.lines2.new.1.0 in
+    let lines : List ℕ = c.lines-roles.new.out in
     let bytes : Bytes c.args.file.now = bytes-all c.args.file.now (λ i. let b = (c.shared_slice_known-1.given i).fits in omega (arith, b)) in
-    let source : List ℕ = (reading c).before.before.before.args.file.now in
+    let source : List ℕ = c.args.file.now in
     let faults : Faulty source lines c.lines-roles.result = faulty source bytes c.read-l.result c.read-l.ensures c.if-code-ne-OWN_SENIOR.false lines c.lines-roles.result c.lines-roles.ensures in
     faults.few
 
 pub returns-then-out-c : goal.returns-then-out-c
 returns-then-out-c c =
-    let more : ℕ = c.shortest.result.more in
-    let lines : List ℕ = c.lines2.new.1.0 in
-    let low : ℕ = c.shortest.result.low in
+    let more : ℕ = c.shortest-c.result.more in
+    let lines : List ℕ = c.lines-roles.new.out in
+    let low : ℕ = c.shortest-c.result.low in
     let bytes : Bytes c.args.file.now = bytes-all c.args.file.now (λ i. let b = (c.shared_slice_known-1.given i).fits in omega (arith, b)) in
-    let source : List ℕ = (reading c).before.before.before.args.file.now in
+    let source : List ℕ = c.args.file.now in
     let faults : Faulty source lines c.lines-roles.result = faulty source bytes c.read-l.result c.read-l.ensures c.if-code-ne-OWN_SENIOR.false lines c.lines-roles.result c.lines-roles.ensures in
-    circle_lacks source lines c.lines-roles.result low more faults c.shortest-c.ensures (former (goal.at.returns-then-out-c c).After-lines-2-1) bytes c.if-out-c.true
+    circle_lacks source lines c.lines-roles.result low more faults c.shortest-c.ensures c.args.out.now bytes c.if-out-c.true
 
 pub write-requires : goal.write-requires
 write-requires c =
-    let more : ℕ = c.shortest.result.more in
-    let lines : List ℕ = c.lines2.new.1.0 in
-    let low : ℕ = c.shortest.result.low in
+    let more : ℕ = c.shortest-c.result.more in
+    let lines : List ℕ = c.lines-roles.new.out in
+    let low : ℕ = c.shortest-c.result.low in
     let bytes : Bytes c.args.file.now = bytes-all c.args.file.now (λ i. let b = (c.shared_slice_known-1.given i).fits in omega (arith, b)) in
-    let source : List ℕ = (reading c).before.before.before.args.file.now in
+    let source : List ℕ = c.args.file.now in
     let faults : Faulty source lines c.lines-roles.result = faulty source bytes c.read-l.result c.read-l.ensures c.if-code-ne-OWN_SENIOR.false lines c.lines-roles.result c.lines-roles.ensures in
     let many : more < c.lines-roles.result = circle_more source lines c.lines-roles.result low more faults c.shortest-c.ensures in
     (
@@ -59,11 +55,11 @@ write-requires c =
 
 pub overflow_add-result : goal.overflow_add-result
 overflow_add-result c =
-    let more : ℕ = c.shortest.result.more in
-    let lines : List ℕ = c.lines2.new.1.0 in
-    let low : ℕ = c.shortest.result.low in
+    let more : ℕ = c.shortest-c.result.more in
+    let lines : List ℕ = c.lines-roles.new.out in
+    let low : ℕ = c.shortest-c.result.low in
     let bytes : Bytes c.args.file.now = bytes-all c.args.file.now (λ i. let b = (c.shared_slice_known-1.given i).fits in omega (arith, b)) in
-    let source : List ℕ = (reading c).before.before.before.args.file.now in
+    let source : List ℕ = c.args.file.now in
     let faults : Faulty source lines c.lines-roles.result = faulty source bytes c.read-l.result c.read-l.ensures c.if-code-ne-OWN_SENIOR.false lines c.lines-roles.result c.lines-roles.ensures in
     let many : more < c.lines-roles.result = circle_more source lines c.lines-roles.result low more faults c.shortest-c.ensures in
     let l = faults.few in
@@ -72,10 +68,10 @@ overflow_add-result c =
 
 pub returns : goal.returns
 returns c =
-    let more : ℕ = c.shortest.result.more in
-    let lines : List ℕ = c.lines2.new.1.0 in
-    let low : ℕ = c.shortest.result.low in
+    let more : ℕ = c.shortest-c.result.more in
+    let lines : List ℕ = c.lines-roles.new.out in
+    let low : ℕ = c.shortest-c.result.low in
     let bytes : Bytes c.args.file.now = bytes-all c.args.file.now (λ i. let b = (c.shared_slice_known-1.given i).fits in omega (arith, b)) in
-    let source : List ℕ = (reading c).before.before.before.args.file.now in
+    let source : List ℕ = c.args.file.now in
     let faults : Faulty source lines c.lines-roles.result = faulty source bytes c.read-l.result c.read-l.ensures c.if-code-ne-OWN_SENIOR.false lines c.lines-roles.result c.lines-roles.ensures in
-    circle_fits source lines c.lines-roles.result low more faults c.shortest-c.ensures (former (goal.at.returns c).After-lines-2-1) _ bytes c.if-out-c.false c.write.ensures
+    circle_fits source lines c.lines-roles.result low more faults c.shortest-c.ensures c.args.out.now _ bytes c.if-out-c.false c.write.ensures

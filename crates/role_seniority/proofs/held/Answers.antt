@@ -15,9 +15,12 @@ pub loop-j-preserved : goal.loop-j-preserved
 loop-j-preserved c =
     let turn = c.loop-j in (
       turn-within turn.j c.args.roles c.loop-j-test.true,
-      elim c.if-has.branch [ then-has w ↦ join_in c.args.own (bit c.args.seniors) (λ x. get_or c.args.assigned.now x 0) turn.j turn.users _ turn.invariant.1
-          (sym c.has.ensures ∙ w.if-has.true) (w.users-is ∙ w.union-users.ensures) | else-has w ↦ join-out c.args.own (bit c.args.seniors) (λ x. get_or c.args.assigned.now x 0) turn.j turn.users _ turn.invariant.1
-          (sym c.has.ensures ∙ w.if-has.false) w.users-is ],
+      elim c.if-has.branch [
+        | then-has w ↦ join_in c.args.own (bit c.args.seniors) (λ x. get_or c.args.assigned.now x 0) turn.j turn.users _ turn.invariant.1
+            (sym c.has.ensures ∙ w.if-has.true) (w.users-is ∙ w.union-users.ensures)
+        | else-has w ↦ join-out c.args.own (bit c.args.seniors) (λ x. get_or c.args.assigned.now x 0) turn.j turn.users _ turn.invariant.1
+            (sym c.has.ensures ∙ w.if-has.false) w.users-is
+      ],
     )
 
 pub returns : goal.returns

@@ -21,7 +21,7 @@ loop-i-preserved c =
     let a = c.args in
     let turn = c.loop-i in (
       turn-within turn.i 7 c.loop-i-test.true,
-      elim c.if-has.branch [ then-has w ↦ narrow_in (mask_of 64 (λ x. ltb x a.count)) (λ j. bit a.asked (7 * a.side + j)) (λ j. get_or a.met.now (7 * a.side + j) 0) turn.i turn.m _ turn.invariant.1 (sym c.has.ensures ∙ w.0.true) (w.3 ∙ w.2.ensures) | else-has w ↦ narrow-out (mask_of 64 (λ x. ltb x a.count)) (λ j. bit a.asked (7 * a.side + j)) (λ j. get_or a.met.now (7 * a.side + j) 0) turn.i turn.m _ turn.invariant.1 (sym c.has.ensures ∙ w.0.left) w.1 ],
+      elim c.if-has.branch [ then-has w ↦ narrow_in (mask_of 64 (λ x. ltb x a.count)) (λ j. bit a.asked (7 * a.side + j)) (λ j. get_or a.met.now (7 * a.side + j) 0) turn.i turn.m _ turn.invariant.1 (sym c.has.ensures ∙ w.if-has.true) (w.m-is ∙ w.meet-m.ensures) | else-has w ↦ narrow-out (mask_of 64 (λ x. ltb x a.count)) (λ j. bit a.asked (7 * a.side + j)) (λ j. get_or a.met.now (7 * a.side + j) 0) turn.i turn.m _ turn.invariant.1 (sym c.has.ensures ∙ w.if-has.false) w.m-is ],
     )
 
 pub returns : goal.returns

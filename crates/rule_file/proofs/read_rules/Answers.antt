@@ -19,7 +19,7 @@ use Rattle.rule_file.proofs.read_rules.Goals.{After-next_turn-arg-in-loop-n-5-1,
 limits : (c : After-next_turn-arg-in-loop-n-5-1) → WithinLimits c.args.sizes
 limits c = within-limits c.requires.0.0 _ _ _ c.requires.0.1
 
-few : (c : After-next_turn-arg-in-loop-n-5-1) → FewAttributes c.args.t1.attributes
+few : (c : After-next_turn-arg-in-loop-n-5-1) → FewAttributes c.args.f.attributes
 few c = few-attributes c.requires.0.0 _ _ _ c.requires.0.1
 
 -- the grids have the words of the operations declared
@@ -60,16 +60,16 @@ shape_of-grid-in-Refused c = (long (goal.at.shape_of-grid-in-Refused c).At-loop-
 pub returns-in-Refused : goal.returns-in-Refused
 returns-in-Refused c =
     let source : List ℕ = c.args.rules.now in
-    let found : c.next_turn.result ≡ turn_of c.loop-n.k (drop c.loop-n.at source) c.args.sizes c.args.t1.attributes c.args.t1.kinds c.args.t1.domains c.args.t1.holders c.args.t1.permissions = c.next_turn.ensures ∙ ap (λ (s : List ℕ). turn_of c.loop-n.k s c.args.sizes c.args.t1.attributes c.args.t1.kinds c.args.t1.domains c.args.t1.holders c.args.t1.permissions) (tail c.loop-n.at source) in
+    let found : c.next_turn.result ≡ turn_of c.loop-n.k (drop c.loop-n.at source) c.args.sizes c.args.f.attributes c.args.f.kinds c.args.f.domains c.args.f.holders c.args.f.permissions = c.next_turn.ensures ∙ ap (λ (s : List ℕ). turn_of c.loop-n.k s c.args.sizes c.args.f.attributes c.args.f.kinds c.args.f.domains c.args.f.holders c.args.f.permissions) (tail c.loop-n.at source) in
     λ F v. let r = reads_refused F _ _ _ v _ _ _ _ _ _ _ _ (c.loop-n.invariant F v) _ (turned-refused _ _ _ _ _ _ _ _ _ found _ c.in-Refused.is) _ in (c.refuse.ensures ∙ r.0, r.1)
 
 pub overflow_add-at : goal.overflow_add-at
 overflow_add-at c =
     let source : List ℕ = c.args.rules.now in
-    let found : c.next_turn.result ≡ turn_of c.loop-n.k (drop c.loop-n.at source) c.args.sizes c.args.t1.attributes c.args.t1.kinds c.args.t1.domains c.args.t1.holders c.args.t1.permissions = c.next_turn.ensures ∙ ap (λ (s : List ℕ). turn_of c.loop-n.k s c.args.sizes c.args.t1.attributes c.args.t1.kinds c.args.t1.domains c.args.t1.holders c.args.t1.permissions) (tail c.loop-n.at source) in
+    let found : c.next_turn.result ≡ turn_of c.loop-n.k (drop c.loop-n.at source) c.args.sizes c.args.f.attributes c.args.f.kinds c.args.f.domains c.args.f.holders c.args.f.permissions = c.next_turn.ensures ∙ ap (λ (s : List ℕ). turn_of c.loop-n.k s c.args.sizes c.args.f.attributes c.args.f.kinds c.args.f.domains c.args.f.holders c.args.f.permissions) (tail c.loop-n.at source) in
     let state : State c.requires.0.0 source c.loop-n.k c.loop-n.met c.loop-n.listed c.loop-n.grid c.loop-n.seen c.loop-n.again c.loop-n.at = c.loop-n.invariant c.requires.0.0 c.requires.0.1 in
     let within : (c.loop-n.at ≤ length source) × (c.loop-n.k.rules ≤ c.loop-n.at) = inside _ _ _ _ c.requires.0.1 _ _ _ _ _ _ _ _ state in
-    let opening : Closing c.loop-n.k (drop c.loop-n.at source) c.args.sizes c.args.t1.attributes c.args.t1.kinds c.args.t1.domains c.args.t1.holders c.args.t1.permissions 0x21 c.in-Opens.w = turned-opens _ _ _ _ _ _ _ _ _ found _ c.in-Opens.is in
+    let opening : Closing c.loop-n.k (drop c.loop-n.at source) c.args.sizes c.args.f.attributes c.args.f.kinds c.args.f.domains c.args.f.holders c.args.f.permissions 0x21 c.in-Opens.w = turned-opens _ _ _ _ _ _ _ _ _ found _ c.in-Opens.is in
     let opening-bytes : (0 < c.in-Opens.w) × (c.in-Opens.w ≤ length source - c.loop-n.at) = command-bytes _ _ _ _ c.requires.0.1 _ _ _ _ _ _ _ _ state _ _ _ _ opening.front in
     let a = opening-bytes in
     let i = within in
@@ -79,10 +79,10 @@ overflow_add-at c =
 pub finish-k-requires : goal.finish-k-requires
 finish-k-requires c =
     let source : List ℕ = c.args.rules.now in
-    let found : c.next_turn.result ≡ turn_of c.loop-n.k (drop c.loop-n.at source) c.args.sizes c.args.t1.attributes c.args.t1.kinds c.args.t1.domains c.args.t1.holders c.args.t1.permissions = c.next_turn.ensures ∙ ap (λ (s : List ℕ). turn_of c.loop-n.k s c.args.sizes c.args.t1.attributes c.args.t1.kinds c.args.t1.domains c.args.t1.holders c.args.t1.permissions) (tail c.loop-n.at source) in
+    let found : c.next_turn.result ≡ turn_of c.loop-n.k (drop c.loop-n.at source) c.args.sizes c.args.f.attributes c.args.f.kinds c.args.f.domains c.args.f.holders c.args.f.permissions = c.next_turn.ensures ∙ ap (λ (s : List ℕ). turn_of c.loop-n.k s c.args.sizes c.args.f.attributes c.args.f.kinds c.args.f.domains c.args.f.holders c.args.f.permissions) (tail c.loop-n.at source) in
     let state : State c.requires.0.0 source c.loop-n.k c.loop-n.met c.loop-n.listed c.loop-n.grid c.loop-n.seen c.loop-n.again c.loop-n.at = c.loop-n.invariant c.requires.0.0 c.requires.0.1 in
     let within : (c.loop-n.at ≤ length source) × (c.loop-n.k.rules ≤ c.loop-n.at) = inside _ _ _ _ c.requires.0.1 _ _ _ _ _ _ _ _ state in
-    let opening : Closing c.loop-n.k (drop c.loop-n.at source) c.args.sizes c.args.t1.attributes c.args.t1.kinds c.args.t1.domains c.args.t1.holders c.args.t1.permissions 0x21 c.in-Opens.w = turned-opens _ _ _ _ _ _ _ _ _ found _ c.in-Opens.is in
+    let opening : Closing c.loop-n.k (drop c.loop-n.at source) c.args.sizes c.args.f.attributes c.args.f.kinds c.args.f.domains c.args.f.holders c.args.f.permissions 0x21 c.in-Opens.w = turned-opens _ _ _ _ _ _ _ _ _ found _ c.in-Opens.is in
     let opening-bytes : (0 < c.in-Opens.w) × (c.in-Opens.w ≤ length source - c.loop-n.at) = command-bytes _ _ _ _ c.requires.0.1 _ _ _ _ _ _ _ _ state _ _ _ _ opening.front in
     let a = opening-bytes in
     let i = within in
@@ -92,26 +92,26 @@ finish-k-requires c =
 pub loop-n-smaller-in-Opens : goal.loop-n-smaller-in-Opens
 loop-n-smaller-in-Opens c =
     let source : List ℕ = c.args.rules.now in
-    let found : c.next_turn.result ≡ turn_of c.loop-n.k (drop c.loop-n.at source) c.args.sizes c.args.t1.attributes c.args.t1.kinds c.args.t1.domains c.args.t1.holders c.args.t1.permissions = c.next_turn.ensures ∙ ap (λ (s : List ℕ). turn_of c.loop-n.k s c.args.sizes c.args.t1.attributes c.args.t1.kinds c.args.t1.domains c.args.t1.holders c.args.t1.permissions) (tail c.loop-n.at source) in
+    let found : c.next_turn.result ≡ turn_of c.loop-n.k (drop c.loop-n.at source) c.args.sizes c.args.f.attributes c.args.f.kinds c.args.f.domains c.args.f.holders c.args.f.permissions = c.next_turn.ensures ∙ ap (λ (s : List ℕ). turn_of c.loop-n.k s c.args.sizes c.args.f.attributes c.args.f.kinds c.args.f.domains c.args.f.holders c.args.f.permissions) (tail c.loop-n.at source) in
     let state : State c.requires.0.0 source c.loop-n.k c.loop-n.met c.loop-n.listed c.loop-n.grid c.loop-n.seen c.loop-n.again c.loop-n.at = c.loop-n.invariant c.requires.0.0 c.requires.0.1 in
-    let opening : Closing c.loop-n.k (drop c.loop-n.at source) c.args.sizes c.args.t1.attributes c.args.t1.kinds c.args.t1.domains c.args.t1.holders c.args.t1.permissions 0x21 c.in-Opens.w = turned-opens _ _ _ _ _ _ _ _ _ found _ c.in-Opens.is in
+    let opening : Closing c.loop-n.k (drop c.loop-n.at source) c.args.sizes c.args.f.attributes c.args.f.kinds c.args.f.domains c.args.f.holders c.args.f.permissions 0x21 c.in-Opens.w = turned-opens _ _ _ _ _ _ _ _ _ found _ c.in-Opens.is in
     let opening-bytes : (0 < c.in-Opens.w) × (c.in-Opens.w ≤ length source - c.loop-n.at) = command-bytes _ _ _ _ c.requires.0.1 _ _ _ _ _ _ _ _ state _ _ _ _ opening.front in
     let a = opening-bytes in omega (arith, a.0, a.1)
 
 pub loop-n-preserved-in-Opens : goal.loop-n-preserved-in-Opens
 loop-n-preserved-in-Opens c =
     let source : List ℕ = c.args.rules.now in
-    let found : c.next_turn.result ≡ turn_of c.loop-n.k (drop c.loop-n.at source) c.args.sizes c.args.t1.attributes c.args.t1.kinds c.args.t1.domains c.args.t1.holders c.args.t1.permissions = c.next_turn.ensures ∙ ap (λ (s : List ℕ). turn_of c.loop-n.k s c.args.sizes c.args.t1.attributes c.args.t1.kinds c.args.t1.domains c.args.t1.holders c.args.t1.permissions) (tail c.loop-n.at source) in
-    let opening : Closing c.loop-n.k (drop c.loop-n.at source) c.args.sizes c.args.t1.attributes c.args.t1.kinds c.args.t1.domains c.args.t1.holders c.args.t1.permissions 0x21 c.in-Opens.w = turned-opens _ _ _ _ _ _ _ _ _ found _ c.in-Opens.is in
+    let found : c.next_turn.result ≡ turn_of c.loop-n.k (drop c.loop-n.at source) c.args.sizes c.args.f.attributes c.args.f.kinds c.args.f.domains c.args.f.holders c.args.f.permissions = c.next_turn.ensures ∙ ap (λ (s : List ℕ). turn_of c.loop-n.k s c.args.sizes c.args.f.attributes c.args.f.kinds c.args.f.domains c.args.f.holders c.args.f.permissions) (tail c.loop-n.at source) in
+    let opening : Closing c.loop-n.k (drop c.loop-n.at source) c.args.sizes c.args.f.attributes c.args.f.kinds c.args.f.domains c.args.f.holders c.args.f.permissions 0x21 c.in-Opens.w = turned-opens _ _ _ _ _ _ _ _ _ found _ c.in-Opens.is in
     λ F v. reads_opened F _ _ _ v _ _ _ _ _ _ _ _ (c.loop-n.invariant F v) c.finish-k.result _ c.finish-k.ensures.0 c.finish-k.ensures.1 _ opening c.opened-k.result _ c.opened-k.ensures c.clear-in-Opens.ensures
 
 pub finish-k-requires-in-Ends : goal.finish-k-requires-in-Ends
 finish-k-requires-in-Ends c =
     let source : List ℕ = c.args.rules.now in
-    let found : c.next_turn.result ≡ turn_of c.loop-n.k (drop c.loop-n.at source) c.args.sizes c.args.t1.attributes c.args.t1.kinds c.args.t1.domains c.args.t1.holders c.args.t1.permissions = c.next_turn.ensures ∙ ap (λ (s : List ℕ). turn_of c.loop-n.k s c.args.sizes c.args.t1.attributes c.args.t1.kinds c.args.t1.domains c.args.t1.holders c.args.t1.permissions) (tail c.loop-n.at source) in
+    let found : c.next_turn.result ≡ turn_of c.loop-n.k (drop c.loop-n.at source) c.args.sizes c.args.f.attributes c.args.f.kinds c.args.f.domains c.args.f.holders c.args.f.permissions = c.next_turn.ensures ∙ ap (λ (s : List ℕ). turn_of c.loop-n.k s c.args.sizes c.args.f.attributes c.args.f.kinds c.args.f.domains c.args.f.holders c.args.f.permissions) (tail c.loop-n.at source) in
     let state : State c.requires.0.0 source c.loop-n.k c.loop-n.met c.loop-n.listed c.loop-n.grid c.loop-n.seen c.loop-n.again c.loop-n.at = c.loop-n.invariant c.requires.0.0 c.requires.0.1 in
     let within : (c.loop-n.at ≤ length source) × (c.loop-n.k.rules ≤ c.loop-n.at) = inside _ _ _ _ c.requires.0.1 _ _ _ _ _ _ _ _ state in
-    let ending : Closing c.loop-n.k (drop c.loop-n.at source) c.args.sizes c.args.t1.attributes c.args.t1.kinds c.args.t1.domains c.args.t1.holders c.args.t1.permissions 0x2F (length (drop c.loop-n.at source)) = turned-ends _ _ _ _ _ _ _ _ _ found c.in-Ends.is in
+    let ending : Closing c.loop-n.k (drop c.loop-n.at source) c.args.sizes c.args.f.attributes c.args.f.kinds c.args.f.domains c.args.f.holders c.args.f.permissions 0x2F (length (drop c.loop-n.at source)) = turned-ends _ _ _ _ _ _ _ _ _ found c.in-Ends.is in
     let a = command-bytes _ _ _ _ c.requires.0.1 _ _ _ _ _ _ _ _ state _ _ _ _ ending.front in
     let i = within in
     let g = c.well_formed in
@@ -129,15 +129,15 @@ shape_of-grid-in-Ends c =
 pub returns-in-Ends : goal.returns-in-Ends
 returns-in-Ends c =
     let source : List ℕ = c.args.rules.now in
-    let found : c.next_turn.result ≡ turn_of c.loop-n.k (drop c.loop-n.at source) c.args.sizes c.args.t1.attributes c.args.t1.kinds c.args.t1.domains c.args.t1.holders c.args.t1.permissions = c.next_turn.ensures ∙ ap (λ (s : List ℕ). turn_of c.loop-n.k s c.args.sizes c.args.t1.attributes c.args.t1.kinds c.args.t1.domains c.args.t1.holders c.args.t1.permissions) (tail c.loop-n.at source) in
-    let ending : Closing c.loop-n.k (drop c.loop-n.at source) c.args.sizes c.args.t1.attributes c.args.t1.kinds c.args.t1.domains c.args.t1.holders c.args.t1.permissions 0x2F (length (drop c.loop-n.at source)) = turned-ends _ _ _ _ _ _ _ _ _ found c.in-Ends.is in
+    let found : c.next_turn.result ≡ turn_of c.loop-n.k (drop c.loop-n.at source) c.args.sizes c.args.f.attributes c.args.f.kinds c.args.f.domains c.args.f.holders c.args.f.permissions = c.next_turn.ensures ∙ ap (λ (s : List ℕ). turn_of c.loop-n.k s c.args.sizes c.args.f.attributes c.args.f.kinds c.args.f.domains c.args.f.holders c.args.f.permissions) (tail c.loop-n.at source) in
+    let ending : Closing c.loop-n.k (drop c.loop-n.at source) c.args.sizes c.args.f.attributes c.args.f.kinds c.args.f.domains c.args.f.holders c.args.f.permissions 0x2F (length (drop c.loop-n.at source)) = turned-ends _ _ _ _ _ _ _ _ _ found c.in-Ends.is in
     λ F v. let r = reads_ended F _ _ _ v _ _ _ _ _ _ _ _ (c.loop-n.invariant F v) c.finish-k-in-Ends.result _ c.finish-k-in-Ends.ensures.0 c.finish-k-in-Ends.ensures.1 ending in (c.accept.ensures ∙ r.0, r.1)
 
 pub overflow_add-at-in-Line : goal.overflow_add-at-in-Line
 overflow_add-at-in-Line c =
     let source : List ℕ = c.args.rules.now in
-    let found : c.next_turn.result ≡ turn_of c.loop-n.k (drop c.loop-n.at source) c.args.sizes c.args.t1.attributes c.args.t1.kinds c.args.t1.domains c.args.t1.holders c.args.t1.permissions = c.next_turn.ensures ∙ ap (λ (s : List ℕ). turn_of c.loop-n.k s c.args.sizes c.args.t1.attributes c.args.t1.kinds c.args.t1.domains c.args.t1.holders c.args.t1.permissions) (tail c.loop-n.at source) in
-    let lining : Lining c.loop-n.k (drop c.loop-n.at source) c.args.sizes c.args.t1.attributes c.args.t1.kinds c.args.t1.domains c.args.t1.holders c.args.t1.permissions c.in-Line.c c.in-Line.b c.in-Line.x c.in-Line.y c.in-Line.w = turned-line _ _ _ _ _ _ _ _ _ found _ _ _ _ _ c.in-Line.is in
+    let found : c.next_turn.result ≡ turn_of c.loop-n.k (drop c.loop-n.at source) c.args.sizes c.args.f.attributes c.args.f.kinds c.args.f.domains c.args.f.holders c.args.f.permissions = c.next_turn.ensures ∙ ap (λ (s : List ℕ). turn_of c.loop-n.k s c.args.sizes c.args.f.attributes c.args.f.kinds c.args.f.domains c.args.f.holders c.args.f.permissions) (tail c.loop-n.at source) in
+    let lining : Lining c.loop-n.k (drop c.loop-n.at source) c.args.sizes c.args.f.attributes c.args.f.kinds c.args.f.domains c.args.f.holders c.args.f.permissions c.in-Line.c c.in-Line.b c.in-Line.x c.in-Line.y c.in-Line.w = turned-line _ _ _ _ _ _ _ _ _ found _ _ _ _ _ c.in-Line.is in
     let state : State c.requires.0.0 source c.loop-n.k c.loop-n.met c.loop-n.listed c.loop-n.grid c.loop-n.seen c.loop-n.again c.loop-n.at = c.loop-n.invariant c.requires.0.0 c.requires.0.1 in
     let line-bytes : (0 < c.in-Line.w) × (c.in-Line.w ≤ length source - c.loop-n.at) = command-bytes _ _ _ _ c.requires.0.1 _ _ _ _ _ _ _ _ state _ _ _ _ lining.front in
     let within : (c.loop-n.at ≤ length source) × (c.loop-n.k.rules ≤ c.loop-n.at) = inside _ _ _ _ c.requires.0.1 _ _ _ _ _ _ _ _ state in
@@ -149,8 +149,8 @@ overflow_add-at-in-Line c =
 pub note-k-requires : goal.note-k-requires
 note-k-requires c =
     let source : List ℕ = c.args.rules.now in
-    let found : c.next_turn.result ≡ turn_of c.loop-n.k (drop c.loop-n.at source) c.args.sizes c.args.t1.attributes c.args.t1.kinds c.args.t1.domains c.args.t1.holders c.args.t1.permissions = c.next_turn.ensures ∙ ap (λ (s : List ℕ). turn_of c.loop-n.k s c.args.sizes c.args.t1.attributes c.args.t1.kinds c.args.t1.domains c.args.t1.holders c.args.t1.permissions) (tail c.loop-n.at source) in
-    let lining : Lining c.loop-n.k (drop c.loop-n.at source) c.args.sizes c.args.t1.attributes c.args.t1.kinds c.args.t1.domains c.args.t1.holders c.args.t1.permissions c.in-Line.c c.in-Line.b c.in-Line.x c.in-Line.y c.in-Line.w = turned-line _ _ _ _ _ _ _ _ _ found _ _ _ _ _ c.in-Line.is in
+    let found : c.next_turn.result ≡ turn_of c.loop-n.k (drop c.loop-n.at source) c.args.sizes c.args.f.attributes c.args.f.kinds c.args.f.domains c.args.f.holders c.args.f.permissions = c.next_turn.ensures ∙ ap (λ (s : List ℕ). turn_of c.loop-n.k s c.args.sizes c.args.f.attributes c.args.f.kinds c.args.f.domains c.args.f.holders c.args.f.permissions) (tail c.loop-n.at source) in
+    let lining : Lining c.loop-n.k (drop c.loop-n.at source) c.args.sizes c.args.f.attributes c.args.f.kinds c.args.f.domains c.args.f.holders c.args.f.permissions c.in-Line.c c.in-Line.b c.in-Line.x c.in-Line.y c.in-Line.w = turned-line _ _ _ _ _ _ _ _ _ found _ _ _ _ _ c.in-Line.is in
     let state : State c.requires.0.0 source c.loop-n.k c.loop-n.met c.loop-n.listed c.loop-n.grid c.loop-n.seen c.loop-n.again c.loop-n.at = c.loop-n.invariant c.requires.0.0 c.requires.0.1 in
     let lined : Sided c.in-Line.c × PartWithin c.in-Line.c = line-within _ _ _ _ c.requires.0.1 _ _ _ _ _ _ _ _ state _ _ _ _ _ lining in
     lined.0
@@ -158,8 +158,8 @@ note-k-requires c =
 pub meet_line-requires : goal.meet_line-requires
 meet_line-requires c =
     let source : List ℕ = c.args.rules.now in
-    let found : c.next_turn.result ≡ turn_of c.loop-n.k (drop c.loop-n.at source) c.args.sizes c.args.t1.attributes c.args.t1.kinds c.args.t1.domains c.args.t1.holders c.args.t1.permissions = c.next_turn.ensures ∙ ap (λ (s : List ℕ). turn_of c.loop-n.k s c.args.sizes c.args.t1.attributes c.args.t1.kinds c.args.t1.domains c.args.t1.holders c.args.t1.permissions) (tail c.loop-n.at source) in
-    let lining : Lining c.loop-n.k (drop c.loop-n.at source) c.args.sizes c.args.t1.attributes c.args.t1.kinds c.args.t1.domains c.args.t1.holders c.args.t1.permissions c.in-Line.c c.in-Line.b c.in-Line.x c.in-Line.y c.in-Line.w = turned-line _ _ _ _ _ _ _ _ _ found _ _ _ _ _ c.in-Line.is in
+    let found : c.next_turn.result ≡ turn_of c.loop-n.k (drop c.loop-n.at source) c.args.sizes c.args.f.attributes c.args.f.kinds c.args.f.domains c.args.f.holders c.args.f.permissions = c.next_turn.ensures ∙ ap (λ (s : List ℕ). turn_of c.loop-n.k s c.args.sizes c.args.f.attributes c.args.f.kinds c.args.f.domains c.args.f.holders c.args.f.permissions) (tail c.loop-n.at source) in
+    let lining : Lining c.loop-n.k (drop c.loop-n.at source) c.args.sizes c.args.f.attributes c.args.f.kinds c.args.f.domains c.args.f.holders c.args.f.permissions c.in-Line.c c.in-Line.b c.in-Line.x c.in-Line.y c.in-Line.w = turned-line _ _ _ _ _ _ _ _ _ found _ _ _ _ _ c.in-Line.is in
     let state : State c.requires.0.0 source c.loop-n.k c.loop-n.met c.loop-n.listed c.loop-n.grid c.loop-n.seen c.loop-n.again c.loop-n.at = c.loop-n.invariant c.requires.0.0 c.requires.0.1 in
     let lined : Sided c.in-Line.c × PartWithin c.in-Line.c = line-within _ _ _ _ c.requires.0.1 _ _ _ _ _ _ _ _ state _ _ _ _ _ lining in
     (lined.0, limits (goal.at.meet_line-requires c).After-next_turn-arg-in-loop-n-5-1)
@@ -167,8 +167,8 @@ meet_line-requires c =
 pub join_part-requires : goal.join_part-requires
 join_part-requires c =
     let source : List ℕ = c.args.rules.now in
-    let found : c.next_turn.result ≡ turn_of c.loop-n.k (drop c.loop-n.at source) c.args.sizes c.args.t1.attributes c.args.t1.kinds c.args.t1.domains c.args.t1.holders c.args.t1.permissions = c.next_turn.ensures ∙ ap (λ (s : List ℕ). turn_of c.loop-n.k s c.args.sizes c.args.t1.attributes c.args.t1.kinds c.args.t1.domains c.args.t1.holders c.args.t1.permissions) (tail c.loop-n.at source) in
-    let lining : Lining c.loop-n.k (drop c.loop-n.at source) c.args.sizes c.args.t1.attributes c.args.t1.kinds c.args.t1.domains c.args.t1.holders c.args.t1.permissions c.in-Line.c c.in-Line.b c.in-Line.x c.in-Line.y c.in-Line.w = turned-line _ _ _ _ _ _ _ _ _ found _ _ _ _ _ c.in-Line.is in
+    let found : c.next_turn.result ≡ turn_of c.loop-n.k (drop c.loop-n.at source) c.args.sizes c.args.f.attributes c.args.f.kinds c.args.f.domains c.args.f.holders c.args.f.permissions = c.next_turn.ensures ∙ ap (λ (s : List ℕ). turn_of c.loop-n.k s c.args.sizes c.args.f.attributes c.args.f.kinds c.args.f.domains c.args.f.holders c.args.f.permissions) (tail c.loop-n.at source) in
+    let lining : Lining c.loop-n.k (drop c.loop-n.at source) c.args.sizes c.args.f.attributes c.args.f.kinds c.args.f.domains c.args.f.holders c.args.f.permissions c.in-Line.c c.in-Line.b c.in-Line.x c.in-Line.y c.in-Line.w = turned-line _ _ _ _ _ _ _ _ _ found _ _ _ _ _ c.in-Line.is in
     let state : State c.requires.0.0 source c.loop-n.k c.loop-n.met c.loop-n.listed c.loop-n.grid c.loop-n.seen c.loop-n.again c.loop-n.at = c.loop-n.invariant c.requires.0.0 c.requires.0.1 in
     let lined : Sided c.in-Line.c × PartWithin c.in-Line.c = line-within _ _ _ _ c.requires.0.1 _ _ _ _ _ _ _ _ state _ _ _ _ _ lining in
     (lined.1, (limits (goal.at.join_part-requires c).After-next_turn-arg-in-loop-n-5-1).2, (long (goal.at.join_part-requires c).At-loop-n).0)
@@ -176,8 +176,8 @@ join_part-requires c =
 pub list_part-requires : goal.list_part-requires
 list_part-requires c =
     let source : List ℕ = c.args.rules.now in
-    let found : c.next_turn.result ≡ turn_of c.loop-n.k (drop c.loop-n.at source) c.args.sizes c.args.t1.attributes c.args.t1.kinds c.args.t1.domains c.args.t1.holders c.args.t1.permissions = c.next_turn.ensures ∙ ap (λ (s : List ℕ). turn_of c.loop-n.k s c.args.sizes c.args.t1.attributes c.args.t1.kinds c.args.t1.domains c.args.t1.holders c.args.t1.permissions) (tail c.loop-n.at source) in
-    let lining : Lining c.loop-n.k (drop c.loop-n.at source) c.args.sizes c.args.t1.attributes c.args.t1.kinds c.args.t1.domains c.args.t1.holders c.args.t1.permissions c.in-Line.c c.in-Line.b c.in-Line.x c.in-Line.y c.in-Line.w = turned-line _ _ _ _ _ _ _ _ _ found _ _ _ _ _ c.in-Line.is in
+    let found : c.next_turn.result ≡ turn_of c.loop-n.k (drop c.loop-n.at source) c.args.sizes c.args.f.attributes c.args.f.kinds c.args.f.domains c.args.f.holders c.args.f.permissions = c.next_turn.ensures ∙ ap (λ (s : List ℕ). turn_of c.loop-n.k s c.args.sizes c.args.f.attributes c.args.f.kinds c.args.f.domains c.args.f.holders c.args.f.permissions) (tail c.loop-n.at source) in
+    let lining : Lining c.loop-n.k (drop c.loop-n.at source) c.args.sizes c.args.f.attributes c.args.f.kinds c.args.f.domains c.args.f.holders c.args.f.permissions c.in-Line.c c.in-Line.b c.in-Line.x c.in-Line.y c.in-Line.w = turned-line _ _ _ _ _ _ _ _ _ found _ _ _ _ _ c.in-Line.is in
     let state : State c.requires.0.0 source c.loop-n.k c.loop-n.met c.loop-n.listed c.loop-n.grid c.loop-n.seen c.loop-n.again c.loop-n.at = c.loop-n.invariant c.requires.0.0 c.requires.0.1 in
     let lined : Sided c.in-Line.c × PartWithin c.in-Line.c = line-within _ _ _ _ c.requires.0.1 _ _ _ _ _ _ _ _ state _ _ _ _ _ lining in
     lined.1
@@ -185,8 +185,8 @@ list_part-requires c =
 pub loop-n-smaller : goal.loop-n-smaller
 loop-n-smaller c =
     let source : List ℕ = c.args.rules.now in
-    let found : c.next_turn.result ≡ turn_of c.loop-n.k (drop c.loop-n.at source) c.args.sizes c.args.t1.attributes c.args.t1.kinds c.args.t1.domains c.args.t1.holders c.args.t1.permissions = c.next_turn.ensures ∙ ap (λ (s : List ℕ). turn_of c.loop-n.k s c.args.sizes c.args.t1.attributes c.args.t1.kinds c.args.t1.domains c.args.t1.holders c.args.t1.permissions) (tail c.loop-n.at source) in
-    let lining : Lining c.loop-n.k (drop c.loop-n.at source) c.args.sizes c.args.t1.attributes c.args.t1.kinds c.args.t1.domains c.args.t1.holders c.args.t1.permissions c.in-Line.c c.in-Line.b c.in-Line.x c.in-Line.y c.in-Line.w = turned-line _ _ _ _ _ _ _ _ _ found _ _ _ _ _ c.in-Line.is in
+    let found : c.next_turn.result ≡ turn_of c.loop-n.k (drop c.loop-n.at source) c.args.sizes c.args.f.attributes c.args.f.kinds c.args.f.domains c.args.f.holders c.args.f.permissions = c.next_turn.ensures ∙ ap (λ (s : List ℕ). turn_of c.loop-n.k s c.args.sizes c.args.f.attributes c.args.f.kinds c.args.f.domains c.args.f.holders c.args.f.permissions) (tail c.loop-n.at source) in
+    let lining : Lining c.loop-n.k (drop c.loop-n.at source) c.args.sizes c.args.f.attributes c.args.f.kinds c.args.f.domains c.args.f.holders c.args.f.permissions c.in-Line.c c.in-Line.b c.in-Line.x c.in-Line.y c.in-Line.w = turned-line _ _ _ _ _ _ _ _ _ found _ _ _ _ _ c.in-Line.is in
     let state : State c.requires.0.0 source c.loop-n.k c.loop-n.met c.loop-n.listed c.loop-n.grid c.loop-n.seen c.loop-n.again c.loop-n.at = c.loop-n.invariant c.requires.0.0 c.requires.0.1 in
     let line-bytes : (0 < c.in-Line.w) × (c.in-Line.w ≤ length source - c.loop-n.at) = command-bytes _ _ _ _ c.requires.0.1 _ _ _ _ _ _ _ _ state _ _ _ _ lining.front in
     let a = line-bytes in omega (arith, a.0, a.1)
@@ -194,6 +194,6 @@ loop-n-smaller c =
 pub loop-n-preserved : goal.loop-n-preserved
 loop-n-preserved c =
     let source : List ℕ = c.args.rules.now in
-    let found : c.next_turn.result ≡ turn_of c.loop-n.k (drop c.loop-n.at source) c.args.sizes c.args.t1.attributes c.args.t1.kinds c.args.t1.domains c.args.t1.holders c.args.t1.permissions = c.next_turn.ensures ∙ ap (λ (s : List ℕ). turn_of c.loop-n.k s c.args.sizes c.args.t1.attributes c.args.t1.kinds c.args.t1.domains c.args.t1.holders c.args.t1.permissions) (tail c.loop-n.at source) in
-    let lining : Lining c.loop-n.k (drop c.loop-n.at source) c.args.sizes c.args.t1.attributes c.args.t1.kinds c.args.t1.domains c.args.t1.holders c.args.t1.permissions c.in-Line.c c.in-Line.b c.in-Line.x c.in-Line.y c.in-Line.w = turned-line _ _ _ _ _ _ _ _ _ found _ _ _ _ _ c.in-Line.is in
+    let found : c.next_turn.result ≡ turn_of c.loop-n.k (drop c.loop-n.at source) c.args.sizes c.args.f.attributes c.args.f.kinds c.args.f.domains c.args.f.holders c.args.f.permissions = c.next_turn.ensures ∙ ap (λ (s : List ℕ). turn_of c.loop-n.k s c.args.sizes c.args.f.attributes c.args.f.kinds c.args.f.domains c.args.f.holders c.args.f.permissions) (tail c.loop-n.at source) in
+    let lining : Lining c.loop-n.k (drop c.loop-n.at source) c.args.sizes c.args.f.attributes c.args.f.kinds c.args.f.domains c.args.f.holders c.args.f.permissions c.in-Line.c c.in-Line.b c.in-Line.x c.in-Line.y c.in-Line.w = turned-line _ _ _ _ _ _ _ _ _ found _ _ _ _ _ c.in-Line.is in
     λ F v. reads_line F _ _ _ v _ _ _ _ _ _ _ _ (c.loop-n.invariant F v) _ _ _ _ _ lining c.note-k.result _ _ _ _ c.note-k.ensures c.meet_line.ensures c.join_part.ensures c.list_part.ensures.0 c.list_part.ensures.1

@@ -4,7 +4,6 @@ use native.Mathlib.Omega.{arith}
 use Rattle.rule_listings.specs.ListedLaws.{stray_begin, stray_skip, stray_next, stray_found, stray_end}
 use Rattle.role_record.specs.Cells.{row_start}
 use Rattle.sets.specs.LoopLaws.{turn-within}
-use Rattle.sets.specs.TestLaws.{not_same}
 use Rattle.rule_listings.proofs.first_stray.Invariants.{is_one, listed_once}
 use Rattle.rule_listings.proofs.first_stray.Goals as goal
 
@@ -19,15 +18,15 @@ loop-w-preserved-then-not-is_part c =
       turn-within c.loop-w.w (row_start a.roles) c.loop-w-test.true,
       omega (arith, c.loop-w.invariant.1),
       stray_skip (is_one a.holders.now a.permissions.now a.operations) (listed_once a.seen.now a.again.now) c.loop-w.number c.loop-w.w (row_start a.roles) _ c.loop-w-test.true c.loop-w.invariant.2
-          (sym c.is_part.ensures ∙ not_same _ false c.if-not-is_part.true),
+          (sym c.is_part.ensures ∙ c.if-not-is_part.true),
     )
 
 pub returns-then-not-once : goal.returns-then-not-once
 returns-then-not-once c =
     let a = c.args in
     stray_found (is_one a.holders.now a.permissions.now a.operations) (listed_once a.seen.now a.again.now) c.loop-w.number c.loop-w.w (row_start a.roles) _ c.loop-w-test.true c.loop-w.invariant.2
-    (sym c.is_part.ensures ∙ not_same _ true c.if-not-is_part.false)
-    (sym c.once.ensures ∙ not_same _ false c.if-not-once.true)
+    (sym c.is_part.ensures ∙ c.if-not-is_part.false)
+    (sym c.once.ensures ∙ c.if-not-once.true)
 
 pub loop-w-preserved : goal.loop-w-preserved
 loop-w-preserved c =
@@ -35,8 +34,8 @@ loop-w-preserved c =
       turn-within c.loop-w.w (row_start a.roles) c.loop-w-test.true,
       omega (arith, c.loop-w.invariant.1),
       stray_next (is_one a.holders.now a.permissions.now a.operations) (listed_once a.seen.now a.again.now) c.loop-w.number c.loop-w.w (row_start a.roles) _ c.loop-w-test.true c.loop-w.invariant.2
-          (sym c.is_part.ensures ∙ not_same _ true c.if-not-is_part.false)
-          (sym c.once.ensures ∙ not_same _ true c.if-not-once.false),
+          (sym c.is_part.ensures ∙ c.if-not-is_part.false)
+          (sym c.once.ensures ∙ c.if-not-once.false),
     )
 
 pub returns : goal.returns

@@ -33,7 +33,7 @@ overflow_add-at c =
     let turn = c.loop-rest in
     let w = visits_within (runs (goal.at.overflow_add-at c).After-atoms_kept-rest) 36 (omega arith) c.args.out.now turn.out turn.at turn.rest c.least-j.result turn.invariant c.loop-rest-test.true c.least-j.ensures in
     let e = c.put_atom-at.ensures.0 in
-    omega (arith, w, e, c.well-formed)
+    omega (arith, w, e, c.well_formed)
 
 pub loop-rest-smaller : goal.loop-rest-smaller
 loop-rest-smaller c =

@@ -15,20 +15,23 @@ abbrev runs : After-slice_known-1 → ℕ → List ℕ
 runs s = let a = s.args in λ k. kind_bytes_in a.distinct.now a.having.now a.inside.now a.kinds.now a.scratch.now a.rule.head a.rule.kept (side_by (k / 2)) (eqb (k % 2) 1)
 
 pub loop-k-init : goal.loop-k-init
-loop-k-init c = (search rules, runs_begin (runs c) 4 c.args.out.now (room_as _ _ (length c.args.out.now) (conjunct-kinds c.args.distinct.now c.args.having.now c.args.inside.now c.args.kinds.now c.args.scratch.now c.args.rule.head c.args.rule.kept) c.requires.1))
+loop-k-init c = (search rules, runs_begin (runs c) 4 c.args.out.now (room_as _ _ (length c.args.out.now) (conjunct-kinds c.args.distinct.now c.args.having.now c.args.inside.now c.args.kinds.now c.args.scratch.now c.args.rule.head c.args.rule.kept) c.requires.kept_in_bounds))
 
 pub put_kind-at-requires : goal.put_kind-at-requires
 put_kind-at-requires c =
     let turn = c.loop-k in
     let l = c.loop-k-test.true in
-    ((c.requires.0, omega arith), runs_room (runs (goal.at.put_kind-at-requires c).After-slice_known-1) 4 c.args.out.now turn.out turn.at turn.k c.loop-k-test.true turn.invariant.1)
+    record {
+      head_bound = (c.requires.head_bound, omega arith);
+      set_in_bounds = runs_room (runs (goal.at.put_kind-at-requires c).After-slice_known-1) 4 c.args.out.now turn.out turn.at turn.k c.loop-k-test.true turn.invariant.1;
+    }
 
 pub overflow_add-at : goal.overflow_add-at
 overflow_add-at c =
     let turn = c.loop-k in
     let w = runs_within (runs (goal.at.overflow_add-at c).After-slice_known-1) 4 c.args.out.now turn.out turn.at turn.k c.loop-k-test.true turn.invariant.1 in
     let e = c.put_kind-at.ensures.0 in
-    omega (arith, c.well-formed)
+    omega (arith, c.well_formed)
 
 pub loop-k-preserved : goal.loop-k-preserved
 loop-k-preserved c =

@@ -7,4 +7,4 @@ use Rattle.write_theory.specs.RuleTable.{kind_bytes_in}
 use Rattle.write_conjuncts.proofs.put_conjuncts.Given as goal
 
 abbrev pub invariant-loop-k : goal.invariant-loop-k
-invariant-loop-k l = (l.k ≤ 4) × Runs (λ l.k. kind_bytes_in l.distinct l.having l.inside l.kinds l.scratch l.rule.head l.rule.kept (side_by (l.k / 2)) (eqb (l.k % 2) 1)) 4 l.initial.out l.out l.at l.k
+invariant-loop-k l = (l.k ≤ 4) × Runs (λ k. kind_bytes_in l.distinct l.having l.inside l.kinds l.scratch l.rule.head l.rule.kept (side_by (k / 2)) (eqb (k % 2) 1)) 4 l.initial.out l.out l.at l.k

@@ -6,4 +6,4 @@ use Rattle.role_record.specs.Places.{place_side}
 use Rattle.write_conjuncts.proofs.put_kind.Given as goal
 
 abbrev pub invariant-loop-j : goal.invariant-loop-j
-invariant-loop-j l = (l.j ≤ 7) × Runs (λ l.j. place_bytes_in l.distinct l.having l.inside l.kinds l.scratch l.rule.head l.rule.kept (place_side (7 * l.side + l.j)) l.set (7 * l.side + l.j)) 7 l.initial.out l.out l.at l.j
+invariant-loop-j l = (l.j ≤ 7) × Runs (λ j. place_bytes_in l.distinct l.having l.inside l.kinds l.scratch l.rule.head l.rule.kept (place_side (7 * l.side + j)) l.set (7 * l.side + j)) 7 l.initial.out l.out l.at l.j

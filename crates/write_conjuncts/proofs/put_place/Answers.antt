@@ -12,7 +12,7 @@ put_values-requires c =
     let a = c.args in
     let m = listed-most a.distinct.now a.having.now a.inside.now a.scratch.now a.rule.head a.place in
     let e = c.list_values-count.ensures.0 in
-    (omega arith, room_as _ _ (length a.out.now) (place-on a.distinct.now a.having.now a.inside.now a.kinds.now a.scratch.now a.rule.head a.rule.kept (place_side a.place) a.set a.place _ _ c.list_values-count.result (sym c.kept_as.ensures ∙ c.if-kept_as.true) e c.list_values-count.ensures.1) c.requires.1)
+    (omega arith, room_as _ _ (length a.out.now) (place-on a.distinct.now a.having.now a.inside.now a.kinds.now a.scratch.now a.rule.head a.rule.kept (place_side a.place) a.set a.place _ _ c.list_values-count.result (sym c.kept_as.ensures ∙ c.if-kept_as.true) e c.list_values-count.ensures.1) c.requires.place_in_bounds)
 
 pub returns-then-kept_as : goal.returns-then-kept_as
 returns-then-kept_as c =

@@ -15,7 +15,7 @@ write_rule-requires c =
     let a = c.args in
     let l = ap length (rule-head a.distinct.now a.having.now a.inside.now a.kinds.now a.permissions.now a.operations a.starts.now a.scratch.now a.rule.head a.rule.kept (sym c.is_head.ensures ∙ c.if-is_head.true)) in
     let r = c.requires.4 in
-    ((c.requires.0, c.requires.1, c.requires.2, c.requires.3), omega (arith, l, r))
+    record { operations_bound = (c.requires.0, c.requires.1, c.requires.2, c.requires.3); kept_in_bounds = omega (arith, l, r) }
 
 pub shape_of-out-then-is_head : goal.shape_of-out-then-is_head
 shape_of-out-then-is_head c =

@@ -26,7 +26,7 @@ overflow_add-at c =
     let t = c.loop-i-test.true in
     let w = runs_within (rule_at a.kept.now a.distinct.now a.having.now a.inside.now a.kinds.now a.permissions.now a.operations a.starts.now a.scratch.now) (all_parts a.starts.now) a.out.now l.out l.at l.i t l.invariant.1 in
     let e = c.write_head-at.ensures.1 in
-    omega (arith, w, e, c.well-formed)
+    omega (arith, w, e, c.well_formed)
 
 pub loop-i-preserved : goal.loop-i-preserved
 loop-i-preserved c =

@@ -19,7 +19,7 @@ overflow_add-at c =
     let turn = c.loop-k in
     let a = c.args in
     let w = runs_within (lines a.list.now a.role) a.count a.out.now turn.out turn.at turn.k c.loop-k-test.true turn.invariant.1 in
-    omega (arith, c.well-formed)
+    omega (arith, c.well_formed)
 
 pub loop-k-preserved : goal.loop-k-preserved
 loop-k-preserved c =

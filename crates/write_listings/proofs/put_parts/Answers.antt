@@ -12,7 +12,7 @@ runs s = let a = s.args in role_bytes_in a.permissions.now a.operations a.starts
 pub loop-rest-init : goal.loop-rest-init
 loop-rest-init c =
     let a = c.args in
-    parts-begin a.permissions.now a.operations a.starts.now a.scratch.now c.requires.0.1 a.rule.head a.rule.roles a.out.now c.requires.0.3 c.requires.1
+    parts-begin a.permissions.now a.operations a.starts.now a.scratch.now c.requires.operations_bound.1 a.rule.head a.rule.roles a.out.now c.requires.operations_bound.3 c.requires.head_in_bounds
 
 pub slice_bounds-put_role-count : goal.slice_bounds-put_role-count
 slice_bounds-put_role-count c =
@@ -28,14 +28,17 @@ pub put_role-at-requires : goal.put_role-at-requires
 put_role-at-requires c =
     let turn = c.loop-rest in
     let low = visits_low (runs (goal.at.put_role-at-requires c).After-slice_known-1) 32 (omega arith) c.args.out.now turn.out turn.at turn.rest c.least-k.result turn.invariant c.loop-rest-test.true c.least-k.ensures in
-    ((c.requires.0.0, c.requires.0.1, c.requires.0.2, low), visits_room (runs (goal.at.put_role-at-requires c).After-slice_known-1) 32 (omega arith) c.args.out.now turn.out turn.at turn.rest c.least-k.result turn.invariant c.loop-rest-test.true c.least-k.ensures)
+    record {
+      operations_bound = (c.requires.operations_bound.0, c.requires.operations_bound.1, c.requires.operations_bound.2, low);
+      role_in_bounds = visits_room (runs (goal.at.put_role-at-requires c).After-slice_known-1) 32 (omega arith) c.args.out.now turn.out turn.at turn.rest c.least-k.result turn.invariant c.loop-rest-test.true c.least-k.ensures;
+    }
 
 pub overflow_add-at : goal.overflow_add-at
 overflow_add-at c =
     let turn = c.loop-rest in
     let w = visits_within (runs (goal.at.overflow_add-at c).After-slice_known-1) 32 (omega arith) c.args.out.now turn.out turn.at turn.rest c.least-k.result turn.invariant c.loop-rest-test.true c.least-k.ensures in
     let e = c.put_role-at.ensures.0 in
-    omega (arith, w, e, c.well-formed)
+    omega (arith, w, e, c.well_formed)
 
 pub loop-rest-smaller : goal.loop-rest-smaller
 loop-rest-smaller c =

@@ -10,7 +10,7 @@ put_classes-requires c =
     let a = c.args in
     let m = classes_most a.permissions.now a.operations a.starts.now a.scratch.now a.head a.role in
     let e = c.list_classes-count.ensures.0 in
-    (omega arith, c.requires.0.3, room_as _ _ (length a.out.now) (role-on a.permissions.now a.operations a.starts.now a.scratch.now a.head a.role _ _ c.list_classes-count.result e c.list_classes-count.ensures.1) c.requires.1)
+    (omega arith, c.requires.operations_bound.3, room_as _ _ (length a.out.now) (role-on a.permissions.now a.operations a.starts.now a.scratch.now a.head a.role _ _ c.list_classes-count.result e c.list_classes-count.ensures.1) c.requires.role_in_bounds)
 
 pub returns : goal.returns
 returns c =

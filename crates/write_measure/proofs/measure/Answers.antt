@@ -1,18 +1,17 @@
-use Prim.Native.Nat.{◌≤◌}
+use Prim.Native.Nat.{ℕ, ◌≤◌}
 use mathlib.Core.Bool.{Bool, cond}
+use mathlib.Core.List.{List}
 use mathlib.Core.Path.{ap, ◌∙◌}
 use native.Mathlib.Omega.{arith}
 use Rattle.write_measure.specs.MeasureLaws.{counted_none, counted-more, counted-end, rule-most, add_fits, flag-low}
-use borrow.Author.Rules.{rules}
 use lib.ListN.{get_or}
-use Rattle.mine_groups.specs.Scratch.{all_parts}
+use Rattle.mine_groups.specs.Scratch.{all_parts, Stands}
 use Rattle.mine_parts.specs.Layout.{most_parts}
 use Rattle.write_measure.proofs.measure.Goals as goal
-use Rattle.write_measure.proofs.measure.Goals.{After-parts-1}
 
 -- there are no more parts than there may be
-few : (s : After-parts-1) → all_parts s.args.starts.now ≤ most_parts
-few s = let r = s.requires.1.room in omega (arith, r)
+few : (scratch starts : List ℕ) → Stands scratch starts → all_parts starts ≤ most_parts
+few scratch starts s = let r = s.room in omega (arith, r)
 
 pub loop-i-init : goal.loop-i-init
 loop-i-init c = let a = c.args in counted_none a.kept.now a.distinct.now a.having.now a.inside.now a.kinds.now a.permissions.now a.operations a.starts.now a.scratch.now c.no_sums-sums.result c.no_sums-sums.ensures
@@ -30,13 +29,13 @@ overflow_add-bytes c =
     let m = rule-most a.distinct.now a.having.now a.inside.now a.kinds.now a.permissions.now a.operations a.starts.now a.scratch.now l.i (get_or a.kept.now l.i 0) in
     let e = c.size_head-size.ensures.0 in
     let k = l.invariant.bytes_low in
-    omega (arith, m, e, k, t, few (goal.at.overflow_add-bytes c).After-parts-1)
+    omega (arith, m, e, k, t, few c.args.scratch.now c.args.starts.now c.requires.1)
 
 pub add-sums-requires : goal.add-sums-requires
 add-sums-requires c =
     let l = c.loop-i in
     let a = c.args in
-    add_fits a.kept.now a.distinct.now a.having.now a.inside.now a.kinds.now a.scratch.now l.i (omega (arith, c.loop-i-test.true, few (goal.at.add-sums-requires c).After-parts-1)) l.invariant.sums-so c.size_head-size.ensures.1
+    add_fits a.kept.now a.distinct.now a.having.now a.inside.now a.kinds.now a.scratch.now l.i (omega (arith, c.loop-i-test.true, few c.args.scratch.now c.args.starts.now c.requires.1)) l.invariant.sums-so c.size_head-size.ensures.1
 
 pub overflow_add-rules : goal.overflow_add-rules
 overflow_add-rules c =
@@ -45,7 +44,7 @@ overflow_add-rules c =
     let k = l.invariant.rules-low in
     let e = c.one_if-rules.ensures in
     let f = flag-low c.is_head.result in
-    omega (arith, t, k, e, f, few (goal.at.overflow_add-rules c).After-parts-1)
+    omega (arith, t, k, e, f, few c.args.scratch.now c.args.starts.now c.requires.1)
 
 pub loop-i-preserved : goal.loop-i-preserved
 loop-i-preserved c =
@@ -57,7 +56,7 @@ pub overflow_add-result : goal.overflow_add-result
 overflow_add-result c =
     let k = c.loop-i.invariant.bytes_low in
     let i = c.loop-i.invariant.within in
-    omega (arith, k, i, few (goal.at.overflow_add-result c).After-parts-1)
+    omega (arith, k, i, few c.args.scratch.now c.args.starts.now c.requires.1)
 
 pub returns : goal.returns
 returns c =

@@ -24,7 +24,7 @@ put_one-requires c =
     let conjuncts : List ℕ = let a = c.args in conjunct_bytes_in a.distinct.now a.having.now a.inside.now a.kinds.now a.scratch.now a.rule.head a.rule.kept in
     let whole : List ℕ = let a = c.args in rule_bytes_in a.distinct.now a.having.now a.inside.now a.kinds.now a.permissions.now a.operations a.starts.now a.scratch.now a.rule.head a.rule.kept in
     let sections : whole ≡ (0x21 ∷ []) ++ (conjuncts ++ behind-conjuncts) = let a = c.args in rule_sections a.distinct.now a.having.now a.inside.now a.kinds.now a.permissions.now a.operations a.starts.now a.scratch.now a.rule.head a.rule.kept in
-    (opening-room whole (conjuncts ++ behind-conjuncts) (length c.args.out.now) sections c.requires.1, search rules)
+    (opening-room whole (conjuncts ++ behind-conjuncts) (length c.args.out.now) sections c.requires.kept_in_bounds, search rules)
 
 pub slice_bounds-put_conjuncts-count : goal.slice_bounds-put_conjuncts-count
 slice_bounds-put_conjuncts-count c =
@@ -40,7 +40,7 @@ slice_bounds-put_conjuncts-count c =
     let conjuncts : List ℕ = let a = c.args in conjunct_bytes_in a.distinct.now a.having.now a.inside.now a.kinds.now a.scratch.now a.rule.head a.rule.kept in
     let whole : List ℕ = let a = c.args in rule_bytes_in a.distinct.now a.having.now a.inside.now a.kinds.now a.permissions.now a.operations a.starts.now a.scratch.now a.rule.head a.rule.kept in
     let sections : whole ≡ (0x21 ∷ []) ++ (conjuncts ++ behind-conjuncts) = let a = c.args in rule_sections a.distinct.now a.having.now a.inside.now a.kinds.now a.permissions.now a.operations a.starts.now a.scratch.now a.rule.head a.rule.kept in
-    let written2 : Writing whole c.args.out.now out2 1 (conjuncts ++ behind-conjuncts) = opened whole c.args.out.now out2 (conjuncts ++ behind-conjuncts) (0x21 ∷ []) sections c.requires.1 c.put_one.ensures in
+    let written2 : Writing whole c.args.out.now out2 1 (conjuncts ++ behind-conjuncts) = opened whole c.args.out.now out2 (conjuncts ++ behind-conjuncts) (0x21 ∷ []) sections c.requires.kept_in_bounds c.put_one.ensures in
     at-within _ _ _ _ _ written2
 
 pub slice_bounds-put_conjuncts-start : goal.slice_bounds-put_conjuncts-start
@@ -57,7 +57,7 @@ slice_bounds-put_conjuncts-start c =
     let conjuncts : List ℕ = let a = c.args in conjunct_bytes_in a.distinct.now a.having.now a.inside.now a.kinds.now a.scratch.now a.rule.head a.rule.kept in
     let whole : List ℕ = let a = c.args in rule_bytes_in a.distinct.now a.having.now a.inside.now a.kinds.now a.permissions.now a.operations a.starts.now a.scratch.now a.rule.head a.rule.kept in
     let sections : whole ≡ (0x21 ∷ []) ++ (conjuncts ++ behind-conjuncts) = let a = c.args in rule_sections a.distinct.now a.having.now a.inside.now a.kinds.now a.permissions.now a.operations a.starts.now a.scratch.now a.rule.head a.rule.kept in
-    let written2 : Writing whole c.args.out.now out2 1 (conjuncts ++ behind-conjuncts) = opened whole c.args.out.now out2 (conjuncts ++ behind-conjuncts) (0x21 ∷ []) sections c.requires.1 c.put_one.ensures in
+    let written2 : Writing whole c.args.out.now out2 1 (conjuncts ++ behind-conjuncts) = opened whole c.args.out.now out2 (conjuncts ++ behind-conjuncts) (0x21 ∷ []) sections c.requires.kept_in_bounds c.put_one.ensures in
     at-within _ _ _ _ _ written2
 
 pub put_conjuncts-at-requires : goal.put_conjuncts-at-requires
@@ -74,8 +74,11 @@ put_conjuncts-at-requires c =
     let conjuncts : List ℕ = let a = c.args in conjunct_bytes_in a.distinct.now a.having.now a.inside.now a.kinds.now a.scratch.now a.rule.head a.rule.kept in
     let whole : List ℕ = let a = c.args in rule_bytes_in a.distinct.now a.having.now a.inside.now a.kinds.now a.permissions.now a.operations a.starts.now a.scratch.now a.rule.head a.rule.kept in
     let sections : whole ≡ (0x21 ∷ []) ++ (conjuncts ++ behind-conjuncts) = let a = c.args in rule_sections a.distinct.now a.having.now a.inside.now a.kinds.now a.permissions.now a.operations a.starts.now a.scratch.now a.rule.head a.rule.kept in
-    let written2 : Writing whole c.args.out.now out2 1 (conjuncts ++ behind-conjuncts) = opened whole c.args.out.now out2 (conjuncts ++ behind-conjuncts) (0x21 ∷ []) sections c.requires.1 c.put_one.ensures in
-    (omega (arith, c.requires.0.1.room, c.requires.0.2), room_for _ _ out2 behind-conjuncts conjuncts 1 written2)
+    let written2 : Writing whole c.args.out.now out2 1 (conjuncts ++ behind-conjuncts) = opened whole c.args.out.now out2 (conjuncts ++ behind-conjuncts) (0x21 ∷ []) sections c.requires.kept_in_bounds c.put_one.ensures in
+    record {
+      head_bound = omega (arith, c.requires.operations_bound.1.room, c.requires.operations_bound.2);
+      kept_in_bounds = room_for _ _ out2 behind-conjuncts conjuncts 1 written2;
+    }
 
 pub overflow_add-at : goal.overflow_add-at
 overflow_add-at c =
@@ -91,7 +94,7 @@ overflow_add-at c =
     let conjuncts : List ℕ = let a = c.args in conjunct_bytes_in a.distinct.now a.having.now a.inside.now a.kinds.now a.scratch.now a.rule.head a.rule.kept in
     let whole : List ℕ = let a = c.args in rule_bytes_in a.distinct.now a.having.now a.inside.now a.kinds.now a.permissions.now a.operations a.starts.now a.scratch.now a.rule.head a.rule.kept in
     let sections : whole ≡ (0x21 ∷ []) ++ (conjuncts ++ behind-conjuncts) = let a = c.args in rule_sections a.distinct.now a.having.now a.inside.now a.kinds.now a.permissions.now a.operations a.starts.now a.scratch.now a.rule.head a.rule.kept in
-    let written2 : Writing whole c.args.out.now out2 1 (conjuncts ++ behind-conjuncts) = opened whole c.args.out.now out2 (conjuncts ++ behind-conjuncts) (0x21 ∷ []) sections c.requires.1 c.put_one.ensures in
+    let written2 : Writing whole c.args.out.now out2 1 (conjuncts ++ behind-conjuncts) = opened whole c.args.out.now out2 (conjuncts ++ behind-conjuncts) (0x21 ∷ []) sections c.requires.kept_in_bounds c.put_one.ensures in
     let w = place-within _ _ out2 behind-conjuncts conjuncts 1 written2 in
     let e = c.put_conjuncts-at.ensures.0 in
     omega (arith, w, e, c.well_formed)
@@ -112,7 +115,7 @@ slice_bounds-put_operations-count c =
     let conjuncts : List ℕ = let a = c.args in conjunct_bytes_in a.distinct.now a.having.now a.inside.now a.kinds.now a.scratch.now a.rule.head a.rule.kept in
     let whole : List ℕ = let a = c.args in rule_bytes_in a.distinct.now a.having.now a.inside.now a.kinds.now a.permissions.now a.operations a.starts.now a.scratch.now a.rule.head a.rule.kept in
     let sections : whole ≡ (0x21 ∷ []) ++ (conjuncts ++ behind-conjuncts) = let a = c.args in rule_sections a.distinct.now a.having.now a.inside.now a.kinds.now a.permissions.now a.operations a.starts.now a.scratch.now a.rule.head a.rule.kept in
-    let written2 : Writing whole c.args.out.now out2 1 (conjuncts ++ behind-conjuncts) = opened whole c.args.out.now out2 (conjuncts ++ behind-conjuncts) (0x21 ∷ []) sections c.requires.1 c.put_one.ensures in
+    let written2 : Writing whole c.args.out.now out2 1 (conjuncts ++ behind-conjuncts) = opened whole c.args.out.now out2 (conjuncts ++ behind-conjuncts) (0x21 ∷ []) sections c.requires.kept_in_bounds c.put_one.ensures in
     let written3 : Writing whole c.args.out.now out3 at3 behind-conjuncts = section_on whole c.args.out.now out2 behind-conjuncts conjuncts 1 _ _ written2 c.put_conjuncts-at.ensures in
     at-within _ _ _ _ _ written3
 
@@ -132,7 +135,7 @@ slice_bounds-put_operations-start c =
     let conjuncts : List ℕ = let a = c.args in conjunct_bytes_in a.distinct.now a.having.now a.inside.now a.kinds.now a.scratch.now a.rule.head a.rule.kept in
     let whole : List ℕ = let a = c.args in rule_bytes_in a.distinct.now a.having.now a.inside.now a.kinds.now a.permissions.now a.operations a.starts.now a.scratch.now a.rule.head a.rule.kept in
     let sections : whole ≡ (0x21 ∷ []) ++ (conjuncts ++ behind-conjuncts) = let a = c.args in rule_sections a.distinct.now a.having.now a.inside.now a.kinds.now a.permissions.now a.operations a.starts.now a.scratch.now a.rule.head a.rule.kept in
-    let written2 : Writing whole c.args.out.now out2 1 (conjuncts ++ behind-conjuncts) = opened whole c.args.out.now out2 (conjuncts ++ behind-conjuncts) (0x21 ∷ []) sections c.requires.1 c.put_one.ensures in
+    let written2 : Writing whole c.args.out.now out2 1 (conjuncts ++ behind-conjuncts) = opened whole c.args.out.now out2 (conjuncts ++ behind-conjuncts) (0x21 ∷ []) sections c.requires.kept_in_bounds c.put_one.ensures in
     let written3 : Writing whole c.args.out.now out3 at3 behind-conjuncts = section_on whole c.args.out.now out2 behind-conjuncts conjuncts 1 _ _ written2 c.put_conjuncts-at.ensures in
     at-within _ _ _ _ _ written3
 
@@ -152,9 +155,9 @@ put_operations-at-requires c =
     let conjuncts : List ℕ = let a = c.args in conjunct_bytes_in a.distinct.now a.having.now a.inside.now a.kinds.now a.scratch.now a.rule.head a.rule.kept in
     let whole : List ℕ = let a = c.args in rule_bytes_in a.distinct.now a.having.now a.inside.now a.kinds.now a.permissions.now a.operations a.starts.now a.scratch.now a.rule.head a.rule.kept in
     let sections : whole ≡ (0x21 ∷ []) ++ (conjuncts ++ behind-conjuncts) = let a = c.args in rule_sections a.distinct.now a.having.now a.inside.now a.kinds.now a.permissions.now a.operations a.starts.now a.scratch.now a.rule.head a.rule.kept in
-    let written2 : Writing whole c.args.out.now out2 1 (conjuncts ++ behind-conjuncts) = opened whole c.args.out.now out2 (conjuncts ++ behind-conjuncts) (0x21 ∷ []) sections c.requires.1 c.put_one.ensures in
+    let written2 : Writing whole c.args.out.now out2 1 (conjuncts ++ behind-conjuncts) = opened whole c.args.out.now out2 (conjuncts ++ behind-conjuncts) (0x21 ∷ []) sections c.requires.kept_in_bounds c.put_one.ensures in
     let written3 : Writing whole c.args.out.now out3 at3 behind-conjuncts = section_on whole c.args.out.now out2 behind-conjuncts conjuncts 1 _ _ written2 c.put_conjuncts-at.ensures in
-    (omega (arith, c.requires.0.1.room, c.requires.0.2), room_for _ _ out3 behind-operations operations at3 written3)
+    (omega (arith, c.requires.operations_bound.1.room, c.requires.operations_bound.2), room_for _ _ out3 behind-operations operations at3 written3)
 
 pub overflow_add-at-2 : goal.overflow_add-at-2
 overflow_add-at-2 c =
@@ -172,7 +175,7 @@ overflow_add-at-2 c =
     let conjuncts : List ℕ = let a = c.args in conjunct_bytes_in a.distinct.now a.having.now a.inside.now a.kinds.now a.scratch.now a.rule.head a.rule.kept in
     let whole : List ℕ = let a = c.args in rule_bytes_in a.distinct.now a.having.now a.inside.now a.kinds.now a.permissions.now a.operations a.starts.now a.scratch.now a.rule.head a.rule.kept in
     let sections : whole ≡ (0x21 ∷ []) ++ (conjuncts ++ behind-conjuncts) = let a = c.args in rule_sections a.distinct.now a.having.now a.inside.now a.kinds.now a.permissions.now a.operations a.starts.now a.scratch.now a.rule.head a.rule.kept in
-    let written2 : Writing whole c.args.out.now out2 1 (conjuncts ++ behind-conjuncts) = opened whole c.args.out.now out2 (conjuncts ++ behind-conjuncts) (0x21 ∷ []) sections c.requires.1 c.put_one.ensures in
+    let written2 : Writing whole c.args.out.now out2 1 (conjuncts ++ behind-conjuncts) = opened whole c.args.out.now out2 (conjuncts ++ behind-conjuncts) (0x21 ∷ []) sections c.requires.kept_in_bounds c.put_one.ensures in
     let written3 : Writing whole c.args.out.now out3 at3 behind-conjuncts = section_on whole c.args.out.now out2 behind-conjuncts conjuncts 1 _ _ written2 c.put_conjuncts-at.ensures in
     let w = place-within _ _ out3 behind-operations operations at3 written3 in
     let e = c.put_operations-at.ensures.0 in
@@ -195,7 +198,7 @@ slice_bounds-put_atoms-count c =
     let conjuncts : List ℕ = let a = c.args in conjunct_bytes_in a.distinct.now a.having.now a.inside.now a.kinds.now a.scratch.now a.rule.head a.rule.kept in
     let whole : List ℕ = let a = c.args in rule_bytes_in a.distinct.now a.having.now a.inside.now a.kinds.now a.permissions.now a.operations a.starts.now a.scratch.now a.rule.head a.rule.kept in
     let sections : whole ≡ (0x21 ∷ []) ++ (conjuncts ++ behind-conjuncts) = let a = c.args in rule_sections a.distinct.now a.having.now a.inside.now a.kinds.now a.permissions.now a.operations a.starts.now a.scratch.now a.rule.head a.rule.kept in
-    let written2 : Writing whole c.args.out.now out2 1 (conjuncts ++ behind-conjuncts) = opened whole c.args.out.now out2 (conjuncts ++ behind-conjuncts) (0x21 ∷ []) sections c.requires.1 c.put_one.ensures in
+    let written2 : Writing whole c.args.out.now out2 1 (conjuncts ++ behind-conjuncts) = opened whole c.args.out.now out2 (conjuncts ++ behind-conjuncts) (0x21 ∷ []) sections c.requires.kept_in_bounds c.put_one.ensures in
     let written3 : Writing whole c.args.out.now out3 at3 behind-conjuncts = section_on whole c.args.out.now out2 behind-conjuncts conjuncts 1 _ _ written2 c.put_conjuncts-at.ensures in
     let out4 : List ℕ = back_in out3 at3 c.put_operations-at.new.out in
     let written4 : Writing whole c.args.out.now out4 at4 behind-operations = section_on whole c.args.out.now out3 behind-operations operations at3 _ _ written3 c.put_operations-at.ensures in
@@ -218,7 +221,7 @@ slice_bounds-put_atoms-start c =
     let conjuncts : List ℕ = let a = c.args in conjunct_bytes_in a.distinct.now a.having.now a.inside.now a.kinds.now a.scratch.now a.rule.head a.rule.kept in
     let whole : List ℕ = let a = c.args in rule_bytes_in a.distinct.now a.having.now a.inside.now a.kinds.now a.permissions.now a.operations a.starts.now a.scratch.now a.rule.head a.rule.kept in
     let sections : whole ≡ (0x21 ∷ []) ++ (conjuncts ++ behind-conjuncts) = let a = c.args in rule_sections a.distinct.now a.having.now a.inside.now a.kinds.now a.permissions.now a.operations a.starts.now a.scratch.now a.rule.head a.rule.kept in
-    let written2 : Writing whole c.args.out.now out2 1 (conjuncts ++ behind-conjuncts) = opened whole c.args.out.now out2 (conjuncts ++ behind-conjuncts) (0x21 ∷ []) sections c.requires.1 c.put_one.ensures in
+    let written2 : Writing whole c.args.out.now out2 1 (conjuncts ++ behind-conjuncts) = opened whole c.args.out.now out2 (conjuncts ++ behind-conjuncts) (0x21 ∷ []) sections c.requires.kept_in_bounds c.put_one.ensures in
     let written3 : Writing whole c.args.out.now out3 at3 behind-conjuncts = section_on whole c.args.out.now out2 behind-conjuncts conjuncts 1 _ _ written2 c.put_conjuncts-at.ensures in
     let out4 : List ℕ = back_in out3 at3 c.put_operations-at.new.out in
     let written4 : Writing whole c.args.out.now out4 at4 behind-operations = section_on whole c.args.out.now out3 behind-operations operations at3 _ _ written3 c.put_operations-at.ensures in
@@ -241,7 +244,7 @@ put_atoms-at-requires c =
     let conjuncts : List ℕ = let a = c.args in conjunct_bytes_in a.distinct.now a.having.now a.inside.now a.kinds.now a.scratch.now a.rule.head a.rule.kept in
     let whole : List ℕ = let a = c.args in rule_bytes_in a.distinct.now a.having.now a.inside.now a.kinds.now a.permissions.now a.operations a.starts.now a.scratch.now a.rule.head a.rule.kept in
     let sections : whole ≡ (0x21 ∷ []) ++ (conjuncts ++ behind-conjuncts) = let a = c.args in rule_sections a.distinct.now a.having.now a.inside.now a.kinds.now a.permissions.now a.operations a.starts.now a.scratch.now a.rule.head a.rule.kept in
-    let written2 : Writing whole c.args.out.now out2 1 (conjuncts ++ behind-conjuncts) = opened whole c.args.out.now out2 (conjuncts ++ behind-conjuncts) (0x21 ∷ []) sections c.requires.1 c.put_one.ensures in
+    let written2 : Writing whole c.args.out.now out2 1 (conjuncts ++ behind-conjuncts) = opened whole c.args.out.now out2 (conjuncts ++ behind-conjuncts) (0x21 ∷ []) sections c.requires.kept_in_bounds c.put_one.ensures in
     let written3 : Writing whole c.args.out.now out3 at3 behind-conjuncts = section_on whole c.args.out.now out2 behind-conjuncts conjuncts 1 _ _ written2 c.put_conjuncts-at.ensures in
     let out4 : List ℕ = back_in out3 at3 c.put_operations-at.new.out in
     let written4 : Writing whole c.args.out.now out4 at4 behind-operations = section_on whole c.args.out.now out3 behind-operations operations at3 _ _ written3 c.put_operations-at.ensures in
@@ -264,7 +267,7 @@ overflow_add-at-3 c =
     let conjuncts : List ℕ = let a = c.args in conjunct_bytes_in a.distinct.now a.having.now a.inside.now a.kinds.now a.scratch.now a.rule.head a.rule.kept in
     let whole : List ℕ = let a = c.args in rule_bytes_in a.distinct.now a.having.now a.inside.now a.kinds.now a.permissions.now a.operations a.starts.now a.scratch.now a.rule.head a.rule.kept in
     let sections : whole ≡ (0x21 ∷ []) ++ (conjuncts ++ behind-conjuncts) = let a = c.args in rule_sections a.distinct.now a.having.now a.inside.now a.kinds.now a.permissions.now a.operations a.starts.now a.scratch.now a.rule.head a.rule.kept in
-    let written2 : Writing whole c.args.out.now out2 1 (conjuncts ++ behind-conjuncts) = opened whole c.args.out.now out2 (conjuncts ++ behind-conjuncts) (0x21 ∷ []) sections c.requires.1 c.put_one.ensures in
+    let written2 : Writing whole c.args.out.now out2 1 (conjuncts ++ behind-conjuncts) = opened whole c.args.out.now out2 (conjuncts ++ behind-conjuncts) (0x21 ∷ []) sections c.requires.kept_in_bounds c.put_one.ensures in
     let written3 : Writing whole c.args.out.now out3 at3 behind-conjuncts = section_on whole c.args.out.now out2 behind-conjuncts conjuncts 1 _ _ written2 c.put_conjuncts-at.ensures in
     let out4 : List ℕ = back_in out3 at3 c.put_operations-at.new.out in
     let written4 : Writing whole c.args.out.now out4 at4 behind-operations = section_on whole c.args.out.now out3 behind-operations operations at3 _ _ written3 c.put_operations-at.ensures in
@@ -289,7 +292,7 @@ slice_bounds-put_parts-count c =
     let conjuncts : List ℕ = let a = c.args in conjunct_bytes_in a.distinct.now a.having.now a.inside.now a.kinds.now a.scratch.now a.rule.head a.rule.kept in
     let whole : List ℕ = let a = c.args in rule_bytes_in a.distinct.now a.having.now a.inside.now a.kinds.now a.permissions.now a.operations a.starts.now a.scratch.now a.rule.head a.rule.kept in
     let sections : whole ≡ (0x21 ∷ []) ++ (conjuncts ++ behind-conjuncts) = let a = c.args in rule_sections a.distinct.now a.having.now a.inside.now a.kinds.now a.permissions.now a.operations a.starts.now a.scratch.now a.rule.head a.rule.kept in
-    let written2 : Writing whole c.args.out.now out2 1 (conjuncts ++ behind-conjuncts) = opened whole c.args.out.now out2 (conjuncts ++ behind-conjuncts) (0x21 ∷ []) sections c.requires.1 c.put_one.ensures in
+    let written2 : Writing whole c.args.out.now out2 1 (conjuncts ++ behind-conjuncts) = opened whole c.args.out.now out2 (conjuncts ++ behind-conjuncts) (0x21 ∷ []) sections c.requires.kept_in_bounds c.put_one.ensures in
     let written3 : Writing whole c.args.out.now out3 at3 behind-conjuncts = section_on whole c.args.out.now out2 behind-conjuncts conjuncts 1 _ _ written2 c.put_conjuncts-at.ensures in
     let out4 : List ℕ = back_in out3 at3 c.put_operations-at.new.out in
     let written4 : Writing whole c.args.out.now out4 at4 behind-operations = section_on whole c.args.out.now out3 behind-operations operations at3 _ _ written3 c.put_operations-at.ensures in
@@ -315,7 +318,7 @@ slice_bounds-put_parts-start c =
     let conjuncts : List ℕ = let a = c.args in conjunct_bytes_in a.distinct.now a.having.now a.inside.now a.kinds.now a.scratch.now a.rule.head a.rule.kept in
     let whole : List ℕ = let a = c.args in rule_bytes_in a.distinct.now a.having.now a.inside.now a.kinds.now a.permissions.now a.operations a.starts.now a.scratch.now a.rule.head a.rule.kept in
     let sections : whole ≡ (0x21 ∷ []) ++ (conjuncts ++ behind-conjuncts) = let a = c.args in rule_sections a.distinct.now a.having.now a.inside.now a.kinds.now a.permissions.now a.operations a.starts.now a.scratch.now a.rule.head a.rule.kept in
-    let written2 : Writing whole c.args.out.now out2 1 (conjuncts ++ behind-conjuncts) = opened whole c.args.out.now out2 (conjuncts ++ behind-conjuncts) (0x21 ∷ []) sections c.requires.1 c.put_one.ensures in
+    let written2 : Writing whole c.args.out.now out2 1 (conjuncts ++ behind-conjuncts) = opened whole c.args.out.now out2 (conjuncts ++ behind-conjuncts) (0x21 ∷ []) sections c.requires.kept_in_bounds c.put_one.ensures in
     let written3 : Writing whole c.args.out.now out3 at3 behind-conjuncts = section_on whole c.args.out.now out2 behind-conjuncts conjuncts 1 _ _ written2 c.put_conjuncts-at.ensures in
     let out4 : List ℕ = back_in out3 at3 c.put_operations-at.new.out in
     let written4 : Writing whole c.args.out.now out4 at4 behind-operations = section_on whole c.args.out.now out3 behind-operations operations at3 _ _ written3 c.put_operations-at.ensures in
@@ -341,14 +344,17 @@ put_parts-at-requires c =
     let conjuncts : List ℕ = let a = c.args in conjunct_bytes_in a.distinct.now a.having.now a.inside.now a.kinds.now a.scratch.now a.rule.head a.rule.kept in
     let whole : List ℕ = let a = c.args in rule_bytes_in a.distinct.now a.having.now a.inside.now a.kinds.now a.permissions.now a.operations a.starts.now a.scratch.now a.rule.head a.rule.kept in
     let sections : whole ≡ (0x21 ∷ []) ++ (conjuncts ++ behind-conjuncts) = let a = c.args in rule_sections a.distinct.now a.having.now a.inside.now a.kinds.now a.permissions.now a.operations a.starts.now a.scratch.now a.rule.head a.rule.kept in
-    let written2 : Writing whole c.args.out.now out2 1 (conjuncts ++ behind-conjuncts) = opened whole c.args.out.now out2 (conjuncts ++ behind-conjuncts) (0x21 ∷ []) sections c.requires.1 c.put_one.ensures in
+    let written2 : Writing whole c.args.out.now out2 1 (conjuncts ++ behind-conjuncts) = opened whole c.args.out.now out2 (conjuncts ++ behind-conjuncts) (0x21 ∷ []) sections c.requires.kept_in_bounds c.put_one.ensures in
     let written3 : Writing whole c.args.out.now out3 at3 behind-conjuncts = section_on whole c.args.out.now out2 behind-conjuncts conjuncts 1 _ _ written2 c.put_conjuncts-at.ensures in
     let out4 : List ℕ = back_in out3 at3 c.put_operations-at.new.out in
     let written4 : Writing whole c.args.out.now out4 at4 behind-operations = section_on whole c.args.out.now out3 behind-operations operations at3 _ _ written3 c.put_operations-at.ensures in
     let at5 : ℕ = at4 + c.put_atoms-at.result in
     let out5 : List ℕ = back_in out4 at4 c.put_atoms-at.new.out in
     let written5 : Writing whole c.args.out.now out5 at5 behind-atoms = section_on whole c.args.out.now out4 behind-atoms atoms at4 _ _ written4 c.put_atoms-at.ensures in
-    (c.requires.0, room_for _ _ out5 behind-parts parts at5 written5)
+    record {
+      operations_bound = c.requires.operations_bound;
+      head_in_bounds = room_for _ _ out5 behind-parts parts at5 written5;
+    }
 
 pub overflow_add-at-4 : goal.overflow_add-at-4
 overflow_add-at-4 c =
@@ -367,7 +373,7 @@ overflow_add-at-4 c =
     let conjuncts : List ℕ = let a = c.args in conjunct_bytes_in a.distinct.now a.having.now a.inside.now a.kinds.now a.scratch.now a.rule.head a.rule.kept in
     let whole : List ℕ = let a = c.args in rule_bytes_in a.distinct.now a.having.now a.inside.now a.kinds.now a.permissions.now a.operations a.starts.now a.scratch.now a.rule.head a.rule.kept in
     let sections : whole ≡ (0x21 ∷ []) ++ (conjuncts ++ behind-conjuncts) = let a = c.args in rule_sections a.distinct.now a.having.now a.inside.now a.kinds.now a.permissions.now a.operations a.starts.now a.scratch.now a.rule.head a.rule.kept in
-    let written2 : Writing whole c.args.out.now out2 1 (conjuncts ++ behind-conjuncts) = opened whole c.args.out.now out2 (conjuncts ++ behind-conjuncts) (0x21 ∷ []) sections c.requires.1 c.put_one.ensures in
+    let written2 : Writing whole c.args.out.now out2 1 (conjuncts ++ behind-conjuncts) = opened whole c.args.out.now out2 (conjuncts ++ behind-conjuncts) (0x21 ∷ []) sections c.requires.kept_in_bounds c.put_one.ensures in
     let written3 : Writing whole c.args.out.now out3 at3 behind-conjuncts = section_on whole c.args.out.now out2 behind-conjuncts conjuncts 1 _ _ written2 c.put_conjuncts-at.ensures in
     let out4 : List ℕ = back_in out3 at3 c.put_operations-at.new.out in
     let written4 : Writing whole c.args.out.now out4 at4 behind-operations = section_on whole c.args.out.now out3 behind-operations operations at3 _ _ written3 c.put_operations-at.ensures in
@@ -395,7 +401,7 @@ slice_bounds-put_level-count c =
     let conjuncts : List ℕ = let a = c.args in conjunct_bytes_in a.distinct.now a.having.now a.inside.now a.kinds.now a.scratch.now a.rule.head a.rule.kept in
     let whole : List ℕ = let a = c.args in rule_bytes_in a.distinct.now a.having.now a.inside.now a.kinds.now a.permissions.now a.operations a.starts.now a.scratch.now a.rule.head a.rule.kept in
     let sections : whole ≡ (0x21 ∷ []) ++ (conjuncts ++ behind-conjuncts) = let a = c.args in rule_sections a.distinct.now a.having.now a.inside.now a.kinds.now a.permissions.now a.operations a.starts.now a.scratch.now a.rule.head a.rule.kept in
-    let written2 : Writing whole c.args.out.now out2 1 (conjuncts ++ behind-conjuncts) = opened whole c.args.out.now out2 (conjuncts ++ behind-conjuncts) (0x21 ∷ []) sections c.requires.1 c.put_one.ensures in
+    let written2 : Writing whole c.args.out.now out2 1 (conjuncts ++ behind-conjuncts) = opened whole c.args.out.now out2 (conjuncts ++ behind-conjuncts) (0x21 ∷ []) sections c.requires.kept_in_bounds c.put_one.ensures in
     let written3 : Writing whole c.args.out.now out3 at3 behind-conjuncts = section_on whole c.args.out.now out2 behind-conjuncts conjuncts 1 _ _ written2 c.put_conjuncts-at.ensures in
     let out4 : List ℕ = back_in out3 at3 c.put_operations-at.new.out in
     let written4 : Writing whole c.args.out.now out4 at4 behind-operations = section_on whole c.args.out.now out3 behind-operations operations at3 _ _ written3 c.put_operations-at.ensures in
@@ -424,7 +430,7 @@ slice_bounds-put_level-start c =
     let conjuncts : List ℕ = let a = c.args in conjunct_bytes_in a.distinct.now a.having.now a.inside.now a.kinds.now a.scratch.now a.rule.head a.rule.kept in
     let whole : List ℕ = let a = c.args in rule_bytes_in a.distinct.now a.having.now a.inside.now a.kinds.now a.permissions.now a.operations a.starts.now a.scratch.now a.rule.head a.rule.kept in
     let sections : whole ≡ (0x21 ∷ []) ++ (conjuncts ++ behind-conjuncts) = let a = c.args in rule_sections a.distinct.now a.having.now a.inside.now a.kinds.now a.permissions.now a.operations a.starts.now a.scratch.now a.rule.head a.rule.kept in
-    let written2 : Writing whole c.args.out.now out2 1 (conjuncts ++ behind-conjuncts) = opened whole c.args.out.now out2 (conjuncts ++ behind-conjuncts) (0x21 ∷ []) sections c.requires.1 c.put_one.ensures in
+    let written2 : Writing whole c.args.out.now out2 1 (conjuncts ++ behind-conjuncts) = opened whole c.args.out.now out2 (conjuncts ++ behind-conjuncts) (0x21 ∷ []) sections c.requires.kept_in_bounds c.put_one.ensures in
     let written3 : Writing whole c.args.out.now out3 at3 behind-conjuncts = section_on whole c.args.out.now out2 behind-conjuncts conjuncts 1 _ _ written2 c.put_conjuncts-at.ensures in
     let out4 : List ℕ = back_in out3 at3 c.put_operations-at.new.out in
     let written4 : Writing whole c.args.out.now out4 at4 behind-operations = section_on whole c.args.out.now out3 behind-operations operations at3 _ _ written3 c.put_operations-at.ensures in
@@ -453,7 +459,7 @@ put_level-at-requires c =
     let conjuncts : List ℕ = let a = c.args in conjunct_bytes_in a.distinct.now a.having.now a.inside.now a.kinds.now a.scratch.now a.rule.head a.rule.kept in
     let whole : List ℕ = let a = c.args in rule_bytes_in a.distinct.now a.having.now a.inside.now a.kinds.now a.permissions.now a.operations a.starts.now a.scratch.now a.rule.head a.rule.kept in
     let sections : whole ≡ (0x21 ∷ []) ++ (conjuncts ++ behind-conjuncts) = let a = c.args in rule_sections a.distinct.now a.having.now a.inside.now a.kinds.now a.permissions.now a.operations a.starts.now a.scratch.now a.rule.head a.rule.kept in
-    let written2 : Writing whole c.args.out.now out2 1 (conjuncts ++ behind-conjuncts) = opened whole c.args.out.now out2 (conjuncts ++ behind-conjuncts) (0x21 ∷ []) sections c.requires.1 c.put_one.ensures in
+    let written2 : Writing whole c.args.out.now out2 1 (conjuncts ++ behind-conjuncts) = opened whole c.args.out.now out2 (conjuncts ++ behind-conjuncts) (0x21 ∷ []) sections c.requires.kept_in_bounds c.put_one.ensures in
     let written3 : Writing whole c.args.out.now out3 at3 behind-conjuncts = section_on whole c.args.out.now out2 behind-conjuncts conjuncts 1 _ _ written2 c.put_conjuncts-at.ensures in
     let out4 : List ℕ = back_in out3 at3 c.put_operations-at.new.out in
     let written4 : Writing whole c.args.out.now out4 at4 behind-operations = section_on whole c.args.out.now out3 behind-operations operations at3 _ _ written3 c.put_operations-at.ensures in
@@ -463,7 +469,7 @@ put_level-at-requires c =
     let at6 : ℕ = at5 + c.put_parts-at.result in
     let written5 : Writing whole c.args.out.now out5 at5 behind-atoms = section_on whole c.args.out.now out4 behind-atoms atoms at4 _ _ written4 c.put_atoms-at.ensures in
     let written6 : Writing whole c.args.out.now out6 at6 behind-parts = section_on whole c.args.out.now out5 behind-parts parts at5 _ _ written5 c.put_parts-at.ensures in
-    (omega (arith, c.requires.0.1.room, c.requires.0.2), room_for _ _ out6 [] levels at6 written6)
+    (omega (arith, c.requires.operations_bound.1.room, c.requires.operations_bound.2), room_for _ _ out6 [] levels at6 written6)
 
 pub overflow_add-at-5 : goal.overflow_add-at-5
 overflow_add-at-5 c =
@@ -482,7 +488,7 @@ overflow_add-at-5 c =
     let conjuncts : List ℕ = let a = c.args in conjunct_bytes_in a.distinct.now a.having.now a.inside.now a.kinds.now a.scratch.now a.rule.head a.rule.kept in
     let whole : List ℕ = let a = c.args in rule_bytes_in a.distinct.now a.having.now a.inside.now a.kinds.now a.permissions.now a.operations a.starts.now a.scratch.now a.rule.head a.rule.kept in
     let sections : whole ≡ (0x21 ∷ []) ++ (conjuncts ++ behind-conjuncts) = let a = c.args in rule_sections a.distinct.now a.having.now a.inside.now a.kinds.now a.permissions.now a.operations a.starts.now a.scratch.now a.rule.head a.rule.kept in
-    let written2 : Writing whole c.args.out.now out2 1 (conjuncts ++ behind-conjuncts) = opened whole c.args.out.now out2 (conjuncts ++ behind-conjuncts) (0x21 ∷ []) sections c.requires.1 c.put_one.ensures in
+    let written2 : Writing whole c.args.out.now out2 1 (conjuncts ++ behind-conjuncts) = opened whole c.args.out.now out2 (conjuncts ++ behind-conjuncts) (0x21 ∷ []) sections c.requires.kept_in_bounds c.put_one.ensures in
     let written3 : Writing whole c.args.out.now out3 at3 behind-conjuncts = section_on whole c.args.out.now out2 behind-conjuncts conjuncts 1 _ _ written2 c.put_conjuncts-at.ensures in
     let out4 : List ℕ = back_in out3 at3 c.put_operations-at.new.out in
     let written4 : Writing whole c.args.out.now out4 at4 behind-operations = section_on whole c.args.out.now out3 behind-operations operations at3 _ _ written3 c.put_operations-at.ensures in
@@ -513,7 +519,7 @@ shape_of-out c =
     let conjuncts : List ℕ = let a = c.args in conjunct_bytes_in a.distinct.now a.having.now a.inside.now a.kinds.now a.scratch.now a.rule.head a.rule.kept in
     let whole : List ℕ = let a = c.args in rule_bytes_in a.distinct.now a.having.now a.inside.now a.kinds.now a.permissions.now a.operations a.starts.now a.scratch.now a.rule.head a.rule.kept in
     let sections : whole ≡ (0x21 ∷ []) ++ (conjuncts ++ behind-conjuncts) = let a = c.args in rule_sections a.distinct.now a.having.now a.inside.now a.kinds.now a.permissions.now a.operations a.starts.now a.scratch.now a.rule.head a.rule.kept in
-    let written2 : Writing whole c.args.out.now out2 1 (conjuncts ++ behind-conjuncts) = opened whole c.args.out.now out2 (conjuncts ++ behind-conjuncts) (0x21 ∷ []) sections c.requires.1 c.put_one.ensures in
+    let written2 : Writing whole c.args.out.now out2 1 (conjuncts ++ behind-conjuncts) = opened whole c.args.out.now out2 (conjuncts ++ behind-conjuncts) (0x21 ∷ []) sections c.requires.kept_in_bounds c.put_one.ensures in
     let written3 : Writing whole c.args.out.now out3 at3 behind-conjuncts = section_on whole c.args.out.now out2 behind-conjuncts conjuncts 1 _ _ written2 c.put_conjuncts-at.ensures in
     let out4 : List ℕ = back_in out3 at3 c.put_operations-at.new.out in
     let written4 : Writing whole c.args.out.now out4 at4 behind-operations = section_on whole c.args.out.now out3 behind-operations operations at3 _ _ written3 c.put_operations-at.ensures in
@@ -545,7 +551,7 @@ returns c =
     let conjuncts : List ℕ = let a = c.args in conjunct_bytes_in a.distinct.now a.having.now a.inside.now a.kinds.now a.scratch.now a.rule.head a.rule.kept in
     let whole : List ℕ = let a = c.args in rule_bytes_in a.distinct.now a.having.now a.inside.now a.kinds.now a.permissions.now a.operations a.starts.now a.scratch.now a.rule.head a.rule.kept in
     let sections : whole ≡ (0x21 ∷ []) ++ (conjuncts ++ behind-conjuncts) = let a = c.args in rule_sections a.distinct.now a.having.now a.inside.now a.kinds.now a.permissions.now a.operations a.starts.now a.scratch.now a.rule.head a.rule.kept in
-    let written2 : Writing whole c.args.out.now out2 1 (conjuncts ++ behind-conjuncts) = opened whole c.args.out.now out2 (conjuncts ++ behind-conjuncts) (0x21 ∷ []) sections c.requires.1 c.put_one.ensures in
+    let written2 : Writing whole c.args.out.now out2 1 (conjuncts ++ behind-conjuncts) = opened whole c.args.out.now out2 (conjuncts ++ behind-conjuncts) (0x21 ∷ []) sections c.requires.kept_in_bounds c.put_one.ensures in
     let written3 : Writing whole c.args.out.now out3 at3 behind-conjuncts = section_on whole c.args.out.now out2 behind-conjuncts conjuncts 1 _ _ written2 c.put_conjuncts-at.ensures in
     let out4 : List ℕ = back_in out3 at3 c.put_operations-at.new.out in
     let written4 : Writing whole c.args.out.now out4 at4 behind-operations = section_on whole c.args.out.now out3 behind-operations operations at3 _ _ written3 c.put_operations-at.ensures in
