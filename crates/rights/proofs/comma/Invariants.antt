@@ -1,6 +1,5 @@
--- The invariant: no byte behind the last. Assumes nothing.
-use Prim.Native.Nat.{◌≤◌, ◌-◌}
-use lib.ListN.{length}
+-- No byte behind the last. Assumes nothing.
+use Rattle.std.proofs.Common.{length, ◌-◌, ◌≤◌}
 use Rattle.rights.proofs.comma.Given as goal
 
 abbrev pub invariant-loop-at : goal.invariant-loop-at
