@@ -2,11 +2,7 @@
 use Prim.Native.Nat.{ℕ}
 use lib.ListN.{length-replicate}
 use mathlib.Core.Path.{sym}
-use Rattle.denials.proofs.log_buffer.Statement.{statement}
-use Rattle.denials.proofs.log_buffer.Tie as tie
+use Rattle.denials.proofs.log_buffer.Goals as goal
 
-returns : tie.Need-returns
+pub returns : goal.returns
 returns c = sym (length-replicate {0} {A = ℕ} 3145728 0)
-
-pub log-buffer-spec : {M : Type 1} → statement M
-log-buffer-spec = tie.close (tie.spec returns)
