@@ -11,15 +11,20 @@ import subprocess
 import sys
 import tempfile
 
-PROGRAMS = os.path.join(os.path.dirname(os.path.abspath(__file__)), "..", "target", "bin")
+CRATES = os.path.join(os.path.dirname(os.path.dirname(os.path.abspath(__file__))), "crates")
 
 # What the program load is told to make a role file of the greatest length, 65,535 bytes.
 LONGEST = "37 64 62 16 32"
 
 
+def built(program):
+    """The program of this repository that `rt ci`, or `rt run` in its crate's folder, has built."""
+    return os.path.join(CRATES, program, "out", program)
+
+
 def written(name, program, *words, given=b""):
     """The file of this name that a program of this repository writes in its working directory."""
-    command = [os.path.abspath(os.path.join(PROGRAMS, program)), *words]
+    command = [built(program), *words]
     with tempfile.TemporaryDirectory() as folder:
         subprocess.run(command, cwd=folder, input=given, stdout=subprocess.DEVNULL, check=True)
         with open(os.path.join(folder, name), "rb") as file:

@@ -1,36 +1,38 @@
 #!/usr/bin/env python3
-"""Build the library for another processor: target/staticlib/PROCESSOR/libfichtengarn.a.
+"""Build the static library for C and Rust: target/staticlib/libfichtengarn.a, and target/staticlib/PROCESSOR/libfichtengarn.a.
 
-    processors/build.py [PROCESSOR]       aarch64 if left out, or riscv64
+    processors/build.py [--gate] [PROCESSOR ..]      x86_64 and aarch64 if left out; or riscv64
 
-`rt staticlib fichtengarn` proves the library and writes the archive for x86-64: its last step is the kit's own clang on
-one LLVM module. Here rt is handed the kit as a folder of links, in which clang alone is a script: it keeps the module and
-the words that come with it, and goes on as the kit's clang. Then the kit's clang compiles the same module, by the same
-words, for PROCESSOR. Nothing of the kit is changed or copied, and nothing else is needed.
+The crate fichtengarn_c is the library: rattle proves it over the crates below it, and compiles what is proved for x86_64 or
+for aarch64. `rt lib` in crates/fichtengarn_c proves the crates below first, and leaves each in its out/; with --gate those
+are taken that `rt ci` has proved and left there just now. The archive for x86_64 stands in target/staticlib itself.
 
-What is proved of the archive: the source of that module, as on x86-64. What is not, and the script says so:
+rattle has no riscv64. For it the module is kept that rattle hands to the kit's clang for aarch64: rattle is handed the toolchain
+as a folder of links, in which clang alone is a script that keeps the module and the words that come with it, and goes on as
+the kit's. Then the kit's clang compiles the same module, by the same words, for riscv64. Nothing of the kit is changed or copied.
 
-  - the back end, which compiles the module; on x86-64 it is not proved either;
-  - that the module, which was lowered for x86-64's layout, means the same here: the layouts as clang names them are
-    compared, and both are little-endian with words and pointers of 64 bits;
-  - the heads of the exported functions. A module says how a struct goes by value in the terms of one processor's C
-    interface. What include/fichtengarn.h comes to on PROCESSOR is asked of the kit's clang, and each head is compared with
-    it. Where x86-64 has a large struct on the stack, aarch64 and riscv64 have a pointer to a copy that the caller made;
-    and where x86-64 has the place for a large answer in the first register, aarch64 has it in a register of its own. These two
-    heads are rewritten; any other difference ends the script.
+What is proved of an archive: the source that it is compiled from. What is not, and the script says so:
+
+  - the compiler: rattle's lowering to LLVM, and clang;
+  - for riscv64 also that the module, which was lowered for aarch64's layout, means the same there: the layouts as clang names
+    them are compared, and both are little-endian with words and pointers of 64 bits. And how structs go by value: what
+    include/fichtengarn.h comes to on riscv64 is asked of the kit's clang, and each head of the module has to be as it says. Both
+    processors have a pointer to the caller's copy for a large struct, and two registers for one of two words. Nor does
+    rattle look through what clang's first passes made of that module, as it does for the other two.
 """
 import os
-import platform
 import re
 import shlex
+import shutil
 import subprocess
 import sys
 import tempfile
 
 ROOT = os.path.dirname(os.path.dirname(os.path.abspath(__file__)))
 LIBRARY = "fichtengarn"
+CRATE = "fichtengarn_c"
 ARCHIVES = os.path.join(ROOT, "target", "staticlib")
-PROCESSORS = ["aarch64", "riscv64"]
+PROCESSORS = ["x86_64", "aarch64", "riscv64"]
 
 # What both layouts must say: little-endian, and the alignment of wide words and of the stack. Pointers have 64 bits
 # where a layout says nothing else.
@@ -55,9 +57,10 @@ HEAD = re.compile(rf"^(?:define|declare) (?!internal)(?:noundef )?(\S.*?) @({LIB
 
 # What is said of a parameter that changes nothing in where it is passed. That a word of 32 bits is extended is the
 # caller's to do; a function that is not told so looks at its 32 bits.
-ASIDES = re.compile(r" (?:noundef|signext|dead_on_return|dead_on_unwind|writable|align \d+|%a\d+)")
-ON_STACK = re.compile(r" byval\([^)]*\)")
-PLACE_FOR_ANSWER = re.compile(r"^ptr sret\([^)]*\)$")
+ASIDES = re.compile(
+    r" (?:noundef|signext|nonnull|readonly|readnone|writeonly|noalias|nofree|dead_on_return|dead_on_unwind|writable"
+    r"|align \d+|captures\([^)]*\)|dereferenceable\(\d+\)|initializes\(\(.*?\)\)|%a\d+)"
+)
 
 # Two words returned in two registers, in the words of either side.
 TWO_WORDS = ["{ i64, i64 }", "[2 x i64]"]
@@ -77,49 +80,96 @@ def write(path, text):
         file.write(text)
 
 
-# ---- the module
+def run(words, **other):
+    done = subprocess.run(words, **other)
+    if done.returncode:
+        sys.exit(done.returncode)
+
+
+# ---- the crate
 
 
 def kit():
-    """The folder of the kit, which has the guide in docs/."""
-    guide = subprocess.run(["rt", "doc"], check=True, capture_output=True, text=True).stdout.strip()
-    return os.path.dirname(os.path.dirname(guide))
+    """The folder of the kit, at whose top the page stands that is to be read first."""
+    page = subprocess.run(["rt", "doc"], check=True, capture_output=True, text=True).stdout.strip()
+    return os.path.dirname(page)
 
 
-def link_all_but(real, links, path):
-    """The folder `real` by links, all but what stands at this path in it; returns where that would stand."""
-    os.mkdir(links)
-    for name in os.listdir(real):
-        if name != path[0]:
-            os.symlink(os.path.join(real, name), os.path.join(links, name))
-    below = os.path.join(links, path[0])
-    return link_all_but(os.path.join(real, path[0]), below, path[1:]) if path[1:] else below
+def listed():
+    """The crates of crates.txt, each with those that it names."""
+    lines = [line.split(":") for line in read(os.path.join(ROOT, "crates.txt")).splitlines() if ":" in line.partition("#")[0]]
+    return {head.split()[0]: names.split() for head, names in lines}
 
 
-def proved_module(tools, folder):
-    """Proves the library and writes the archive for x86-64; returns its module, and clang's words for it."""
+def below(crate, crates, found):
+    for name in crates[crate]:
+        if name in crates and name not in found:
+            found.append(name)
+            below(name, crates, found)
+    return found
+
+
+def built(crate):
+    return os.path.join(ROOT, "crates", crate, "out", "rlib")
+
+
+def prove_below(crates, gate):
+    """Has the crates below proved and built, unless a run of rt ci has just left them all. What another command left has a stamp."""
+    libraries = [built(name) for name in below(CRATE, crates, [])]
+    names = [os.listdir(folder) if os.path.isdir(folder) else [] for folder in libraries]
+    if not gate or not all(names) or any("stamp" in found for found in names):
+        run(["rt", "lib"], cwd=os.path.join(ROOT, "crates", CRATE), stdout=subprocess.DEVNULL)
+
+
+def compile_crate(processor, toolchain, archive, crates):
+    """Proves the crate over those below, and writes its archive for a processor that rattle has."""
+    of_kit = [name for name in ["std", *crates[CRATE]] if name not in crates]
+    words = ["--crate-name", CRATE, "src/lib.rt", "-L", f"dependency={kit()}/rlibs"]
+    for name in of_kit:
+        words += ["--extern", f"{name}={kit()}/rlibs/{name}.rlib"]
+    for name in crates[CRATE]:
+        words += ["--extern", f"{name}={built(name)}/{name}.rlib"] if name in crates else []
+    for name in below(CRATE, crates, []):
+        words += ["-L", f"dependency={built(name)}"]
+    words += ["--antt-project", f"{kit()}/rattle/logic/antt-project.json", "--logic-built", f"{kit()}/logic_built"]
+    words += ["--crate-type", "staticlib", "--target", f"{processor}-unknown-linux-gnu", "--backend", "llvm"]
+    words += ["--jobs", "2", "--toolchain", toolchain, "-o", archive]
+    done = subprocess.run(
+        [f"{kit()}/bin/rattle", "build", *words],
+        cwd=os.path.join(ROOT, "crates", CRATE),
+        stdout=subprocess.PIPE,
+        stderr=subprocess.STDOUT,
+        text=True,
+    )
+    if done.returncode:
+        fail(f"not built for {processor}\n{done.stdout}")
+
+
+# ---- riscv64: the module, and the heads of its functions
+
+
+def kept_module(folder, crates):
+    """The module of the crate for aarch64, and the words that the kit's clang gets for it at last."""
+    real, links = os.path.join(kit(), "toolchain"), os.path.join(folder, "toolchain")
     module, words = os.path.join(folder, "module.bc"), os.path.join(folder, "words")
-    links = os.path.join(folder, "kit")
-    clang = link_all_but(kit(), links, ["on", platform.machine(), "toolchain", "bin", "clang"])
+    os.makedirs(os.path.join(links, "bin"))
+    for name in [*os.listdir(real), *(os.path.join("bin", name) for name in os.listdir(os.path.join(real, "bin")))]:
+        if name not in ("bin", "bin/clang"):
+            os.symlink(os.path.join(real, name), os.path.join(links, name))
+    clang = os.path.join(links, "bin", "clang")
     write(
         clang,
         f"""#!/bin/sh
-printf '%s\\n' "$@" >>{shlex.quote(words)}
+printf '%s\\n' "$@" >{shlex.quote(words)}
 for word; do case $word in *.bc) cp "$word" {shlex.quote(module)} ;; esac; done
-exec {shlex.quote(os.path.join(tools, "clang"))} "$@"
+exec {shlex.quote(os.path.join(real, "bin", "clang"))} "$@"
 """,
     )
     os.chmod(clang, 0o755)
-    done = subprocess.run(["rt", "staticlib", LIBRARY], cwd=ROOT, env={**os.environ, "RATTLE_HOME": links})
-    if done.returncode:
-        sys.exit(done.returncode)
-    handed = read(words).splitlines() if os.path.exists(words) else []
-    if sum(word.endswith(".bc") for word in handed) != 1:
-        fail("rt staticlib handed another number of modules than one to the kit's clang")
-    return module, handed
-
-
-# ---- the heads of its functions
+    compile_crate("aarch64", links, os.path.join(folder, "aarch64.a"), crates)
+    if not os.path.exists(module):
+        fail("rattle handed no module to the kit's clang")
+    return module, read(words).splitlines()
 
 
 def header_text(clang, processor, names, folder):
@@ -140,60 +190,12 @@ def target(processor):
 
 
 def heads(text):
-    """By name: what a function returns, and its parameters."""
-    return {name: (returned, parameters.split(", ")) for returned, name, parameters in HEAD.findall(text)}
-
-
-def plain(parameter):
-    return ASIDES.sub("", parameter)
-
-
-def fitted(name, ours, theirs):
-    """The head of the module's function so that it is the header's: unlike in the two ways that are known, or not at all."""
-    returned, parameters = ours
-    theirs_returned, theirs_parameters = theirs
-    by_place = PLACE_FOR_ANSWER.match(plain(theirs_parameters[0])) and theirs_returned == "void"
-    if by_place and returned == "ptr" and plain(parameters[0]) == "ptr":
-        returned, parameters = "void", [parameters[0].replace("ptr", "ptr sret(i8)", 1), *parameters[1:]]
-    elif returned != theirs_returned and not {returned, theirs_returned} <= set(TWO_WORDS):
-        fail(f"{name} returns {returned} in the module and {theirs_returned} in the header")
-    if len(parameters) != len(theirs_parameters):
-        fail(f"{name} has {len(parameters)} parameters in the module and {len(theirs_parameters)} in the header")
-    return returned, [
-        fitted_parameter(name, number, ours, theirs) for number, (ours, theirs) in enumerate(zip(parameters, theirs_parameters))
-    ]
-
-
-def fitted_parameter(name, number, ours, theirs):
-    kinds = [re.sub(r"\([^)]*\)", "", plain(parameter)) for parameter in (ours, theirs)]
-    if kinds == ["ptr byval", "ptr"]:
-        return ON_STACK.sub("", ours)
-    if kinds[0] != kinds[1]:
-        fail(f"parameter {number} of {name} is {kinds[0]} in the module and {kinds[1]} in the header")
-    return ours
-
-
-def with_heads(text, wanted):
-    """The module's text with these heads, and the names of those that are other than they were."""
-    rewritten = []
-    for found in list(HEAD.finditer(text))[::-1]:
-        returned, name, parameters = found.groups()
-        new_returned, new_parameters = wanted[name]
-        if (returned, parameters) == (new_returned, ", ".join(new_parameters)):
-            continue
-        rewritten.insert(0, name)
-        end = text.index("\n}\n", found.end())
-        body = text[found.end() : end]
-        if new_returned != returned:
-            if body.count("ret ") != 1 or not body.endswith("ret ptr %a0"):
-                fail(f"{name} returns something else than the place for its answer")
-            body = body.replace("ret ptr %a0", "ret void")
-        head = f"define {new_returned} @{name}({', '.join(new_parameters)})"
-        text = text[: found.start()] + head + body + text[end:]
-    return text, rewritten
-
-
-# ---- the archive
+    """By name: what a function returns, and its parameters by their kinds."""
+    found = {}
+    for returned, name, parameters in HEAD.findall(text):
+        kinds = [re.sub(r"sret\(.*\)$", "sret", ASIDES.sub("", it)) for it in re.split(r", (?![^()]*\))", parameters)]
+        found[name] = "two words" if returned in TWO_WORDS else returned, kinds
+    return found
 
 
 def for_target(text, theirs):
@@ -207,53 +209,76 @@ def for_target(text, theirs):
 
 
 def words_for(processor, words, module, output):
-    """The words of the kit's own call, for another processor and other files."""
+    """The words of the kit's last call, for another processor, other files, and with all of clang's passes."""
     kept, place = [], 0
     while place < len(words):
         word = words[place]
-        place += 2 if word == "-o" else 1
-        if word.endswith(".bc"):
+        place += 1
+        if word == "-o" or word == "-Xclang" and words[place] == "-disable-llvm-passes":
+            place += 1
+        elif word.endswith(".ll"):
             kept += [module, "-o", output]
-        elif word != "-o" and not word.startswith(("--target=", "-march=", "--sysroot=")):
+        elif not word.startswith(("--target=", "-march=", "--sysroot=")):
             kept.append(word)
     return [target(processor), *kept]
 
 
-def build(processor):
-    tools = os.path.join(kit(), "on", platform.machine(), "toolchain", "bin")
+def compile_module(processor, folder, archive, crates):
+    """Writes the archive for a processor that rattle does not have."""
+    tools = os.path.join(kit(), "toolchain", "bin")
     clang = os.path.join(tools, "clang")
-    os.makedirs(os.path.join(ARCHIVES, processor), exist_ok=True)
-    with tempfile.TemporaryDirectory(dir=os.path.join(ROOT, "target")) as folder:
-        module, words = proved_module(tools, folder)
-        told = os.path.join(folder, "module.ll")
-        as_text = ["-S", "-emit-llvm", "-Xclang", "-disable-llvm-passes", "-x", "ir", module, "-o", told]
-        subprocess.run([clang, *as_text], check=True)
-        text = read(told)
-        ours = heads(text)
-        named = PROTOTYPE.findall(read(os.path.join(ROOT, "include", f"{LIBRARY}.h")))
-        if set(ours) != set(named):
-            fail(f"functions of the module or of the header alone: {sorted(set(ours) ^ set(named))}")
-        theirs = header_text(clang, processor, named, folder)
-        wanted = heads(theirs)
-        text, rewritten = with_heads(text, {name: fitted(name, head, wanted[name]) for name, head in ours.items()})
-        write(told, for_target(text, theirs))
-        output = os.path.join(folder, f"{LIBRARY}.o")
-        subprocess.run([clang, *words_for(processor, words, told, output)], check=True)
-        archive = os.path.join(ARCHIVES, processor, f"lib{LIBRARY}.a")
-        if os.path.exists(archive):
-            os.remove(archive)
-        subprocess.run([os.path.join(tools, "llvm-ar"), "rcsD", archive, output], check=True)
-    print(f"{os.path.relpath(archive, ROOT)} is the library for {processor}: {len(ours)} functions")
-    print("proved: the source of the module that it is compiled from, as for x86-64")
-    print("not proved: the back end, as on x86-64; that the module, lowered for x86-64's layout, means the same here")
-    print(f"not proved: how structs go by value on {processor}; other heads than x86-64's: {', '.join(rewritten) or 'none'}")
+    module, words = kept_module(folder, crates)
+    told = os.path.join(folder, "module.ll")
+    as_text = ["-S", "-emit-llvm", "-Xclang", "-disable-llvm-passes", "-x", "ir", module, "-o", told]
+    run([clang, target("aarch64"), *as_text])
+    text = read(told)
+    named = PROTOTYPE.findall(read(os.path.join(ROOT, "include", f"{LIBRARY}.h")))
+    theirs = header_text(clang, processor, named, folder)
+    ours, wanted = heads(text), heads(theirs)
+    if set(ours) != set(named):
+        fail(f"functions of the module or of the header alone: {sorted(set(ours) ^ set(named))}")
+    for name in named:
+        if ours[name] != wanted[name]:
+            fail(f"{name} is {ours[name]} in the module and {wanted[name]} in the header")
+    write(told, for_target(text, theirs))
+    output = os.path.join(folder, f"{LIBRARY}.o")
+    run([clang, *words_for(processor, words, told, output)])
+    run([os.path.join(tools, "llvm-ar"), "rcsD", archive, output])
+
+
+# ---- the archives
+
+
+def archive_of(processor):
+    inside = [] if processor == "x86_64" else [processor]
+    return os.path.join(ARCHIVES, *inside, f"lib{LIBRARY}.a")
+
+
+def build(processor, crates):
+    archive = archive_of(processor)
+    os.makedirs(os.path.dirname(archive), exist_ok=True)
+    with tempfile.TemporaryDirectory() as folder:
+        made = os.path.join(folder, f"lib{LIBRARY}.a")
+        if processor == "riscv64":
+            compile_module(processor, folder, made, crates)
+        else:
+            compile_crate(processor, os.path.join(kit(), "toolchain"), made, crates)
+        shutil.move(made, archive)
+    print(f"{os.path.relpath(archive, ROOT)} is the library for {processor}")
+    print("proved: the source that it is compiled from. Not proved: the compiler")
+    if processor == "riscv64":
+        print("not proved: that the module, lowered for aarch64's layout, means the same here; how structs go by value")
 
 
 def main():
-    processor = sys.argv[1] if len(sys.argv) == 2 else PROCESSORS[0]
-    if len(sys.argv) > 2 or processor not in PROCESSORS:
-        sys.exit(f"usage: processors/build.py [{' | '.join(PROCESSORS)}]")
-    build(processor)
+    gate = "--gate" in sys.argv[1:]
+    processors = [word for word in sys.argv[1:] if word != "--gate"] or PROCESSORS[:2]
+    if not set(processors) <= set(PROCESSORS):
+        sys.exit(f"usage: processors/build.py [--gate] [{' | '.join(PROCESSORS)} ..]")
+    crates = listed()
+    prove_below(crates, gate)
+    for processor in processors:
+        build(processor, crates)
 
 
 if __name__ == "__main__":

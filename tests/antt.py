@@ -22,6 +22,7 @@ COMMENT = re.compile(r'"(?:\\.|[^"\\])*"|\{-.*?-\}|(?<![^\s(){}.;,@])--[^\n]*', 
 TOKEN = re.compile(r'"(?:\\.|[^"\\])*"|«[^»]*»|[(){};,@.]|[^\s(){}.;,@"«»]+')
 SIGNATURE = re.compile(r"\s*((?:(?:unfoldable|abbrev|pub|axiom)\s+)*)([^\s(){}.;,@\"«»]+)\s*(\{[^}:]*\})?\s*:(?=\s|$)")
 USE = re.compile(r"\s*(pub\s+)?use\s+(.*)", re.S)
+MODULE = re.compile(r"[^\s{}*]+\s*$")
 
 
 class NotRead(Exception):
@@ -97,7 +98,7 @@ def is_word(token):
 
 
 def without_fields(found):
-    """Tokens with every field behind a space left out, and with paths made one token: `a .f` is `a`, `a.b` one name."""
+    """Tokens with every field behind a bracket left out, and with paths made one token: `(a).f` is `(a)`, `a.b` one name."""
     kept = []
     i = 0
     while i < len(found):
@@ -165,7 +166,7 @@ def is_name(node):
 
 
 def operator_parts(name):
-    return [part for part in name.split("_") if part] if "_" in name else []
+    return [part for part in name.split("◌") if part] if "◌" in name else []
 
 
 def binder(group):
@@ -216,6 +217,7 @@ class File:
     def __init__(self, text):
         self.comment = first_comment(text, "--")
         self.imports = []
+        self.modules = {}
         self.items = []
         self.fixities = []
         self.not_read = []
@@ -236,7 +238,7 @@ class File:
             if words[0].startswith("infix"):
                 self.fixities.append((line, words[-1]))
         elif words[0] == "use":
-            self.imports += imports_in(USE.match(joined(rows)).group(2), line, self.not_read)
+            self.use(USE.match(joined(rows)).group(2), line)
         elif words[0] == "module":
             self.module(rows, heads)
             return None
@@ -247,6 +249,13 @@ class File:
         else:
             return self.clause_or_signature(rows, heads, item)
         return item
+
+    def use(self, text, line):
+        """`use PATH` brings a module, through whose name its items are written; `use PATH.{..}` brings these."""
+        if MODULE.match(text):
+            self.modules[text.split()[0].split(".")[-1]] = text.split()[0]
+        else:
+            self.imports += imports_in(text, line, self.not_read)
 
     def module(self, rows, heads):
         end = next((i for i, (number, row) in enumerate(rows) if row.split()[-1] == "where"), None)
@@ -315,6 +324,7 @@ class Scope:
     def __init__(self):
         self.targets = {}
         self.constructors = set()
+        self.modules = {}
 
     def add(self, name, target, constructor=False):
         for spelling in [name] + operator_parts(name):
@@ -325,8 +335,8 @@ class Scope:
     def find(self, text):
         if text in self.targets:
             return self.targets[text]
-        if "_" in text and text.strip("_") in self.targets:
-            return self.targets[text.strip("_")]
+        if "◌" in text and text.strip("◌") in self.targets:
+            return self.targets[text.strip("◌")]
         return self.targets.get(text.split(".")[0], [])
 
 
@@ -345,7 +355,11 @@ class Citations:
     # names
 
     def cite(self, token):
-        targets = self.scope.find(token.text) or self.whole_path(token.text)
+        module, dot, name = token.text.rpartition(".")
+        if module in self.scope.modules:
+            targets = self.whole_path(self.scope.modules[module] + "." + name)
+        else:
+            targets = self.scope.find(token.text) or self.whole_path(token.text)
         for target in targets or []:
             self.cited.setdefault(target, token.line)
         if not targets:
@@ -356,7 +370,7 @@ class Citations:
             raise NotRead("`%s`" % token.text)
         if not is_name(token):
             return
-        if {token.text, token.text.split(".")[0], token.text.strip("_")} & bound:
+        if {token.text, token.text.split(".")[0], token.text.strip("◌")} & bound:
             self.hiding += [(target, token.line) for target in self.scope.find(token.text)]
         else:
             self.cite(token)

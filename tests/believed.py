@@ -7,7 +7,8 @@ usage: believed.py [ROOT]                prints them for each of these and for a
        believed.py --write-table [ROOT]  puts them there
 
 Checked, with a line `file:line: what` on standard error for each fault, and exit status 1 if there is one:
- - What any contract or any definition in a definitions file cites, transitively, stands in no file named ...Laws.
+ - What any contract or any definition in a definitions file cites, transitively, stands in no file named ...Laws, in `specs/`
+   or in `proofs/`.
  - A definitions file, which is any other file of `specs/`, holds no law and imports nothing from a file of laws.
  - No symbol of the library has another meaning in a contract or a definition (`check_meanings`).
  - The tables in docs/DESIGN.md are those that this script prints.
@@ -36,7 +37,7 @@ CALLS = [
     ("log_denials", "denials"),
     ("mining", "mine"),
     ("mining", "rule_bytes"),
-    ("fichtengarn", None),
+    ("fichtengarn_c", None),
 ]
 
 # What is stated of more than one use of a call, and so in no contract: crate and definition. A law has it as its type.
@@ -46,28 +47,29 @@ STATEMENTS = [
     ("files", "AnyScratch"),
 ]
 
-# Symbols with the one module of the library that they may come from. It has others of the same spelling: `_<_`,
-# `length` and `getD` over another ℕ, `_∷_` of texts, `_∈_` of sets that are predicates.
+# Symbols with the one module of the library that they may come from. It has others of the same spelling: `◌<◌`,
+# `length` and `get_or` over another ℕ, `◌∷◌` of texts, `◌∈◌` of sets that are predicates.
 ORIGINS = {
-    "Prim.Native.Nat": "ℕ zero suc _+_ _*_ _-_ _/_ _%_ _^_ _≤_ _<_ min max",
-    "mathlib.Core.Path": "_≡_ refl",
-    "mathlib.Core.Logic": "_⊎_ inl inr _≢_",
-    "mathlib.Core.Bool": "Bool true false cond not _&&_ _||_",
-    "mathlib.Core.List": "List [] _∷_ _++_ map List·Memᴰ",
-    "mathlib.Core.Option": "Option none some Option·map",
-    "mathlib.Mathlib.Data.Set.Defs": "_∈_ _∉_ _⊆_",
-    "lib.ListN": "length getD take drop set replicate",
-    "lib.Dec": "eqb ltb leb",
-    "lib.Bits": "bitAnd bitOr bitXor",
+    "Rattle.std.specs.Prelude": "ℕ zero suc ◌+◌ ◌*◌ ◌-◌ ◌/◌ ◌%◌ ◌^◌ ◌≤◌ ◌<◌ min max ◌≡◌ refl ◌⊎◌ ◌≢◌ ◌↔◌"
+    " Bool true false cond not ◌&&◌ ◌||◌ List [] ◌∷◌ ◌++◌ map length get_or take drop set replicate eqb ltb leb",
+    "Rattle.std.proofs.Math.Logic": "inl inr",
+    "mathlib.Core.List": "Memᴰ",
+    "Rattle.std.proofs.Math.Option": "Option none some",
+    "mathlib.Mathlib.Data.Set.Defs": "◌∈◌ ◌∉◌ ◌⊆◌",
+    "Rattle.std.specs.Int.Bits": "bit_and bit_or bit_xor",
 }
 CORE = {name: module for module, names in ORIGINS.items() for name in names.split()}
 
+# Symbols that another module has as well. The Prelude passes those of lists on as they are. `map` of an Option has the name that
+# `map` of a list has; which one is meant is told by what it is given, and no file can bring both.
+ALSO = {("mathlib.Core.List", name) for name in "List [] ◌∷◌ ◌++◌ map".split()} | {("Rattle.std.proofs.Math.Option", "map")}
+
 # In scope without an import: everywhere, and in contracts.
-PRELUDE = "⊥ absurd ¬_ Unit tt Dec yes no IsProp IsSet Discrete Id J Path ∥_∥₁ ∣_∣₁ _×_ _→_ _↔_".split()
-LENT = "now ⌜_⌝".split()
+PRELUDE = "⊥ absurd ¬◌ Unit tt Dec yes no IsProp IsSet Discrete Id J Path ∥◌∥₁ ∣◌∣₁ ◌×◌ ◌→◌".split()
+LENT = ["result"]
 
 # Names of the library that stand for themselves in a pattern; any other name there is bound by it.
-CONSTRUCTORS = "zero suc true false [] _∷_ none some inl inr tt yes no refl".split()
+CONSTRUCTORS = "zero suc true false [] ◌∷◌ none some inl inr tt yes no refl Some None Ok Err".split()
 
 DESIGN = "docs/DESIGN.md"
 BEGIN, END = "<!-- believed: begin -->", "<!-- believed: end -->"
@@ -105,7 +107,7 @@ def is_laws(path):
 
 
 class Spec:
-    """A file of a crate's `specs/`."""
+    """A file of a crate's `specs/`, or one of laws of its `proofs/`."""
 
     def __init__(self, tree, crate, path):
         self.tree = tree
@@ -198,8 +200,9 @@ class Tree:
     def __init__(self, root):
         self.root = root
         self.faults = set()
-        self.crates = [row.split(":")[0] for row in self.text("crates.txt").split("\n") if ":" in row]
-        self.specs = self.files("specs", ".antt", Spec)
+        rows = [row for row in self.text("crates.txt").split("\n") if ":" in row.partition("#")[0]]
+        self.crates = [row.split(":")[0].split()[0] for row in rows]
+        self.specs = {**self.files("specs", ".antt", Spec), **self.files("proofs", "Laws.antt", Spec)}
         self.sources = self.files("src", ".rt", Source)
 
     def text(self, path):
@@ -243,12 +246,12 @@ class Tree:
 
     def target(self, path, name):
         """What a name of a module stands for: an entry or a symbol of the library; none if the module lacks it."""
-        match = re.match(r"Rattle·([^.·]+)(?:·specs)?\.(.+)$", path)
+        match = re.match(r"Rattle\.(\w+)\.(.+)$", path)
         if not match or match.group(1) not in self.crates:
             return Library(path, name)
         crate, parts = match.group(1), match.group(2).split(".")
         if parts[:2] == ["specs", "declared"]:
-            return self.type(crate, [part for part in parts if part != "the-variants"][-1])
+            return self.type(crate, [part for part in parts if part != "TheVariants"][-1])
         spec = self.specs.get("/".join(["crates", crate] + parts) + ".antt")
         return spec.entries.get(name) if spec else None
 
@@ -256,7 +259,7 @@ class Tree:
         """What a text names by its whole path."""
         path, dot, name = text.rpartition(".")
         target = self.target(path, name) if dot else None
-        if isinstance(target, Library) and path.split(".")[0] not in ("Prim", "lib", "mathlib", "native", "borrow"):
+        if isinstance(target, Library) and path.split(".")[0] not in ("Prim", "lib", "mathlib", "native", "borrow", "Rattle"):
             return []
         return [target] if target else []
 
@@ -267,6 +270,7 @@ class Tree:
     def scope(self, file, given):
         """The names that a file has without declaring them."""
         scope = antt.Scope()
+        scope.modules = getattr(file.file, "modules", {})
         for name in given:
             scope.add(name, Library("Prim", name), name in CONSTRUCTORS)
         for brought, target in self.imports(file):
@@ -281,7 +285,7 @@ class Tree:
 def is_constructor(brought, target):
     if isinstance(target, Library):
         return brought.original in CONSTRUCTORS
-    return brought.path.endswith(".the-variants") or target.kind == "data" and brought.original != target.name
+    return brought.path.endswith(".TheVariants") or target.kind == "data" and brought.original != target.name
 
 
 # ---- what rests on what
@@ -442,7 +446,7 @@ def check_import(tree, file, brought, target, names, origins):
         tree.fault(file.path, brought.line, what % (brought.original, brought.path, brought.name))
     elif isinstance(target, Library) and brought.name == brought.original:
         origin = origins.setdefault(brought.name, brought.path)
-        if origin != brought.path:
+        if origin != brought.path and (brought.path, brought.name) not in ALSO:
             what = "brings %s from %s in place of %s"
             tree.fault(file.path, brought.line, what % (brought.name, brought.path, origin))
 

@@ -7,7 +7,7 @@ Builds both archives (processors/build.py) and has tests/processors/calls.c make
 both: on files of the differential test's makers, whole and damaged, small and of the largest sizes, each call on a stack
 as long as the header says. Every answer and every byte of lent memory must be the same, every answer that the header
 names must be met, and the worked example must print what it should. The archives must have the header's functions and need
-nothing but memcpy and memset.
+nothing but memcpy, memmove and memset.
 
 The other processor needs Debian's packages for it, and qemu-user. Where they are not there they are installed, if that may
 be done (by root, with apt-get); else they are named and the status is 1.
@@ -33,7 +33,7 @@ EXAMPLE = os.path.join(ROOT, "examples", "c", "worked_example.c")
 C_LIBRARIES = {"aarch64": "libc6-dev-arm64-cross", "riscv64": "libc6-dev-riscv64-cross"}
 
 # What the archives may ask of a system.
-NEEDED = {"memcpy", "memset"}
+NEEDED = {"memcpy", "memmove", "memset"}
 
 # What the header says of the stack, and behind it a function, or several.
 STACK_OR_NAME = re.compile(r"Stack: (\d+) KB(?:, on Arm (\d+) KB)?|^\w+ (fichtengarn_\w+)\(", re.MULTILINE)
@@ -238,7 +238,7 @@ def main():
     if tools is None:
         return
     if not gate:
-        built = subprocess.run([os.path.join(ROOT, "processors", "build.py"), processor])
+        built = subprocess.run([os.path.join(ROOT, "processors", "build.py"), "x86_64", processor])
         if built.returncode:
             sys.exit(built.returncode)
     os.makedirs(FOLDER, exist_ok=True)

@@ -1,7 +1,8 @@
 #!/usr/bin/env python3
 """Use the programs mine, judge, ask, explain, show, circle, load, rights and denials, rightly and wrongly, and compare all that they print and write.
 
-    tests/programs.py [FOLDER]      FOLDER has the programs; target/bin if left out
+    tests/programs.py [FOLDER]      FOLDER has the programs; if left out, each is the one that `rt ci`, or `rt run` in its
+                                    crate's folder, has built: crates/NAME/out/NAME
 
 Each use runs in a folder of its own. Standard output, standard error and every file in the folder afterwards are compared
 byte for byte. Prints one line if all is as it should be; else a message for each use that is not, and the exit status is 1.
@@ -1157,13 +1158,13 @@ def differences(programs, folder, use):
 def main(arguments):
     if len(arguments) > 1:
         raise SystemExit(__doc__)
-    source = arguments[0] if arguments else os.path.join(os.path.dirname(HERE), "target", "bin")
     count, wrong = 0, 0
     with tempfile.TemporaryDirectory() as top:
         os.chmod(top, 0o755)
         # the programs stand where everybody may run them
         for program in PROGRAMS:
-            shutil.copy(os.path.join(source, program), top)
+            built = os.path.join(os.path.dirname(HERE), "crates", program, "out")
+            shutil.copy(os.path.join(arguments[0] if arguments else built, program), top)
             os.chmod(os.path.join(top, program), 0o755)
         for use in uses():
             folder = os.path.join(top, str(count))

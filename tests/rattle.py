@@ -5,10 +5,12 @@ import antt
 
 FUNCTION = re.compile(r'(?m)^[ \t]*(pub(?:\([^)]*\))?\s+)?(extern\s+"C"\s+)?fn\s+(\w+)')
 RESULT = re.compile(r"\s*->(?:[^\[{;]|\[[^\]]*\])*?(?=\s*(?:\brequires\b|\bensures\b|\bghost\b|\{|;))")
-CLAUSE = re.compile(r"\s*(?:requires|ensures|ghost)\b\s*\w*\s*(?=\{)")
-TYPE = re.compile(r"(?m)^[ \t]*(?:pub\s+)?(struct|enum|type|const)\s+(\w+)")
-USE = re.compile(r"(?m)^[ \t]*(?:pub\s+)?use\s+(\w+)::(?:\w+::)*(\w+)\s*;")
+CLAUSE = re.compile(r"\s*(?:requires|ensures|ghost)\b\*?\s*\w*:?\s*(?=\{)")
+TYPE = re.compile(r"(?m)^[ \t]*(?:pub\s+)?(struct|enum|type|const)\s+(?!fn\b)(\w+)")
+USE = re.compile(r"(?m)^[ \t]*(?:pub\s+)?use\s+(\w+)::([^;]*);")
+USED = re.compile(r"(\w+)(\s+as\s+\w+)?\s*(?=[,}]|$)")
 GHOST_USE = re.compile(r"\bghost\s+use\s+([^;]*);")
+STATEMENT = re.compile(r"\b(?:requires|ensures|invariant|measure)\b\*?\s*\w*\s*\{|\bghost\b(?!\s+use\b)")
 BLANK = re.compile(r"""extern\s+"C"|//[^\n]*|/\*.*?\*/|b?"(?:\\.|[^"\\])*"|b?'(?:\\.|[^'\\])'""", re.S)
 BRACKETS = {"(": ")", "{": "}", "[": "]"}
 
@@ -82,7 +84,7 @@ class File:
         self.text = without_comments(text)
         self.not_read = []
         self.read = []
-        self.used = {name: crate for crate, name in USE.findall(self.text)}
+        self.used = dict(used for match in USE.finditer(self.text) for used in self.names_used(match))
         self.imports = [brought for match in GHOST_USE.finditer(self.text) for brought in self.ghost_use(match)]
         self.types = [self.type(match) for match in TYPE.finditer(self.text)]
         self.functions = [self.function(match) for match in FUNCTION.finditer(self.text)]
@@ -95,6 +97,15 @@ class File:
         first = self.line(start)
         rows = enumerate(self.text[start:end].split("\n"), first)
         return [(number, row) for number, row in rows if row.strip()]
+
+    def names_used(self, match):
+        """The names that a `use` brings, each with the crate that it comes from."""
+        found = []
+        for name, other in USED.findall(match.group(2)):
+            if other:
+                self.not_read.append((self.line(match.start()), "use " + name + other))
+            found.append((name, match.group(1)))
+        return found
 
     def ghost_use(self, match):
         return antt.imports_in(match.group(1), self.line(match.start()), self.not_read)
@@ -122,12 +133,12 @@ class File:
         while clause:
             end = closing(self.text, clause.end())
             found.append(self.rows(clause.end() + 1, end - 1))
-            self.read.append((clause.end(), end))
+            self.read.append((clause.start(), end))
             clause = CLAUSE.match(self.text, end)
         return found
 
     def other_clauses(self):
-        """A statement that stands in no contract of a function, such as one of a loop, is not read."""
-        for match in re.finditer("⌜", self.text):
+        """A statement that stands in no contract of a function, such as one of a closure or a type, is not read."""
+        for match in STATEMENT.finditer(self.text):
             if not any(start <= match.start() < end for start, end in self.read):
                 self.not_read.append((self.line(match.start()), "a statement outside the contracts"))

@@ -18,16 +18,14 @@ LAWS = "crates/base/specs/ListLaws.antt"
 NUMBERS = "crates/call/specs/Deep/Numbers.antt"
 CODE = "crates/call/src/lib.rt"
 
-OWN_LENGTH = "uses a name length of its own, which the file imports from lib.ListN"
+OWN_LENGTH = "uses a name length of its own, which the file imports from Rattle.std.specs.Prelude"
 
 FILES = {
     "crates.txt": "base:\ncall: base\n",
     "crates/base/specs/Lib.antt": "pub mod Lists\npub mod ListLaws\n",
     LISTS: """-- Lists of numbers. Made up.
 -- Assumes nothing.
-use Prim.Native.Nat.{ℕ, _+_}
-use lib.ListN.{length}
-use mathlib.Core.List.{List, [], _∷_}
+use Rattle.std.specs.Prelude.{ℕ, ◌+◌, length, List, [], ◌∷◌}
 
 -- how long two lists are together
 unfoldable pub both : List ℕ → List ℕ → ℕ
@@ -48,14 +46,11 @@ module _ (x : List ℕ) where
   answer (n ∷ y) = accepted (let m = both x y in m + n)
 
 abbrev pub unused : Pair → ℕ
-unused p = p .length
+unused p = p.length
 """,
     LAWS: """-- Laws of lists. Made up.
-use Prim.Native.Nat.{ℕ, _+_}
-use lib.ListN.{length}
-use mathlib.Core.List.{List, []}
-use mathlib.Core.Path.{_≡_, refl}
-use Rattle·base·specs.specs.Lists.{both}
+use Rattle.std.specs.Prelude.{ℕ, ◌+◌, length, List, [], ◌≡◌, refl}
+use Rattle.base.specs.Lists.{both}
 
 abbrev pub one : ℕ
 one = 1
@@ -71,18 +66,17 @@ none-longer = refl
     "crates/call/specs/Lib.antt": "pub mod Deep\n",
     "crates/call/specs/Deep.antt": "pub mod Numbers\n",
     NUMBERS: """-- The numbers of answers. Made up.
-use Prim.Native.Nat.{ℕ}
-use Rattle·base.specs.Lists.{Answer, refused, accepted}
+use Rattle.std.specs.Prelude.{ℕ}
+use Rattle.base.specs.Lists.{Answer, refused, accepted}
 
-abbrev pub numberOf : Answer → ℕ
-numberOf (refused n) = n
-numberOf (accepted n) = 0
+abbrev pub number_of : Answer → ℕ
+number_of (refused n) = n
+number_of (accepted n) = 0
 """,
     CODE: """// A call. Made up.
-ghost use mathlib.Core.Path.{_≡_};
-ghost use lib.ListN.{length};
-ghost use Rattle·base.specs.Lists.{answer};
-ghost use Rattle·call·specs.specs.Deep.Numbers.{numberOf};
+ghost use Rattle.std.specs.Prelude.{◌≡◌, length};
+ghost use Rattle.base.specs.Lists.{answer};
+ghost use Rattle.call.specs.Deep.Numbers.{number_of};
 
 // What is told.
 pub struct Told {
@@ -90,13 +84,13 @@ pub struct Told {
 }
 
 fn many(s: &[u8]) -> usize
-    ensures { λ r. ⌜ r ≡ length (now (s .entry)) ⌝ }
+    ensures { result ≡ length s.now }
 {
     s.len()
 }
 
 pub fn ask(first: &[u8], second: &[u8]) -> Told
-    ensures { λ r. ⌜ r .number ≡ numberOf (answer (now (first .entry)) (now (second .entry))) ⌝ }
+    ensures numbered { result.number ≡ number_of (answer first.now second.now) }
 {
     Told { number: 0 }
 }
@@ -165,7 +159,7 @@ class MadeUp(unittest.TestCase):
         self.assertIn("call::ask (%s:%d): 5 definitions, 14 lines\n" % (CODE, line_of(FILES[CODE], "pub fn ask")), out)
         self.assertIn("  %s: 3 definitions, 8 lines: both Answer answer\n" % LISTS, out)
         self.assertIn("  %s: 1 definitions, 3 lines: Told\n" % CODE, out)
-        self.assertIn("  lib.ListN: length\n", out)
+        self.assertIn("  Rattle.std.specs.Prelude: List [] length ℕ ◌+◌ ◌∷◌ ◌≡◌\n", out)
 
     def test_table(self):
         status, out, errors = self.run_script("--table")
@@ -176,47 +170,47 @@ class MadeUp(unittest.TestCase):
     # ---- what stands in files of laws
 
     def test_contract_cites_laws(self):
-        self.put(CODE, "Lists.{answer};", "Lists.{answer};\nghost use Rattle·base.specs.ListLaws.{one};")
-        self.put(CODE, "length (now (s .entry))", "one")
-        self.faults((CODE, "≡ one", "the contract of many cites one, which stands in %s:8" % LAWS))
+        self.put(CODE, "Lists.{answer};", "Lists.{answer};\nghost use Rattle.base.specs.ListLaws.{one};")
+        self.put(CODE, "length s.now", "one")
+        self.faults((CODE, "≡ one", "the contract of many cites one, which stands in %s:5" % LAWS))
 
     def test_definition_two_steps_away(self):
-        self.put(LISTS, "use lib.ListN", "use Rattle·base·specs.specs.ListLaws.{short}\nuse lib.ListN")
+        self.put(LISTS, "use Rattle.std", "use Rattle.base.specs.ListLaws.{short}\nuse Rattle.std")
         self.put(LISTS, "both x y = length x", "both x y = short x")
         self.faults(
             (LISTS, "{short}", "imports short from %s" % LAWS),
-            (LISTS, "both x y", "both cites short, which stands in %s:11" % LAWS),
-            (LAWS, "short x =", "short cites one, which stands in %s:8" % LAWS),
+            (LISTS, "both x y", "both cites short, which stands in %s:8" % LAWS),
+            (LAWS, "short x =", "short cites one, which stands in %s:5" % LAWS),
         )
 
     def brings_one(self, path):
         """The file imports `one` from the laws; that fault is told too."""
-        self.put(path, "use Prim", "use Rattle·base.specs.ListLaws.{one}\nuse Prim")
+        self.put(path, "use Rattle.std", "use Rattle.base.specs.ListLaws.{one}\nuse Rattle.std")
         return path, "{one}", "imports one from %s" % LAWS
 
     def test_cited_in_a_module_line(self):
         brought = self.brings_one(LISTS)
         self.put(LISTS, "module _ (x : List ℕ)", "module _ (x : List ℕ) (n : Path ℕ one one)")
-        self.faults(brought, (LISTS, "module _", "answer cites one, which stands in %s:8" % LAWS))
+        self.faults(brought, (LISTS, "module _", "answer cites one, which stands in %s:5" % LAWS))
 
     def test_cited_in_a_signature(self):
         brought = self.brings_one(NUMBERS)
-        self.put(NUMBERS, "numberOf : Answer →", "numberOf : Answer → Path ℕ one one →")
-        self.faults(brought, (NUMBERS, "numberOf : Answer", "numberOf cites one, which stands in %s:8" % LAWS))
+        self.put(NUMBERS, "number_of : Answer →", "number_of : Answer → Path ℕ one one →")
+        self.faults(brought, (NUMBERS, "number_of : Answer", "number_of cites one, which stands in %s:5" % LAWS))
 
     def test_cited_in_a_helper(self):
         brought = self.brings_one(NUMBERS)
-        helper = "numberOf (accepted n) = go n\n  where\n    go : ℕ → ℕ\n    go m = one"
-        self.put(NUMBERS, "numberOf (accepted n) = 0", helper)
-        self.faults(brought, (NUMBERS, "go m = one", "numberOf cites one, which stands in %s:8" % LAWS))
+        helper = "number_of (accepted n) = go n\n  where\n    go : ℕ → ℕ\n    go m = one"
+        self.put(NUMBERS, "number_of (accepted n) = 0", helper)
+        self.faults(brought, (NUMBERS, "go m = one", "number_of cites one, which stands in %s:5" % LAWS))
 
     def test_cited_in_a_pattern(self):
         self.put(LAWS, "abbrev pub one", "pub data Kind : Type 0 where\n  single : Kind\n\nabbrev pub one")
-        self.put(NUMBERS, "use Prim", "use Rattle·base.specs.ListLaws.{single}\nuse Prim")
-        self.put(NUMBERS, "numberOf (accepted n) = 0", "numberOf (accepted n) = elim n [ single ↦ 0 ]")
+        self.put(NUMBERS, "use Rattle.std", "use Rattle.base.specs.ListLaws.{single}\nuse Rattle.std")
+        self.put(NUMBERS, "number_of (accepted n) = 0", "number_of (accepted n) = elim n [ single ↦ 0 ]")
         self.faults(
             (NUMBERS, "{single}", "imports single from %s" % LAWS),
-            (NUMBERS, "elim", "numberOf cites Kind, which stands in %s:8" % LAWS),
+            (NUMBERS, "elim", "number_of cites Kind, which stands in %s:5" % LAWS),
         )
 
     def test_own_name_is_not_cited(self):
@@ -226,7 +220,7 @@ class MadeUp(unittest.TestCase):
     # ---- laws in definitions files
 
     def test_law_in_definitions(self):
-        self.put(NUMBERS, "abbrev pub numberOf", "pub numbers : ℕ → ℕ\nnumbers n = n\n\nabbrev pub numberOf")
+        self.put(NUMBERS, "abbrev pub number_of", "pub numbers : ℕ → ℕ\nnumbers n = n\n\nabbrev pub number_of")
         self.faults((NUMBERS, "pub numbers", "numbers is a law in a definitions file"))
 
     def test_private_law_in_a_block(self):
@@ -234,8 +228,18 @@ class MadeUp(unittest.TestCase):
         self.faults((LISTS, "  longer :", "longer is a law in a definitions file"))
 
     def test_import_from_laws(self):
-        self.put(NUMBERS, "use Prim", "use Rattle·base.specs.ListLaws.{none-longer}\nuse Prim")
+        self.put(NUMBERS, "use Rattle.std", "use Rattle.base.specs.ListLaws.{none-longer}\nuse Rattle.std")
         self.faults((NUMBERS, "none-longer", "imports none-longer from %s" % LAWS))
+
+    def test_import_from_proofs(self):
+        self.files["crates/base/proofs/MoreLaws.antt"] = self.files[LAWS]
+        write(self.root, self.files)
+        self.put(NUMBERS, "use Rattle.std", "use Rattle.base.proofs.MoreLaws.{one}\nuse Rattle.std")
+        self.put(NUMBERS, "number_of (accepted n) = 0", "number_of (accepted n) = one")
+        self.faults(
+            (NUMBERS, "{one}", "imports one from crates/base/proofs/MoreLaws.antt"),
+            (NUMBERS, "= one", "number_of cites one, which stands in crates/base/proofs/MoreLaws.antt:5"),
+        )
 
     def test_module_names_only(self):
         self.put("crates/base/specs/Lib.antt", "pub mod ListLaws", "pub mod ListLaws\nabbrev pub f : Type 0\nf = Unit")
@@ -244,11 +248,11 @@ class MadeUp(unittest.TestCase):
     # ---- symbols of the library
 
     def test_operator_defined(self):
-        self.put(LISTS, "abbrev pub unused", "abbrev pub _<_ : ℕ → ℕ → Type 0\na < b = Unit\n\nabbrev pub unused")
-        self.faults((LISTS, "pub _<_", "_<_ is a symbol of the library and is given another meaning"))
+        self.put(LISTS, "abbrev pub unused", "abbrev pub ◌<◌ : ℕ → ℕ → Type 0\na < b = Unit\n\nabbrev pub unused")
+        self.faults((LISTS, "pub ◌<◌", "◌<◌ is a symbol of the library and is given another meaning"))
 
     def test_word_defined(self):
-        self.put(NUMBERS, "abbrev pub numberOf", "abbrev pub length : ℕ → ℕ\nlength n = n\n\nabbrev pub numberOf")
+        self.put(NUMBERS, "abbrev pub number_of", "abbrev pub length : ℕ → ℕ\nlength n = n\n\nabbrev pub number_of")
         self.faults((NUMBERS, "pub length", "length is a symbol of the library and is given another meaning"))
 
     def test_constructor(self):
@@ -256,26 +260,30 @@ class MadeUp(unittest.TestCase):
         self.faults((LISTS, "  some :", "some is a symbol of the library and is given another meaning"))
 
     def test_ghost_use_under_the_name(self):
-        self.put(CODE, "ghost use lib.ListN.{length};", "ghost use Rattle·base.specs.Lists.{both as length};")
-        what = "brings both of Rattle·base.specs.Lists under the name length of a symbol of the library"
+        self.put(CODE, "◌≡◌, length};", "◌≡◌};\nghost use Rattle.base.specs.Lists.{both as length};")
+        what = "brings both of Rattle.base.specs.Lists under the name length of a symbol of the library"
         self.faults((CODE, "both as length", what))
 
     def test_ghost_use_of_another_module(self):
-        self.put(CODE, "ghost use lib.ListN.{length};", "ghost use mathlib.Core.List.{length};")
-        self.faults((CODE, "Core.List.{length}", "brings length from mathlib.Core.List in place of lib.ListN"))
+        self.put(CODE, "◌≡◌, length};", "◌≡◌};\nghost use mathlib.Core.List.{length};")
+        self.faults((CODE, "Core.List.{length}", "brings length from mathlib.Core.List in place of Rattle.std.specs.Prelude"))
+
+    def test_passed_on(self):
+        self.put(NUMBERS, "use Rattle.std", "use mathlib.Core.List.{List, map}\nuse Rattle.std.proofs.Math.Option.{map as mapped}\nuse Rattle.std")
+        self.passes()
 
     def test_use_of_another_symbol(self):
-        self.put(LISTS, "{ℕ, _+_}", "{ℕ, _*_ as _+_}")
-        self.faults((LISTS, "as _+_", "brings _*_ of Prim.Native.Nat under the name _+_ of a symbol of the library"))
+        self.put(LISTS, "{ℕ, ◌+◌,", "{ℕ, ◌*◌ as ◌+◌,")
+        self.faults((LISTS, "as ◌+◌", "brings ◌*◌ of Rattle.std.specs.Prelude under the name ◌+◌ of a symbol of the library"))
 
     def test_two_origins(self):
-        self.put(LISTS, "use lib.ListN.{length}", "use lib.ListN.{length}\nuse lib.Count.{ones}")
-        self.put(NUMBERS, "use Prim", "use lib.Other.{ones}\nuse Prim")
+        self.put(LISTS, "use Rattle.std", "use lib.Count.{ones}\nuse Rattle.std")
+        self.put(NUMBERS, "use Rattle.std", "use lib.Other.{ones}\nuse Rattle.std")
         self.faults((NUMBERS, "lib.Other", "brings ones from lib.Other in place of lib.Count"))
 
     def test_bound_operator(self):
-        self.put(LISTS, "module _ (x : List ℕ)", "module _ (_≡_ : ℕ → ℕ → Type 0) (x : List ℕ)")
-        self.faults((LISTS, "module _", "answer binds _≡_, a symbol of the library"))
+        self.put(LISTS, "module _ (x : List ℕ)", "module _ (◌≡◌ : ℕ → ℕ → Type 0) (x : List ℕ)")
+        self.faults((LISTS, "module _", "answer binds ◌≡◌, a symbol of the library"))
 
     def test_bound_word_that_is_imported(self):
         self.put(LISTS, "let m = both x y in m + n", "let length = both x y in length + n")
@@ -291,8 +299,8 @@ class MadeUp(unittest.TestCase):
         self.faults((LISTS, "at length", "Pair " + OWN_LENGTH))
 
     def test_fixity(self):
-        self.put(LISTS, "-- how long", "infixl 10 _+_\n-- how long")
-        self.faults((LISTS, "infixl", "_+_ is a symbol of the library and is given another fixity"))
+        self.put(LISTS, "-- how long", "infixl 10 ◌+◌\n-- how long")
+        self.faults((LISTS, "infixl", "◌+◌ is a symbol of the library and is given another fixity"))
 
     # ---- tables and calls
 
@@ -331,36 +339,54 @@ class MadeUp(unittest.TestCase):
     # ---- what is not read is said
 
     def test_unknown_name(self):
-        self.put(NUMBERS, "numberOf (accepted n) = 0", "numberOf (accepted n) = nought")
-        self.faults((NUMBERS, "nought", "numberOf names nought, which is not found"))
+        self.put(NUMBERS, "number_of (accepted n) = 0", "number_of (accepted n) = nought")
+        self.faults((NUMBERS, "nought", "number_of names nought, which is not found"))
 
     def test_unknown_import(self):
         self.put(NUMBERS, "{Answer,", "{Reply, Answer,")
-        self.faults((NUMBERS, "Reply", "imports Reply, which Rattle·base.specs.Lists does not have"))
+        self.faults((NUMBERS, "Reply", "imports Reply, which Rattle.base.specs.Lists does not have"))
 
     def test_declared_twice(self):
         self.put(LISTS, "pub record Pair", "pub data Reply : Type 0 where\n  accepted : Reply\n\npub record Pair")
         self.faults((LISTS, "accepted : Reply", "accepted is declared twice, and is not read"))
 
     def test_whole_module(self):
-        self.put(NUMBERS, "use Prim", "use lib.ListN\nuse Prim")
-        self.faults((NUMBERS, "use lib.ListN", "is not read: use lib.ListN"))
+        self.put(NUMBERS, "use Rattle.std", "use Rattle.std.proofs.Math.Option\nuse Rattle.std")
+        self.put(NUMBERS, "number_of (accepted n) = 0", "number_of (accepted n) = Option.map n")
+        self.assertIn("  Rattle.std.proofs.Math.Option: map\n", self.passes())
+
+    def test_laws_through_a_module(self):
+        self.put(NUMBERS, "use Rattle.std", "use Rattle.base.specs.ListLaws\nuse Rattle.std")
+        self.put(NUMBERS, "number_of (accepted n) = 0", "number_of (accepted n) = ListLaws.one")
+        self.faults((NUMBERS, "= ListLaws.one", "number_of cites one, which stands in %s:5" % LAWS))
+
+    def test_all_of_a_module(self):
+        self.put(NUMBERS, "use Rattle.std", "use lib.ListN.*\nuse Rattle.std")
+        self.faults((NUMBERS, "use lib.ListN", "is not read: use lib.ListN.*"))
 
     def test_form_not_read(self):
-        self.put(NUMBERS, "numberOf (accepted n) = 0", "numberOf (accepted n) = do n")
-        self.faults((NUMBERS, "abbrev pub numberOf", "numberOf is not read: `do`"))
+        self.put(NUMBERS, "number_of (accepted n) = 0", "number_of (accepted n) = do n")
+        self.faults((NUMBERS, "abbrev pub number_of", "number_of is not read: `do`"))
 
     def test_contract_not_read(self):
-        self.put(CODE, "⌜ r ≡ length (now (s .entry)) ⌝", "do ⌜ r ≡ length (now (s .entry)) ⌝")
-        self.faults((CODE, "do ⌜", "a contract of many is not read: `do`"))
+        self.put(CODE, "{ result ≡ length s.now }", "{ do result ≡ length s.now }")
+        self.faults((CODE, "do result", "a contract of many is not read: `do`"))
 
     def test_axiom(self):
-        self.put(NUMBERS, "abbrev pub numberOf", "axiom pub given : ℕ\n\nabbrev pub numberOf")
+        self.put(NUMBERS, "abbrev pub number_of", "axiom pub given : ℕ\n\nabbrev pub number_of")
         self.faults((NUMBERS, "axiom", "is not read: axiom"))
 
     def test_statement_outside_contracts(self):
-        self.put(CODE, "    s.len()", "    invariant { ⌜ s ⌝ }\n    s.len()")
-        self.faults((CODE, "invariant", "is not read: a statement outside the contracts"))
+        self.put(CODE, "    s.len()", "    let f = |x| requires { s } { x };\n    s.len()")
+        self.faults((CODE, "|x| requires", "is not read: a statement outside the contracts"))
+
+    def test_ghost_member(self):
+        self.put(CODE, "pub struct Told {", "pub struct Told {\n    ghost twice: { ℕ },")
+        self.faults((CODE, "ghost twice", "is not read: a statement outside the contracts"))
+
+    def test_all_clauses_are_read(self):
+        self.put(CODE, "{ result ≡ length s.now }", "long { result ≡ length s.now }\n    ensures* { nought }")
+        self.faults((CODE, "ensures* ", "the contract of many names nought, which is not found"))
 
 
 class Edited(believed.Tree):
@@ -389,9 +415,8 @@ def with_laws(tree):
 
 
 def imported(path, name):
-    """The path that brings a name of a file of `specs/`."""
-    crate, module = path[len("crates/") : -len(".antt")].split("/specs/")
-    return "Rattle·%s.specs.%s.{%s}" % (crate, module.replace("/", "."), name)
+    """The path that brings a name of a file of `specs/` or `proofs/`."""
+    return "Rattle.%s.{%s}" % (path[len("crates/") : -len(".antt")].replace("/", "."), name)
 
 
 class Project(unittest.TestCase):
@@ -402,15 +427,15 @@ class Project(unittest.TestCase):
         before = tree.told()
         contract = believed.calls(tree)[0][1]
         laws, law = with_laws(tree)
-        code = tree.text(contract.path).replace("⌜ ", "⌜ %s × " % law.name)
-        code += "ghost use %s;\nghost use mathlib.Core.Nat.{_<_};\n" % imported(laws, law.name)
+        code = tree.text(contract.path).replace("ensures { ", "ensures { %s × " % law.name)
+        code += "ghost use %s;\nghost use mathlib.Core.Nat.{◌<◌};\n" % imported(laws, law.name)
         definitions = next(spec.path for spec in tree.definitions_files() if spec.definitions())
-        text = tree.text(definitions) + "\nabbrev pub _≤_ : Type 0\n_≤_ = Unit\n\npub lawful : Type 0\nlawful = Unit\n"
+        text = tree.text(definitions) + "\nabbrev pub ◌≤◌ : Type 0\n◌≤◌ = Unit\n\npub lawful : Type 0\nlawful = Unit\n"
         told = Edited({contract.path: code, definitions: text}).told() - before
-        clause = line_of(code, "⌜ %s × " % law.name)
+        clause = line_of(code, "ensures { %s × " % law.name)
         for wanted in (
-            "%s:%d: brings _<_ from mathlib.Core.Nat in place of Prim.Native.Nat" % (contract.path, code.count("\n")),
-            "%s:%d: _≤_ is a symbol of the library and is given another meaning" % (definitions, text.count("\n") - 4),
+            "%s:%d: brings ◌<◌ from mathlib.Core.Nat in place of Rattle.std.specs.Prelude" % (contract.path, code.count("\n")),
+            "%s:%d: ◌≤◌ is a symbol of the library and is given another meaning" % (definitions, text.count("\n") - 4),
             "%s:%d: lawful is a law in a definitions file" % (definitions, text.count("\n") - 1),
         ):
             self.assertIn(wanted, told)

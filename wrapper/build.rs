@@ -1,4 +1,4 @@
-//! Links the static library that `rt staticlib fichtengarn` writes: libfichtengarn.a in the folder
+//! Links the static library that `processors/build.py` writes: libfichtengarn.a in the folder
 //! that FICHTENGARN_LIB_DIR names, or else in the repository's target/staticlib. A relative name
 //! counts from the package's folder.
 

@@ -1,4 +1,5 @@
-// The calls for C and Rust: each call of 01 and of the requests as a function of the static library, in numbers and lent memory alone.
+// The calls for C and Rust: each call of 01 and of the requests as a function in numbers and lent memory alone. The crate
+// fichtengarn_c exports each under its name, with the same contract.
 //
 // Each returns 0, or the number of the refusal. The values that go with a 0 are stored in lent memory, from its front; a
 // refusal stores none. The call that shows one rule returns where its part stands, and stores that number in a lent byte;
@@ -33,16 +34,14 @@ use role_file::Loaded;
 use role_record::{RoleFile, Sizes};
 
 // Whether a role file may be read: 0, or 1 to 7.
-#[unsafe(no_mangle)]
-pub extern "C" fn fichtengarn_read_roles(file: &[u8]) -> usize
+pub fn fichtengarn_read_roles(file: &[u8]) -> usize
     ensures { result ≡ returned (told no_values (read_roles 2 file.now)) }
 {
     role_file::read(file).code
 }
 
 // Whether a rule file may be read beside a role file, and how many rules it has.
-#[unsafe(no_mangle)]
-pub extern "C" fn fichtengarn_read_rules(file: &[u8], rules: &[u8], count: &mut [usize; 1]) -> usize
+pub fn fichtengarn_read_rules(file: &[u8], rules: &[u8], count: &mut [usize; 1]) -> usize
     ensures { (result ≡ returned (told rules_told (read_both 2 file.now rules.now)))
         × (count.new
         ≡ stored (told rules_told (read_both 2 file.now rules.now)) count.old) }
@@ -52,8 +51,7 @@ pub extern "C" fn fichtengarn_read_rules(file: &[u8], rules: &[u8], count: &mut 
 }
 
 // Whether the roles grant a triple: 1 for yes, 0 for no.
-#[unsafe(no_mangle)]
-pub extern "C" fn fichtengarn_ask_roles(
+pub fn fichtengarn_ask_roles(
     file: &[u8],
     user: usize,
     resource: usize,
@@ -69,8 +67,7 @@ pub extern "C" fn fichtengarn_ask_roles(
 }
 
 // Whether some rule grants a triple: 1 for yes, 0 for no.
-#[unsafe(no_mangle)]
-pub extern "C" fn fichtengarn_ask_rules(
+pub fn fichtengarn_ask_rules(
     file: &[u8],
     rules: &[u8],
     user: usize,
@@ -90,8 +87,7 @@ pub extern "C" fn fichtengarn_ask_rules(
 }
 
 // The verdict on a rule file and what goes with it: the triple, the rule or the part.
-#[unsafe(no_mangle)]
-pub extern "C" fn fichtengarn_judge(file: &[u8], rules: &[u8], verdict: &mut [usize; 4]) -> usize
+pub fn fichtengarn_judge(file: &[u8], rules: &[u8], verdict: &mut [usize; 4]) -> usize
     ensures { (result ≡ returned (told verdict_told (judge 2 file.now rules.now)))
         × (verdict.new
         ≡ stored (told verdict_told (judge 2 file.now rules.now))
@@ -110,8 +106,7 @@ pub struct Part {
 }
 
 // One rule by its number: where it stands in the rule file, and in the lent byte 0 or the refusal's number.
-#[unsafe(no_mangle)]
-pub extern "C" fn fichtengarn_show(file: &[u8], rules: &[u8], rule: usize, answer: &mut u8) -> Part
+pub fn fichtengarn_show(file: &[u8], rules: &[u8], rule: usize, answer: &mut u8) -> Part
     ensures { (result.start ≡ (shown_place 2 file.now rules.now rule).0)
         × (result.start + result.length ≡ (shown_place 2 file.now rules.now rule).1)
         × (answer.new ≡ shown_byte 2 file.now rules.now rule) }
@@ -125,8 +120,7 @@ pub extern "C" fn fichtengarn_show(file: &[u8], rules: &[u8], rule: usize, answe
 }
 
 // The circle of a role file with refusal 7: its roles in the lent memory, and how many they are.
-#[unsafe(no_mangle)]
-pub extern "C" fn fichtengarn_circle(file: &[u8], roles: &mut [u8], count: &mut [usize; 1]) -> usize
+pub fn fichtengarn_circle(file: &[u8], roles: &mut [u8], count: &mut [usize; 1]) -> usize
     ensures { (result
         ≡ returned (told roles_listed (circle_answer 2 file.now (length roles.old))))
         × (count.new
@@ -144,8 +138,7 @@ pub extern "C" fn fichtengarn_circle(file: &[u8], roles: &mut [u8], count: &mut 
 }
 
 // A role file made from a seed and four sizes, in the memory for output, and how long it is. The reader accepts it.
-#[unsafe(no_mangle)]
-pub extern "C" fn fichtengarn_load(
+pub fn fichtengarn_load(
     seed: u32,
     users: usize,
     resources: usize,
@@ -176,8 +169,7 @@ pub extern "C" fn fichtengarn_load(
 }
 
 // Denials in a usage log, in windows of so many records: the most that the rules deny in one, and the lowest record from which so many are.
-#[unsafe(no_mangle)]
-pub extern "C" fn fichtengarn_denials(
+pub fn fichtengarn_denials(
     file: &[u8],
     rules: &[u8],
     log: &[u8],
@@ -199,8 +191,7 @@ pub extern "C" fn fichtengarn_denials(
 
 // Mining, within the runs of roles that the cuts make first: the rule file in the memory for output, and length, parts, rules, merges and the
 // cost by these weights.
-#[unsafe(no_mangle)]
-pub extern "C" fn fichtengarn_mine(
+pub fn fichtengarn_mine(
     file: &[u8],
     cuts: &[u8],
     weights: Weights,
@@ -234,16 +225,14 @@ pub extern "C" fn fichtengarn_mine(
 }
 
 // A role file read into a record, which the caller keeps: 0 and the record, or 1 to 7 and the empty one.
-#[unsafe(no_mangle)]
-pub extern "C" fn fichtengarn_read_record(file: &[u8]) -> Loaded
+pub fn fichtengarn_read_record(file: &[u8]) -> Loaded
     ensures { result ≡ loaded_of (read_roles 2 file.now) }
 {
     role_file::read(file)
 }
 
 // The standing summary of rights: fills a table from a record, any record.
-#[unsafe(no_mangle)]
-pub extern "C" fn fichtengarn_fill(loaded: RoleFile, table: &mut [u64]) -> usize
+pub fn fichtengarn_fill(loaded: RoleFile, table: &mut [u64]) -> usize
     ensures { (result ≡ code_of (fill_answer loaded (length table.old)))
         × (table.new ≡ left_by table.old (fill_answer loaded (length table.old)))
         × ((file : List ℕ)
@@ -257,8 +246,7 @@ pub extern "C" fn fichtengarn_fill(loaded: RoleFile, table: &mut [u64]) -> usize
 }
 
 // Assigns a user to a role: the record and the table after it, or both as they were.
-#[unsafe(no_mangle)]
-pub extern "C" fn fichtengarn_assign(
+pub fn fichtengarn_assign(
     loaded: RoleFile,
     table: &mut [u64],
     role: usize,
@@ -273,8 +261,7 @@ pub extern "C" fn fichtengarn_assign(
 }
 
 // Takes the assignment of a user to a role away: the same.
-#[unsafe(no_mangle)]
-pub extern "C" fn fichtengarn_withdraw(
+pub fn fichtengarn_withdraw(
     loaded: RoleFile,
     table: &mut [u64],
     role: usize,

@@ -58,7 +58,7 @@ record Spanned (links : List ℕ) (W : Words) (u r o : ℕ) : Type 0 where
   pub operation : Is (bit W.ops o)
   pub user : Is (bit W.users u)
   pub resource : Is (bit W.resources r)
-  pub joined_by_lem : Is (joins links W.atoms u r)
+  pub joined_by : Is (joins links W.atoms u r)
 
 spans_in : (links : List ℕ) (W : Words) (u r o : ℕ) → r < 64 → Spanned links W u r o → Is (table_spans links W u r o)
 unfolding table_spans
@@ -69,7 +69,7 @@ unfolding table_spans
 spans-out links W u r o l h =
     let k = sym (row-bit links W.atoms W.users W.resources u r l) ∙ and_r (bit W.ops o) _ h in
     let j = and_r (bit W.users u) _ k in
-    record { operation = and_l (bit W.ops o) _ h; user = and_l (bit W.users u) _ k; resource = and_l (bit W.resources r) _ j; joined_by_lem = and_r (bit W.resources r) _ j }
+    record { operation = and_l (bit W.ops o) _ h; user = and_l (bit W.users u) _ k; resource = and_l (bit W.resources r) _ j; joined_by = and_r (bit W.resources r) _ j }
 
 -- ---- what is in both together
 
@@ -94,13 +94,13 @@ module _ (links : List ℕ) (W X : Words) (who what : ℕ) where
         operation = union_in W.ops X.ops o lo (inl t.operation);
         user = subset-out (joined W X).users who p u (union_in W.users X.users u lu (inl t.user));
         resource = subset-out (joined W X).resources what q r (union_in W.resources X.resources r lr (inl t.resource));
-        joined_by_lem = joins_fewer links W.atoms (joined W X).atoms u r (λ i l b. (meet_out W.atoms X.atoms i (omega arith) b).0) t.joined_by;
+        joined_by = joins_fewer links W.atoms (joined W X).atoms u r (λ i l b. (meet_out W.atoms X.atoms i (omega arith) b).0) t.joined_by;
       })
       (λ k. let t = spans-out links X u r o lr k in record {
         operation = union_in W.ops X.ops o lo (inr t.operation);
         user = subset-out (joined W X).users who p u (union_in W.users X.users u lu (inr t.user));
         resource = subset-out (joined W X).resources what q r (union_in W.resources X.resources r lr (inr t.resource));
-        joined_by_lem = joins_fewer links X.atoms (joined W X).atoms u r (λ i l b. (meet_out W.atoms X.atoms i (omega arith) b).1) t.joined_by;
+        joined_by = joins_fewer links X.atoms (joined W X).atoms u r (λ i l b. (meet_out W.atoms X.atoms i (omega arith) b).1) t.joined_by;
       })
       (or_out (table_spans links W u r o) (table_spans links X u r o) h))
 
@@ -114,7 +114,7 @@ module _ (links : List ℕ) (W X : Words) (who what : ℕ) where
         operation = t.operation;
         user = subset-out (joined W X).users who p u t.user;
         resource = subset-out (joined W X).resources what q r t.resource;
-        joined_by_lem = t.joined_by;
+        joined_by = t.joined_by;
       })
 
 -- a triple of the two groups is of their users and resources
@@ -145,7 +145,7 @@ module _ (links : List ℕ) (W X : Words) (who what us rs os : ℕ) (mu : us ≤
       let lr = bit-low rs what r br pr in
       grouped-within links W X u r o (omega arith) (omega arith) (omega arith)
       (sym (just_out links W X who what us rs os h u r o lu lr lo)
-      ∙ spans_in links (covering W X who what) u r o (omega arith) (record { operation = b; user = pu; resource = pr; joined_by_lem = k }))
+      ∙ spans_in links (covering W X who what) u r o (omega arith) (record { operation = b; user = pu; resource = pr; joined_by = k }))
 
   just_rim : (o : ℕ) → o < os → Is (bit (joined W X).ops o) → Is (covers_just links W X who what us rs os) → Is (rim_free links (joined W X).atoms (joined W X).users (joined W X).resources who what)
   unfolding rim_free
@@ -165,7 +165,7 @@ module _ (links : List ℕ) (W X : Words) (who what us rs os : ℕ) (mu : us ≤
       test (bit (joined W X).users u)
       (λ pu. test (bit (joined W X).resources r)
       (λ pr. sym (just_out links W X (joined W X).users (joined W X).resources us rs os e u r o lu lr lo)
-      ∙ spans_in links (covering W X (joined W X).users (joined W X).resources) u r o (omega arith) (record { operation = t.operation; user = pu; resource = pr; joined_by_lem = t.joined_by }))
+      ∙ spans_in links (covering W X (joined W X).users (joined W X).resources) u r o (omega arith) (record { operation = t.operation; user = pu; resource = pr; joined_by = t.joined_by }))
       (λ pr. absurd (free-out links (joined W X).atoms (joined W X).users (less what (joined W X).resources) (and_l (corner_free links (joined W X).atoms (joined W X).users (less what (joined W X).resources)) _ f) u r (omega arith) (omega arith)
       pu (less_in what (joined W X).resources r (omega arith) t.resource pr) t.joined_by)))
       (λ pu. absurd (free-out links (joined W X).atoms (less who (joined W X).users) what (and_r (corner_free links (joined W X).atoms (joined W X).users (less what (joined W X).resources)) _ f) u r (omega arith) (omega arith)
@@ -244,7 +244,7 @@ module _ (links : List ℕ) (W X : Words) (j : Is (may_join links W X)) where
         operation = a;
         user = b;
         resource = c;
-        joined_by_lem = joins_fewer links (joined W X).atoms W.atoms u r (λ i l k. bit_mask 64 (λ k. bit W.atoms k && bit X.atoms k) i (omega arith) ∙ and_in k (f b i k)) t.joined_by;
+        joined_by = joins_fewer links (joined W X).atoms W.atoms u r (λ i l k. bit_mask 64 (λ k. bit W.atoms k && bit X.atoms k) i (omega arith) ∙ and_in k (f b i k)) t.joined_by;
       }))
 
       second : Is (bit X.ops o) → Is (bit X.users u) → Is (bit X.resources r) → Is (grouped links W X u r o)
@@ -252,7 +252,7 @@ module _ (links : List ℕ) (W X : Words) (j : Is (may_join links W X)) where
         operation = a;
         user = b;
         resource = c;
-        joined_by_lem = joins_fewer links (joined W X).atoms X.atoms u r (λ i l k. bit_mask 64 (λ k. bit W.atoms k && bit X.atoms k) i (omega arith) ∙ and_in (s b i k) k) t.joined_by;
+        joined_by = joins_fewer links (joined W X).atoms X.atoms u r (λ i l k. bit_mask 64 (λ k. bit W.atoms k && bit X.atoms k) i (omega arith) ∙ and_in (s b i k) k) t.joined_by;
       }))
 
       -- a user of the one only and a resource of the other only would stand in a corner

@@ -21,8 +21,11 @@ loop-l-preserved c =
     let turn = c.loop-l in
     let a = c.args in (
       turn-within turn.l a.count c.loop-l-test.true,
-      elim c.if-joins.branch [ then-joins w ↦ join_in 0 (passes a.distinct.now a.place a.left a.right a.turned a.v) (who a.having.now a.place) turn.l turn.m _ turn.invariant.1 (sym c.joins.ensures ∙ w.if-joins.true)
-          (c.union-m.ensures ∙ ap (λ (x : ℕ). mask_of 64 (λ k. bit turn.m k || bit x k)) w.found-is) | else-joins w ↦ join-nobody 0 (passes a.distinct.now a.place a.left a.right a.turned a.v) (who a.having.now a.place) turn.l turn.m _ _ turn.invariant.1 (sym c.joins.ensures ∙ w.if-joins.false) w.found-is c.union-m.ensures ],
+      elim c.if-joins.branch [
+        | then-joins w ↦ join_in 0 (passes a.distinct.now a.place a.left a.right a.turned a.v) (who a.having.now a.place) turn.l turn.m _ turn.invariant.1 (sym c.joins.ensures ∙ w.if-joins.true)
+            (c.union-m.ensures ∙ ap (λ (x : ℕ). mask_of 64 (λ k. bit turn.m k || bit x k)) w.found-is)
+        | else-joins w ↦ join-nobody 0 (passes a.distinct.now a.place a.left a.right a.turned a.v) (who a.having.now a.place) turn.l turn.m _ _ turn.invariant.1 (sym c.joins.ensures ∙ w.if-joins.false) w.found-is c.union-m.ensures
+      ],
     )
 
 pub returns : goal.returns

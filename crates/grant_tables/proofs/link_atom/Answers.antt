@@ -21,7 +21,7 @@ loop-k-preserved c =
       turn.invariant.1,
       spread_keeps 2304 a.atom _ _ turn.out _ e turn.invariant.2,
       turns_next (link_value a.distinct.now a.having.now a.kinds.now a.resources a.atom) a.out.now turn.k turn.out _ turn.invariant.3
-          (link-turn a.distinct.now a.having.now a.kinds.now a.resources a.atom turn.k _ turn.out _ turn.invariant.2 c.Linked-to.ensures e),
+          (link-turn a.distinct.now a.having.now a.kinds.now a.resources a.atom turn.k _ turn.out _ turn.invariant.2 c.linked_to-word.ensures e),
     )
 
 pub returns : goal.returns

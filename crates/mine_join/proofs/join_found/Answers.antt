@@ -33,7 +33,7 @@ returns c =
       joined_same c.higher-j.ensures c.join.ensures,
       record {
         marks = marks-joined o.0 (omega (arith, o.1, c.requires.2)) c.join.ensures o.2 old.marks c.unmark.ensures;
-        c = group-joined a.matches.now a.c a.found.head c.widen.new.met c.join.ensures c.lower-i.ensures c.higher-j.ensures c.users_at-users.ensures c.resources_at-resources.ensures m;
+        group = group-joined a.matches.now a.c a.found.head c.widen.new.met c.join.ensures c.lower-i.ensures c.higher-j.ensures c.users_at-users.ensures c.resources_at-resources.ensures m;
         reach = c.mark_again.ensures a.scratch.now a.c a.found.level c.join.ensures o.2 (one_of a.c a.found.head c.lower-i.ensures c.higher-j.ensures) c.group_at-g.ensures old.reach;
       },
     )

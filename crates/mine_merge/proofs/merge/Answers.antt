@@ -12,20 +12,27 @@ use Rattle.mine_groups.specs.Scratch.{all_parts, Started, Stands}
 use Rattle.mine_join.specs.JoinedLaws.{name-stays}
 use Rattle.mine_join.specs.Joins.{Resolved}
 use Rattle.mine_merge.proofs.merge.Goals as goal
+use Rattle.mine_merge.proofs.merge.Goals.{After-merge_runs-arg-1}
 
-pub merge_runs-within_runs-requires : goal.merge_runs-within_runs-requires
-merge_runs-within_runs-requires c =
-    let all-filled : c.fill-parts.result ≡ all_parts c.fill-parts.new.starts = c.fill-parts.ensures.2 ∙ sym (c.fill-parts.ensures.4 32 (omega arith)) in
-    let stands : Stands c.fill-parts.new.scratch c.fill-parts.new.starts = let filled = c.fill-parts.ensures in
+-- the parts that were filled are all
+all-filled : (c : After-merge_runs-arg-1) → c.fill-parts.result ≡ all_parts c.fill-parts.new.starts
+all-filled c = c.fill-parts.ensures.2 ∙ sym (c.fill-parts.ensures.4 32 (omega arith))
+
+stands : (c : After-merge_runs-arg-1) → Stands c.fill-parts.new.scratch c.fill-parts.new.starts
+stands c =
+    let filled = c.fill-parts.ensures in
     let a = c.args in
-    let all = all-filled in
+    let all = all-filled c in
     record {
       room = omega (arith, all, filled.0, filled.1, c.requires.3);
       begun = subst (λ (n : ℕ). Started n c.fill-parts.new.scratch c.fill-parts.new.starts) all
           (starts-filled a.links.now a.matches.now a.knowing.now a.attributes.now a.holders.now a.permissions.now a.sizes.users a.sizes.resources a.sizes.operations c.requires.0.2 _ c.fill-parts.new.scratch c.fill-parts.new.starts filled.2 filled.3 filled.4);
-    } in
+    }
+
+pub merge_runs-within_runs-requires : goal.merge_runs-within_runs-requires
+merge_runs-within_runs-requires c =
     let p = c.requires in
-    (p.0, p.1, p.2, p.4, stands)
+    (p.0, p.1, p.2, p.4, stands c)
 
 pub merge_within-over_all-requires : goal.merge_within-over_all-requires
 merge_within-over_all-requires c =
@@ -47,20 +54,12 @@ shape_of-scratch c =
 
 pub returns : goal.returns
 returns c =
-    let all-filled : c.fill-parts.result ≡ all_parts c.fill-parts.new.starts = c.fill-parts.ensures.2 ∙ sym (c.fill-parts.ensures.4 32 (omega arith)) in
-    let stands : Stands c.fill-parts.new.scratch c.fill-parts.new.starts = let filled = c.fill-parts.ensures in
-    let a = c.args in
-    let all = all-filled in
-    record {
-      room = omega (arith, all, filled.0, filled.1, c.requires.3);
-      begun = subst (λ (n : ℕ). Started n c.fill-parts.new.scratch c.fill-parts.new.starts) all
-          (starts-filled a.links.now a.matches.now a.knowing.now a.attributes.now a.holders.now a.permissions.now a.sizes.users a.sizes.resources a.sizes.operations c.requires.0.2 _ c.fill-parts.new.scratch c.fill-parts.new.starts filled.2 filled.3 filled.4);
-    } in
     let filled = c.fill-parts.ensures in
     let a = c.args in
     let starts = c.fill-parts.new.starts in
-    let all = all-filled in
-    let stood = stands in
+    let filled-in = (goal.at.returns c).After-merge_runs-arg-1 in
+    let all = all-filled filled-in in
+    let stood = stands filled-in in
     let room = stood.room in
     let long = c.resolve.ensures.long ∙ c.merge_within-over_all.ensures.0 ∙ c.merge_runs-within_runs.ensures.0 in (
       long ∙ filled.1,

@@ -8,10 +8,10 @@ use Rattle.mine_groups.specs.Scratch.{all_parts}
 use Rattle.mine_merge.proofs.run_end.Goals as goal
 
 pub overflow_cast-result : goal.overflow_cast-result
-overflow_cast-result c = omega (arith, c.shared_slice_known-1.given c.args.run)
+overflow_cast-result c = omega (arith, c.type_inv.cuts c.args.run)
 
 pub offset_bounds-starts-cuts : goal.offset_bounds-starts-cuts
-offset_bounds-starts-cuts c = omega (arith, c.shared_slice_known-1.given c.args.run)
+offset_bounds-starts-cuts c = omega (arith, c.type_inv.cuts c.args.run)
 
 pub bounds-starts-cuts : goal.bounds-starts-cuts
 bounds-starts-cuts c = let low = c.requires c.if-run-cuts.true in omega (arith, low)

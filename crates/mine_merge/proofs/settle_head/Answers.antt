@@ -10,6 +10,7 @@ use Rattle.mine_search.specs.PartnerSearch.{pair_at, partner_at}
 use Rattle.mine_search.specs.PartnerSearchLaws.{partner-first, partner-later, first-later, chosen-partner, chosen-behind, Taking, taking}
 use Rattle.mine_widen.specs.MetLaws.{none-met}
 use Rattle.mine_merge.proofs.settle_head.Goals as goal
+use Rattle.mine_merge.proofs.settle_head.Goals.{After-met-in-loop-window-2-1, After-slice_known-in-loop-window-1}
 
 pub prepare-requires : goal.prepare-requires
 prepare-requires c =
@@ -52,17 +53,21 @@ returns-then-end-other c =
     let end = inv.4 _ _ c.first_partner-other.ensures in
     (inv.0, inv.3, inv.5.marks, (λ F Z P parts old made S. going_end F parts a.window.first a.window.end old (end.1 F Z P parts old made S) (omega (arith, inv.1)) (omega (arith, inv.1, p.4)) (omega (arith, c.if-end-other.true))), inv.6)
 
-pub join_found-c-requires : goal.join_found-c-requires
-join_found-c-requires c =
-    let taken : (i : ℕ) → let a = c.args in let l = c.loop-window in let other = c.first_partner-other.result in
-    i ≡ min l.seeking.head other.head → Taking a.window.end a.links.now a.matches.now a.knowing.now a.attributes.now a.sizes.users a.sizes.resources a.sizes.operations l.scratch l.seeking.head i (max l.seeking.head other.head) other.level = λ i e. let a = c.args in
+-- the two heads in order
+taken : (c : After-met-in-loop-window-2-1) (i : ℕ) → let a = c.args in let l = c.loop-window in let other = c.first_partner-other.result in
+    i ≡ min l.seeking.head other.head → Taking a.window.end a.links.now a.matches.now a.knowing.now a.attributes.now a.sizes.users a.sizes.resources a.sizes.operations l.scratch l.seeking.head i (max l.seeking.head other.head) other.level
+taken c i e =
+    let a = c.args in
     let l = c.loop-window in
     let other = c.first_partner-other.result in
     let finds = c.first_partner-other.ensures in
-    taking a.window.end a.links.now a.matches.now a.knowing.now a.attributes.now a.sizes.users a.sizes.resources a.sizes.operations l.scratch l.seeking.head i (max l.seeking.head other.head) other.level (l.invariant.4 _ _ finds).0 finds.leveled (omega (arith, c.if-end-other.false)) (omega (arith, l.invariant.1, c.requires.4)) e refl in
+    taking a.window.end a.links.now a.matches.now a.knowing.now a.attributes.now a.sizes.users a.sizes.resources a.sizes.operations l.scratch l.seeking.head i (max l.seeking.head other.head) other.level (l.invariant.4 _ _ finds).0 finds.leveled (omega (arith, c.if-end-other.false)) (omega (arith, l.invariant.1, c.requires.4)) e refl
+
+pub join_found-c-requires : goal.join_found-c-requires
+join_found-c-requires c =
     let l = c.loop-window in
     let p = c.requires in
-    let o = taken _ refl in
+    let o = taken c _ refl in
     (omega (arith, l.invariant.1, p.4), omega (arith, c.if-end-other.false), omega (arith, l.invariant.0, p.5), record { order = o.order; below = o.below; low = o.low; head = o.first }, l.invariant.5)
 
 pub overflow_add-merges : goal.overflow_add-merges
@@ -70,30 +75,18 @@ overflow_add-merges c =
     let most = heads-most c.args.scratch.now in
     omega (arith, most, c.loop-window.invariant.3)
 
+-- a join leaves fewer heads
+fewer : (c : After-slice_known-in-loop-window-1) → suc (head_count c.join_found-c.new.scratch) ≤ head_count c.loop-window.scratch
+fewer c =
+    let o = taken (goal.at.loop-window-smaller c).After-met-in-loop-window-2-1 _ c.join_found-c.ensures.0 in
+    heads-fewer o.order c.join_found-c.ensures.1 o.first (omega (arith, o.below, c.requires.5)) o.second
+
 pub loop-window-smaller : goal.loop-window-smaller
 loop-window-smaller c =
-    let taken : (i : ℕ) → let a = c.args in let l = c.loop-window in let other = c.first_partner-other.result in
-    i ≡ min l.seeking.head other.head → Taking a.window.end a.links.now a.matches.now a.knowing.now a.attributes.now a.sizes.users a.sizes.resources a.sizes.operations l.scratch l.seeking.head i (max l.seeking.head other.head) other.level = λ i e. let a = c.args in
-    let l = c.loop-window in
-    let other = c.first_partner-other.result in
-    let finds = c.first_partner-other.ensures in
-    taking a.window.end a.links.now a.matches.now a.knowing.now a.attributes.now a.sizes.users a.sizes.resources a.sizes.operations l.scratch l.seeking.head i (max l.seeking.head other.head) other.level (l.invariant.4 _ _ finds).0 finds.leveled (omega (arith, c.if-end-other.false)) (omega (arith, l.invariant.1, c.requires.4)) e refl in
-    let fewer : let l = c.loop-window in suc (head_count c.join_found-c.new.scratch) ≤ head_count l.scratch = let p = c.requires in
-    let o = taken _ c.join_found-c.ensures.0 in
-    heads-fewer o.order c.join_found-c.ensures.1 o.first (omega (arith, o.below, p.5)) o.second in
-    let less = fewer in omega (arith, less)
+    let less = fewer c in omega (arith, less)
 
 pub loop-window-preserved : goal.loop-window-preserved
 loop-window-preserved c =
-    let taken : (i : ℕ) → let a = c.args in let l = c.loop-window in let other = c.first_partner-other.result in
-    i ≡ min l.seeking.head other.head → Taking a.window.end a.links.now a.matches.now a.knowing.now a.attributes.now a.sizes.users a.sizes.resources a.sizes.operations l.scratch l.seeking.head i (max l.seeking.head other.head) other.level = λ i e. let a = c.args in
-    let l = c.loop-window in
-    let other = c.first_partner-other.result in
-    let finds = c.first_partner-other.ensures in
-    taking a.window.end a.links.now a.matches.now a.knowing.now a.attributes.now a.sizes.users a.sizes.resources a.sizes.operations l.scratch l.seeking.head i (max l.seeking.head other.head) other.level (l.invariant.4 _ _ finds).0 finds.leveled (omega (arith, c.if-end-other.false)) (omega (arith, l.invariant.1, c.requires.4)) e refl in
-    let fewer : let l = c.loop-window in suc (head_count c.join_found-c.new.scratch) ≤ head_count l.scratch = let p = c.requires in
-    let o = taken _ c.join_found-c.ensures.0 in
-    heads-fewer o.order c.join_found-c.ensures.1 o.first (omega (arith, o.below, p.5)) o.second in
     let a = c.args in
     let p = c.requires in
     let l = c.loop-window in
@@ -101,8 +94,8 @@ loop-window-preserved c =
     let i = c.join_found-c.result in
     let first = c.join_found-c.ensures.0 in
     let both = c.join_found-c.ensures.1 in
-    let o = taken i first in
-    let less = fewer in
+    let o = taken (goal.at.loop-window-preserved c).After-met-in-loop-window-2-1 i first in
+    let less = fewer c in
     let later = first-later {f = partner_at a.links.now a.matches.now a.knowing.now a.attributes.now a.sizes.users a.sizes.resources a.sizes.operations l.scratch l.seeking.head} l.invariant.2 c.first_partner-other.ensures.first in
     let inside : a.window.first ≤ i = omega (arith, first, later, l.invariant.7, l.invariant.8) in (
       both.long ∙ l.invariant.0,

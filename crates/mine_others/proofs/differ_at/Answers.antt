@@ -1,4 +1,5 @@
 -- Assumes nothing.
+use mathlib.Core.Bool.{◌&&◌}
 use mathlib.Core.Path.{ap₂}
 use Rattle.grant_grids.proofs.GridLaws.{differs}
 use Rattle.mine_others.proofs.differ_at.Goals as goal

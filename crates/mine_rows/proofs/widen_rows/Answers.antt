@@ -10,12 +10,11 @@ pub loop-u-init : goal.loop-u-init
 loop-u-init c = (search rules, search rules, below_none _)
 
 pub loop-u-preserved : goal.loop-u-preserved
-loop-u-preserved c =
-    (
-      search rules,
-      search rules,
-      store_next c.loop-u.out c.loop-u.u c.below-all.result (λ u. everything) c.loop-u.invariant.2 c.below-all.ensures (omega arith),
-    )
+loop-u-preserved c = (
+  search rules,
+  search rules,
+  store_next c.loop-u.out c.loop-u.u c.below-all.result (λ u. everything) c.loop-u.invariant.2 c.below-all.ensures (omega arith),
+)
 
 pub returns : goal.returns
 returns c =

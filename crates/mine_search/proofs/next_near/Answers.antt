@@ -12,12 +12,12 @@ loop-word-init c k a b = absurd (omega arith)
 pub returns-then-k-end : goal.returns-then-k-end
 returns-then-k-end c =
     let a = c.args in
-    near_found a.heads.now a.scratch.now (words_in a.g) a.from c.loop-word.word c.higher.ensures c.below-passed.ensures c.without.ensures c.loop-word.invariant c.near-Within.ensures c.if-k-end.true
+    near_found a.heads.now a.scratch.now (words_in a.g) a.from c.loop-word.word c.higher.ensures c.below-passed.ensures c.without.ensures c.loop-word.invariant c.near_within-k.ensures c.if-k-end.true
 
 pub loop-word-preserved : goal.loop-word-preserved
 loop-word-preserved c =
     let a = c.args in
-    near_on a.heads.now a.scratch.now (words_in a.g) a.from c.loop-word.word c.higher.ensures c.below-passed.ensures c.without.ensures c.loop-word.invariant c.requires.1 c.near-Within.ensures c.if-k-end.false
+    near_on a.heads.now a.scratch.now (words_in a.g) a.from c.loop-word.word c.higher.ensures c.below-passed.ensures c.without.ensures c.loop-word.invariant c.requires.1 c.near_within-k.ensures c.if-k-end.false
 
 pub returns : goal.returns
 returns c = inl (refl, λ k a b. c.loop-word.invariant k a (omega (arith, c.loop-word-test.false)))

@@ -15,7 +15,7 @@ pub returns-then-asks_no_more : goal.returns-then-asks_no_more
 returns-then-asks_no_more c =
     let a = c.args in
     told_by_rows a.links.now a.met.now a.sizes.users a.sizes.resources a.sizes.operations (words_in a.g) a.places c.met_by_all-who.result c.met_by_all-what.result
-    c.met_by_all-who.ensures c.met_by_all-what.ensures c.requires.0 c.requires.1 c.asks_no_more.ensures c.if-asks_no_more.true a.rows.now c.requires.2 c.Adds-none.ensures
+    c.met_by_all-who.ensures c.met_by_all-what.ensures c.requires.0 c.requires.1 c.asks_no_more.ensures c.if-asks_no_more.true a.rows.now c.requires.2 c.adds_none.ensures
 
 pub returns : goal.returns
 returns c =

@@ -28,7 +28,7 @@ loop-rest-preserved c =
     let a = c.args in
     let t = least_in turn.rest turn.invariant.0 _ c.least.ensures c.loop-rest-test.true in (
       search rules,
-      visit_turn a.links.now _ a.sizes.users a.sizes.resources a.sizes.operations (words_in a.g) (present_places a.knowing.now a.attributes.now (words_in a.g) a.level) turn.rest turn.auto turn.invariant.1 c.least.result _ _
+      visit_turn a.links.now _ a.sizes.users a.sizes.resources a.sizes.operations (words_in a.g) (present_places a.knowing.now a.attributes.now (words_in a.g) a.level) turn.rest turn.kept turn.invariant.1 c.least.result _ _
           (present_low a.knowing.now a.attributes.now (words_in a.g) a.level) turn.invariant.0 c.least.ensures t.1 (c.without_least-rest.ensures ∙ ap (less_one turn.rest) (sym c.least.ensures)) c.thinned-kept.ensures,
     )
 
@@ -37,5 +37,5 @@ returns c =
     let a = c.args in
     thin-end a.links.now a.matches.now a.knowing.now a.attributes.now _ a.sizes.users a.sizes.resources a.sizes.operations (words_in a.g) a.level 50
     (c.met_places.ensures ∙ ap (met_places a.matches.now (words_in a.g)) c.present-kept.ensures)
-    (visit_done a.links.now _ a.sizes.users a.sizes.resources a.sizes.operations (words_in a.g) (present_places a.knowing.now a.attributes.now (words_in a.g) a.level) c.loop-rest.rest c.loop-rest.auto c.loop-rest.invariant.1 (omega arith))
+    (visit_done a.links.now _ a.sizes.users a.sizes.resources a.sizes.operations (words_in a.g) (present_places a.knowing.now a.attributes.now (words_in a.g) a.level) c.loop-rest.rest c.loop-rest.kept c.loop-rest.invariant.1 (omega arith))
     refl

@@ -44,8 +44,7 @@ write-requires c =
     let bytes : Bytes c.args.file.now = bytes-all c.args.file.now (λ i. let b = (c.shared_slice_known-1.given i).fits in omega (arith, b)) in
     let source : List ℕ = c.args.file.now in
     let faults : Faulty source lines c.lines-roles.result = faulty source bytes c.read-l.result c.read-l.ensures c.if-code-ne-OWN_SENIOR.false lines c.lines-roles.result c.lines-roles.ensures in
-    let many : more < c.lines-roles.result = circle_more source lines c.lines-roles.result low more faults c.shortest-c.ensures in
-    (
+    let many : more < c.lines-roles.result = circle_more source lines c.lines-roles.result low more faults c.shortest-c.ensures in (
       faults.few,
       circle_low source lines c.lines-roles.result low more faults c.shortest-c.ensures,
       many,

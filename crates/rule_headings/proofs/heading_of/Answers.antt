@@ -26,7 +26,7 @@ overflow_add-at c =
     let found : c.front-l.result ≡ line_of (drop c.loop-l.at source) = c.front-l.ensures.0 ∙ ap line_of (tail c.loop-l.at source) in
     let inside : in_rule c.front-l.result.byte ≡ true = sym c.in_rule.ensures ∙ c.if-not-in_rule.false in
     let bytes : (0 < c.front-l.result.width) × (c.loop-l.at + c.front-l.result.width ≤ length source) = taken source _ _ c.loop-l.invariant _ found inside in
-    let t = bytes in omega (arith, t.0, t.1, c.well-formed)
+    let t = bytes in omega (arith, t.0, t.1, c.well_formed)
 
 pub loop-l-smaller : goal.loop-l-smaller
 loop-l-smaller c =

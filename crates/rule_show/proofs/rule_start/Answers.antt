@@ -11,7 +11,7 @@ pub loop-at-init : goal.loop-at-init
 loop-at-init c = begun 2 _ _
 
 pub overflow_add-next : goal.overflow_add-next
-overflow_add-next c = omega (arith, c.size_of.ensures.1, c.well-formed)
+overflow_add-next c = omega (arith, c.size_of.ensures.1, c.well_formed)
 
 pub returns-then-ahead-eq0 : goal.returns-then-ahead-eq0
 returns-then-ahead-eq0 c =

@@ -35,7 +35,7 @@ pub add-sums-requires : goal.add-sums-requires
 add-sums-requires c =
     let l = c.loop-i in
     let a = c.args in
-    add_fits a.kept.now a.distinct.now a.having.now a.inside.now a.kinds.now a.scratch.now l.i (omega (arith, c.loop-i-test.true, few c.args.scratch.now c.args.starts.now c.requires.1)) l.invariant.sums-so c.size_head-size.ensures.1
+    add_fits a.kept.now a.distinct.now a.having.now a.inside.now a.kinds.now a.scratch.now l.i (omega (arith, c.loop-i-test.true, few c.args.scratch.now c.args.starts.now c.requires.1)) l.invariant.sums_so c.size_head-size.ensures.1
 
 pub overflow_add-rules : goal.overflow_add-rules
 overflow_add-rules c =

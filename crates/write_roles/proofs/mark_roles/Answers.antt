@@ -34,11 +34,14 @@ loop-i-preserved c =
     let a = c.args in
     let room = c.requires.1 in
     let next : (length c.if-head-parts.out ≡ length a.out.now) × Marking a.scratch.now a.parts c.if-head-parts.out (turn.i + 1) =
-    elim c.if-head-parts.branch [ then-head-parts w ↦ subst (λ (o : List ℕ). (length o ≡ length a.out.now) × Marking a.scratch.now a.parts o (turn.i + 1)) (sym w.out-is) (
-      length-set turn.out c.head_at-head.result w.with.result ∙ turn.invariant.1,
-      mark_more a.scratch.now a.parts turn.out turn.i _ c.head_at-head.ensures turn.invariant.2 w.with.result w.if-head-parts.true (omega (arith, turn.invariant.1, room)) (w.with.ensures ∙ ap (λ (r : ℕ). mask_of 64 (λ k. bit (get_or turn.out c.head_at-head.result 0) k || eqb k r)) w.role_at.ensures),
-    ) | else-head-parts w ↦ subst (λ (o : List ℕ). (length o ≡ length a.out.now) × Marking a.scratch.now a.parts o (turn.i + 1)) (sym w.out-is)
-    (turn.invariant.1, mark_past a.scratch.now a.parts turn.out turn.i _ c.head_at-head.ensures turn.invariant.2 w.if-head-parts.false) ] in
+    elim c.if-head-parts.branch [
+      | then-head-parts w ↦ subst (λ (o : List ℕ). (length o ≡ length a.out.now) × Marking a.scratch.now a.parts o (turn.i + 1)) (sym w.out-is) (
+        length-set turn.out c.head_at-head.result w.with.result ∙ turn.invariant.1,
+        mark_more a.scratch.now a.parts turn.out turn.i _ c.head_at-head.ensures turn.invariant.2 w.with.result w.if-head-parts.true (omega (arith, turn.invariant.1, room)) (w.with.ensures ∙ ap (λ (r : ℕ). mask_of 64 (λ k. bit (get_or turn.out c.head_at-head.result 0) k || eqb k r)) w.role_at.ensures),
+      )
+      | else-head-parts w ↦ subst (λ (o : List ℕ). (length o ≡ length a.out.now) × Marking a.scratch.now a.parts o (turn.i + 1)) (sym w.out-is)
+          (turn.invariant.1, mark_past a.scratch.now a.parts turn.out turn.i _ c.head_at-head.ensures turn.invariant.2 w.if-head-parts.false)
+    ] in
     (search rules, next.0, next.1)
 
 pub shape_of-out : goal.shape_of-out
