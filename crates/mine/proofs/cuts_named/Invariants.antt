@@ -1,7 +1,5 @@
--- What is left of the arguments falls, and no more cuts are held than there is room for. Assumes nothing.
-use Prim.Native.Nat.{◌≤◌}
-use lib.ListN.{length}
-use mathlib.Core.Path.{◌≡◌}
+-- No more cuts are held than there is room for. Assumes nothing.
+use Rattle.std.proofs.Common.{length, ◌≤◌, ◌≡◌}
 use Rattle.mine.proofs.cuts_named.Given as goal
 
 abbrev pub invariant-loop-i : goal.invariant-loop-i
