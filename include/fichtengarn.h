@@ -3,17 +3,14 @@
  * showing rule files, counting denials in usage logs, making role files from a seed, and a standing
  * summary of what the roles grant. "01" below is the paper that settles what is right.
  *
- *     rt staticlib fichtengarn          proves the library and writes target/staticlib/libfichtengarn.a
+ *     processors/build.py               proves the library and writes both archives:
+ *
  *     cc -Iinclude program.c target/staticlib/libfichtengarn.a
- *
- * That archive is for x86-64. processors/build.py compiles what is proved for 64-bit Arm as well:
- *
- *     processors/build.py               writes target/staticlib/aarch64/libfichtengarn.a
  *     aarch64-linux-gnu-gcc -Iinclude program.c target/staticlib/aarch64/libfichtengarn.a
  *
- * Either needs memcpy and memset, and nothing else of a system. Structs go by value as the C interface
- * of the processor has it. (With the word riscv64 the script builds for that processor, where calls need
- * the stack that is said below of Arm.)
+ * The first is for x86-64, the second for 64-bit Arm. Either needs memcpy, memmove and memset at most, and
+ * nothing else of a system. Structs go by value as the C interface of the processor has it. (With the word
+ * riscv64 the script builds for that processor, where calls need the stack that is said below of Arm.)
  *
  * What every call promises. Its answer, what it writes and that it ends are proved; the sizes of
  * the stack are measured, on both processors, and hold for both where Arm is not named.

@@ -246,12 +246,7 @@ pub fn fichtengarn_fill(loaded: RoleFile, table: &mut [u64]) -> usize
 }
 
 // Assigns a user to a role: the record and the table after it, or both as they were.
-pub fn fichtengarn_assign(
-    loaded: RoleFile,
-    table: &mut [u64],
-    role: usize,
-    user: usize,
-) -> Edited
+pub fn fichtengarn_assign(loaded: RoleFile, table: &mut [u64], role: usize, user: usize) -> Edited
     ensures { (result.code ≡ code_of (standing_answer (standing loaded table.old) (an_edit true role user)))
         × (standing result.file table.new
         ≡ left_by (standing loaded table.old)
@@ -261,12 +256,7 @@ pub fn fichtengarn_assign(
 }
 
 // Takes the assignment of a user to a role away: the same.
-pub fn fichtengarn_withdraw(
-    loaded: RoleFile,
-    table: &mut [u64],
-    role: usize,
-    user: usize,
-) -> Edited
+pub fn fichtengarn_withdraw(loaded: RoleFile, table: &mut [u64], role: usize, user: usize) -> Edited
     ensures { (result.code ≡ code_of (standing_answer (standing loaded table.old) (an_edit false role user)))
         × (standing result.file table.new
         ≡ left_by (standing loaded table.old)
