@@ -34,6 +34,6 @@ returns-in-41 c = (of 0x29 c.in-41.is, omega arith)
 
 pub returns-in_default : goal.returns-in_default
 returns-in_default c = (
-      simp (ne_eqb c.args.b 0x21 (λ e. grind arith), ne_eqb c.args.b 0x2F (λ e. grind arith), ne_eqb c.args.b 0x22 (λ e. grind arith), ne_eqb c.args.b 0x24 (λ e. grind arith), ne_eqb c.args.b 0x28 (λ e. grind arith), ne_eqb c.args.b 0x23 (λ e. grind arith), ne_eqb c.args.b 0x25 (λ e. grind arith), ne_eqb c.args.b 0x26 (λ e. grind arith), ne_eqb c.args.b 0x27 (λ e. grind arith), ne_eqb c.args.b 0x20 (λ e. grind arith), ne_eqb c.args.b 0x29 (λ e. grind arith)),
-      omega arith,
-    )
+  simp (ne_eqb c.args.b 0x21 (λ e. grind arith), ne_eqb c.args.b 0x2F (λ e. grind arith), ne_eqb c.args.b 0x22 (λ e. grind arith), ne_eqb c.args.b 0x24 (λ e. grind arith), ne_eqb c.args.b 0x28 (λ e. grind arith), ne_eqb c.args.b 0x23 (λ e. grind arith), ne_eqb c.args.b 0x25 (λ e. grind arith), ne_eqb c.args.b 0x26 (λ e. grind arith), ne_eqb c.args.b 0x27 (λ e. grind arith), ne_eqb c.args.b 0x20 (λ e. grind arith), ne_eqb c.args.b 0x29 (λ e. grind arith)),
+  omega arith,
+)
