@@ -4,7 +4,7 @@
 // measured against each other; beside the proofs it counts in a log of six records beside example A of 01, a hundred times.
 #![tactic(auto)]
 
-ghost use Rattle.std.specs.Prelude.{◌≡◌, ◌<◌};
+ghost use Rattle.std.specs.Prelude.{◌≡◌, ◌<◌, length};
 ghost use Rattle.files.specs.Answer.{told};
 ghost use Rattle.files.specs.Denials.{denial_answer};
 ghost use Rattle.files.specs.Windows.{worst_values};
@@ -79,10 +79,14 @@ fn print_checksum(rt: &impl Print, s: &[u8]) -> io::Result<()> {
 }
 
 // The two files and the log may have this much together.
-const INPUT: usize = 3145728;
+fn input_buffer() -> [u8; 3145728]
+    ensures { 3145728 ≡ length result }
+{
+    [0; 3145728]
+}
 
 fn main(rt: HostRuntime) -> io::Result<()> {
-    let mut input = [0u8; INPUT];
+    let mut input = input_buffer();
     let n = programs::read_open(&mut rt.stdin(), &mut input)?;
     print_checksum(&rt, &input[..n])
 }

@@ -70,6 +70,13 @@ fn checksum(file: &[u8], cuts: &[u8], scratch: &mut [u64], out: &mut [u8], turns
     sum
 }
 
+// Memory for rules: more than the longest rule file of bench/mine.
+fn out_buffer() -> [u8; 524288]
+    ensures { 524288 ≡ length result }
+{
+    [0; 524288]
+}
+
 // Prints the checksum of the file that stands behind the numbers in front.
 fn print_checksum(rt: &impl Print, s: &[u8]) -> io::Result<()> {
     let turns = file_bytes::byte_at(s, 0) + 256 * file_bytes::byte_at(s, 1);
@@ -78,8 +85,7 @@ fn print_checksum(rt: &impl Print, s: &[u8]) -> io::Result<()> {
         return Ok(());
     }
     let mut scratch = [0u64; mining::SCRATCH];
-    // more than the longest rule file of bench/mine
-    let mut out = [0u8; 524288];
+    let mut out = out_buffer();
     let sum = checksum(&s[start..], &s[3..start], &mut scratch, &mut out, turns);
     println!(rt; "{sum}")
 }

@@ -3,6 +3,8 @@
 // so and nothing is counted.
 #![tactic(auto)]
 
+ghost use Rattle.std.specs.Prelude.{length, ◌≡◌};
+
 use digits::Number;
 use log_windows::Denials;
 use programs::say_count;
@@ -16,7 +18,11 @@ fn usage(rt: &HostRuntime) {
 }
 
 // Memory for a log. 02 sets no limit to its length, so this one is the program's own: a million records and some.
-const LOG: usize = 3145728;
+fn log_buffer() -> [u8; 3145728]
+    ensures { 3145728 ≡ length result }
+{
+    [0; 3145728]
+}
 
 // Prints how many records are denied at most, and where.
 fn say_counted(rt: &impl Print, most: usize, start: usize) -> io::Result<()> {
@@ -56,7 +62,7 @@ fn refuse_long(rt: &HostRuntime, file: &[u8], rules: &[u8], window: usize) {
 
 // Reads the log, and counts.
 fn count(rt: &HostRuntime, file: &[u8], rules: &[u8], window: usize) {
-    let mut log = [0u8; LOG];
+    let mut log = log_buffer();
     let read = programs::read_named(rt, b"denials", 3, &mut log);
     if read.failed {
         return;
