@@ -14,7 +14,7 @@ use Rattle.files.proofs.BytesLaws.{Carries, unless_carries, then_carries, any-ca
 use Rattle.files.specs.Calls.{read_both}
 use Rattle.files.specs.RoleFile.{read_roles}
 use Rattle.files.specs.RuleFile.{RuleCommand as Line, Lines, Reading, whole, finished, follows, legal, levelled, add_line, obey_rule, rule_format, opened, read_body, read_rules, reshapes, opens, value, operations, link, part, level, ends}
-use Rattle.policy.specs.Policy.{Policy, setting_of, roles_in}
+use Rattle.policy.specs.Policy.{Policy}
 use Rattle.policy.specs.Rules.{user, resource}
 use Rattle.role_file.specs.SizedLaws.{accepted-sized}
 use Rattle.rule_reading.specs.BothFiles.{nothing_read, both_of}

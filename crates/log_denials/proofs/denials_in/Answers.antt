@@ -1,5 +1,4 @@
 -- Assumes nothing.
-use borrow.Author.Rules.{rules}
 use lib.ListN.{take}
 use mathlib.Core.List.{List}
 use mathlib.Core.Path.{◌≡◌, sym, ap, ◌∙◌}
@@ -16,7 +15,7 @@ use Rattle.log_windows.specs.declared.Denials.TheVariants.{Refused}
 use Rattle.role_record.specs.Cells.{grid_cells}
 use Rattle.rule_file.specs.LegalLaws.{both-sizes}
 use Rattle.rule_file.specs.OpenedLaws.{first-words, first-long}
-use Rattle.rule_reading.specs.BothFiles.{GridShown}
+use Rattle.rule_reading.specs.BothFiles.{both_of, GridShown}
 use Rattle.rule_reading.specs.declared.BothFiles.{BothFiles}
 use Rattle.log_denials.specs.DenialsLaws.{sizes_in, counted_by, counted_means, counted-refused, no_window, ragged, whole}
 use Rattle.log_denials.proofs.denials_in.Goals as goal
@@ -28,32 +27,21 @@ limits c =
     let a = c.args in
     both-sizes a.file.now a.rules.now c.read_into-b.result c.read_into-b.ensures.0 c.if-b-ne0.false
 
+-- the count told of what was read
+means : (file rules log : List ℕ) (window : ℕ) (b : BothFiles) → b ≡ both_of (read_both 2 file rules) → (grid : List ℕ) → GridShown (read_both 2 file rules) grid
+    → (x : Denials) → x ≡ counted_by b grid log window → denial_numbers x ≡ told worst_values (denial_answer 2 file rules log window)
+means file rules log window b s grid g x e = ap denial_numbers (e ∙ ap (λ (t : BothFiles). counted_by t grid log window) s) ∙ counted_means file rules log window grid g
+
 pub returns-then-b-ne0 : goal.returns-then-b-ne0
-returns-then-b-ne0 c =
-    let means : (grid : List ℕ) (x : Denials)
-    → let a = c.args in GridShown (read_both 2 a.file.now a.rules.now) grid
-    → x ≡ counted_by c.read_into-b.result grid a.log.now a.window
-    → denial_numbers x ≡ told worst_values (denial_answer 2 a.file.now a.rules.now a.log.now a.window) = λ grid x g e. let a = c.args in
-    ap denial_numbers (e ∙ ap (λ (b : BothFiles). counted_by b grid a.log.now a.window) c.read_into-b.ensures.0) ∙ counted_means a.file.now a.rules.now a.log.now a.window grid g in
-    means _ (Refused _) c.read_into-b.ensures.1 (counted-refused _ _ _ _ c.if-b-ne0.true)
+returns-then-b-ne0 c = means _ _ _ _ _ c.read_into-b.ensures.0 _ c.read_into-b.ensures.1 (Refused _) (counted-refused _ _ _ _ c.if-b-ne0.true)
 
 pub returns-then-not-fits : goal.returns-then-not-fits
 returns-then-not-fits c =
-    let means : (grid : List ℕ) (x : Denials)
-    → let a = c.args in GridShown (read_both 2 a.file.now a.rules.now) grid
-    → x ≡ counted_by c.read_into-b.result grid a.log.now a.window
-    → denial_numbers x ≡ told worst_values (denial_answer 2 a.file.now a.rules.now a.log.now a.window) = λ grid x g e. let a = c.args in
-    ap denial_numbers (e ∙ ap (λ (b : BothFiles). counted_by b grid a.log.now a.window) c.read_into-b.ensures.0) ∙ counted_means a.file.now a.rules.now a.log.now a.window grid g in
-    means _ (Refused 19) c.read_into-b.ensures.1 (no_window _ _ _ _ c.if-b-ne0.false (sym c.fits.ensures ∙ c.if-not-fits.true))
+    means _ _ _ _ _ c.read_into-b.ensures.0 _ c.read_into-b.ensures.1 (Refused 19) (no_window _ _ _ _ c.if-b-ne0.false (sym c.fits.ensures ∙ c.if-not-fits.true))
 
 pub returns-then-log-ne0 : goal.returns-then-log-ne0
 returns-then-log-ne0 c =
-    let means : (grid : List ℕ) (x : Denials)
-    → let a = c.args in GridShown (read_both 2 a.file.now a.rules.now) grid
-    → x ≡ counted_by c.read_into-b.result grid a.log.now a.window
-    → denial_numbers x ≡ told worst_values (denial_answer 2 a.file.now a.rules.now a.log.now a.window) = λ grid x g e. let a = c.args in
-    ap denial_numbers (e ∙ ap (λ (b : BothFiles). counted_by b grid a.log.now a.window) c.read_into-b.ensures.0) ∙ counted_means a.file.now a.rules.now a.log.now a.window grid g in
-    means _ (Refused 20) c.read_into-b.ensures.1 (ragged _ _ _ _ c.if-b-ne0.false (sym c.fits.ensures ∙ c.if-not-fits.false) c.if-log-ne0.true)
+    means _ _ _ _ _ c.read_into-b.ensures.0 _ c.read_into-b.ensures.1 (Refused 20) (ragged _ _ _ _ c.if-b-ne0.false (sym c.fits.ensures ∙ c.if-not-fits.false) c.if-log-ne0.true)
 
 pub overflow_mul-words : goal.overflow_mul-words
 overflow_mul-words c = let few = (limits (goal.at.overflow_mul-words c).Else-b-ne0).2 in omega (arith, few)
@@ -72,14 +60,9 @@ count-requires c =
 
 pub returns : goal.returns
 returns c =
-    let means : (grid : List ℕ) (x : Denials)
-    → let a = c.args in GridShown (read_both 2 a.file.now a.rules.now) grid
-    → x ≡ counted_by c.read_into-b.result grid a.log.now a.window
-    → denial_numbers x ≡ told worst_values (denial_answer 2 a.file.now a.rules.now a.log.now a.window) = λ grid x g e. let a = c.args in
-    ap denial_numbers (e ∙ ap (λ (b : BothFiles). counted_by b grid a.log.now a.window) c.read_into-b.ensures.0) ∙ counted_means a.file.now a.rules.now a.log.now a.window grid g in
     let a = c.args in
     let words = c.read_into-b.new.grid in
     let n = grid_cells c.read_into-b.result.file.operations in
-    means (take n words) c.count.result c.read_into-b.ensures.1
+    means _ _ _ _ _ c.read_into-b.ensures.0 (take n words) c.read_into-b.ensures.1 c.count.result
     (whole c.read_into-b.result (take n words) a.log.now a.window c.if-b-ne0.false (sym c.fits.ensures ∙ c.if-not-fits.false) c.if-log-ne0.false c.count.result
     (c.count.ensures ∙ ap (λ (g : List ℕ). counted_of (in_grid g) (sizes_in c.read_into-b.result.file) a.log.now a.window) (first-words n words)))

@@ -1,5 +1,4 @@
 -- Assumes nothing.
-use borrow.Author.Rules.{rules}
 use lib.ListN.{length}
 use mathlib.Core.Path.{◌≡◌, sym, ap, ◌∙◌, subst}
 use native.Mathlib.Omega.{arith}
@@ -14,10 +13,10 @@ use Rattle.rule_reading.proofs.ReadsLaws.{nothing-shown, roles-refused, roles-ta
 use Rattle.rule_reading.specs.Turns.{read_beside}
 use Rattle.rule_file.specs.OpenedLaws.{rules_unopened, rules-opened, first-long, grid_left}
 use Rattle.rule_file.proofs.read_into.Goals as goal
-use Rattle.rule_file.proofs.read_into.Goals.{After-links-2-1, After-links_of_values}
+use Rattle.rule_file.proofs.read_into.Goals.{After-links_of_values}
 
 -- seven bytes stand in front of what is read
-seven : (c : After-links-2-1) → 7 ≤ length c.args.rules.now
+seven : (c : After-links_of_values) → 7 ≤ length c.args.rules.now
 seven c =
     let a = c.args in
     let p = loaded_policy a.file.now c.read-l.result c.read-l.ensures c.if-l-ne0.false in
@@ -49,10 +48,10 @@ links_of_values-requires c =
     roles_bounds a.file.now a.rules.now c.read-l.result c.read-l.ensures c.if-l-ne0.false
 
 pub slice_bounds-read_rules-count : goal.slice_bounds-read_rules-count
-slice_bounds-read_rules-count c = omega (arith, seven c)
+slice_bounds-read_rules-count c = omega (arith, seven (goal.at.slice_bounds-read_rules-count c).After-links_of_values)
 
 pub slice_bounds-read_rules-start : goal.slice_bounds-read_rules-start
-slice_bounds-read_rules-start c = omega (arith, seven c)
+slice_bounds-read_rules-start c = omega (arith, seven (goal.at.slice_bounds-read_rules-start c).After-links_of_values)
 
 pub overflow_mul-words : goal.overflow_mul-words
 overflow_mul-words c = omega (arith, operable c)

@@ -1,6 +1,5 @@
 -- Assumes nothing.
 use Prim.Native.Nat.{◌-◌}
-use borrow.Author.Rules.{rules}
 use lib.ListN.{length}
 use Rattle.policy.specs.Policy.{Policy}
 use Rattle.rule_reading.proofs.RuleStateLaws.{State}

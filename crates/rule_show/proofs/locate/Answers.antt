@@ -1,5 +1,4 @@
 -- What was read says where the part stands. Assumes nothing.
-use borrow.Author.Rules.{rules}
 use mathlib.Core.Path.{◌∙◌}
 use native.Mathlib.Omega.{arith}
 use Rattle.rule_show.specs.RuleShowLaws.{shown-byte, part-within, refused-so, beyond-so, there-so}

@@ -1,6 +1,5 @@
 -- The invariant: from this place on the rule begins at the mark number `ahead`. Assumes nothing.
 use Prim.Native.Nat.{◌-◌}
-use borrow.Author.Rules.{rules}
 use lib.ListN.{length}
 use Rattle.files.proofs.RulePartLaws.{Seeking}
 use Rattle.rule_show.proofs.rule_start.Given as goal

@@ -1,6 +1,5 @@
 -- The part stands where it was found. Assumes nothing.
 use Prim.Native.Nat.{ℕ, ◌-◌}
-use borrow.Author.Rules.{rules}
 use lib.ListN.{take, drop}
 use mathlib.Core.Path.{ap₂, ◌∙◌}
 use Rattle.files.specs.Calls.{shown_part}

@@ -1,7 +1,7 @@
 -- Each byte takes as much as its widths say. Assumes nothing.
 use Prim.Native.Nat.{ℕ}
 use borrow.Author.Tests.{ne_eqb}
-use mathlib.Core.Logic.{inl, inr, ⊎_elim}
+use mathlib.Core.Logic.{⊎_elim}
 use mathlib.Core.Path.{◌≡◌, sym, ap}
 use native.Mathlib.Omega.{arith}
 use Rattle.files.specs.RulePart.{size_of}
@@ -33,12 +33,7 @@ pub returns-in-41 : goal.returns-in-41
 returns-in-41 c = (of 0x29 c.in-41.is, omega arith)
 
 pub returns-in_default : goal.returns-in_default
-returns-in_default c =
-    let other = c.in_default.in_default-own.rest in
-    let bare = other.0.0.0.0.0.0.1 in
-    let pairs = other.0.0.0.0.0.1 in
-    let words = other.0.0.0.0.1 in (
-      simp
-          (ne_eqb _ _ (λ e. bare (inl e)), ne_eqb _ _ (λ e. bare (inr e)), ne_eqb _ _ (λ e. pairs (inl e)), ne_eqb _ _ (λ e. pairs (inr (inl e))), ne_eqb _ _ (λ e. pairs (inr (inr e))), ne_eqb _ _ (λ e. words (inl e)), ne_eqb _ _ (λ e. words (inr e)), ne_eqb _ _ other.0.0.0.1, ne_eqb _ _ other.0.0.1, ne_eqb _ _ other.0.1, ne_eqb _ _ other.1),
-      omega arith,
-    )
+returns-in_default c = (
+  simp (ne_eqb c.args.b 0x21 (λ e. grind arith), ne_eqb c.args.b 0x2F (λ e. grind arith), ne_eqb c.args.b 0x22 (λ e. grind arith), ne_eqb c.args.b 0x24 (λ e. grind arith), ne_eqb c.args.b 0x28 (λ e. grind arith), ne_eqb c.args.b 0x23 (λ e. grind arith), ne_eqb c.args.b 0x25 (λ e. grind arith), ne_eqb c.args.b 0x26 (λ e. grind arith), ne_eqb c.args.b 0x27 (λ e. grind arith), ne_eqb c.args.b 0x20 (λ e. grind arith), ne_eqb c.args.b 0x29 (λ e. grind arith)),
+  omega arith,
+)
