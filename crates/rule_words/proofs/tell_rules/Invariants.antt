@@ -6,7 +6,7 @@ use Rattle.rule_words.specs.TellingLaws.{Telling}
 use Rattle.rule_words.proofs.tell_rules.Given as goal
 
 abbrev pub invariant-loop-sizes : goal.invariant-loop-sizes
-invariant-loop-sizes l = (l.at ≤ length l.rules) × (l.number ≤ l.at) × Telling l.rules l.number l.at
+invariant-loop-sizes g l = (l.at ≤ length l.rules) × (l.number ≤ l.at) × Telling l.rules l.number l.at
 
 abbrev pub decreases-loop-sizes : goal.decreases-loop-sizes
-decreases-loop-sizes l = length l.rules - l.at
+decreases-loop-sizes g l = length l.rules - l.at

@@ -6,7 +6,7 @@ use mathlib.Core.Path.{◌≡◌}
 use Rattle.test_mine.proofs.cases.Given as goal
 
 abbrev pub invariant-loop-at : goal.invariant-loop-at
-invariant-loop-at l = (l.at ≤ length l.s) × (length l.scratch ≡ length l.initial.scratch) × (length l.out ≡ length l.initial.out)
+invariant-loop-at g l = (l.at ≤ length l.s) × (length l.scratch ≡ length l.initial.scratch) × (length l.out ≡ length l.initial.out)
 
 abbrev pub decreases-loop-at : goal.decreases-loop-at
-decreases-loop-at l = length l.s - l.at
+decreases-loop-at g l = length l.s - l.at

@@ -4,4 +4,4 @@ use lib.ListN.{length}
 use Rattle.test_rule.proofs.cases.Given as goal
 
 abbrev pub invariant-loop-k : goal.invariant-loop-k
-invariant-loop-k l = (l.k ≤ l.count) × (l.at ≤ length l.s)
+invariant-loop-k g l = (l.k ≤ l.count) × (l.at ≤ length l.s)
