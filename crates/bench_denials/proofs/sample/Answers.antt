@@ -2,4 +2,4 @@
 use Rattle.bench_denials.proofs.sample.Goals as goal
 
 pub returns : goal.returns
-returns c = rw (c.wrapping_add_u64.ensures, c.weight.ensures, c.denials.ensures)
+returns c = rw (c.wrapping_add_u64.ensures.value, c.weight.ensures, c.denials.ensures)

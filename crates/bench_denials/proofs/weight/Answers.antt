@@ -14,4 +14,4 @@ returns-in-Refused c = rw c.in-Refused.is refl
 
 pub returns-in-Counted : goal.returns-in-Counted
 unfolding weight_of
-returns-in-Counted c = rw (c.in-Counted.is, c.wrapping_add_u64.ensures) (two _ _)
+returns-in-Counted c = rw (c.in-Counted.is, c.wrapping_add_u64.ensures.value) (two _ _)

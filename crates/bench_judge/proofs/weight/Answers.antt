@@ -18,16 +18,16 @@ returns-in-Sound c = rw c.in-Sound.is refl
 
 pub returns-in-Differ : goal.returns-in-Differ
 unfolding weight_of
-returns-in-Differ c = rw (c.in-Differ.is, c.wrapping_add_u64.ensures, c.wrapping_add_u64-of_others.ensures, c.wrapping_add_u64-of_user.ensures) (three _ _ _ _)
+returns-in-Differ c = rw (c.in-Differ.is, c.wrapping_add_u64.ensures.value, c.wrapping_add_u64-of_others.ensures.value, c.wrapping_add_u64-of_user.ensures.value) (three _ _ _ _)
 
 pub returns-in-StrayRule : goal.returns-in-StrayRule
 unfolding weight_of
-returns-in-StrayRule c = rw (c.in-StrayRule.is, c.wrapping_add_u64-in-StrayRule.ensures) (one _ _)
+returns-in-StrayRule c = rw (c.in-StrayRule.is, c.wrapping_add_u64-in-StrayRule.ensures.value) (one _ _)
 
 pub returns-in-StrayPart : goal.returns-in-StrayPart
 unfolding weight_of
-returns-in-StrayPart c = rw (c.in-StrayPart.is, c.wrapping_add_u64-in-StrayPart.ensures) (one _ _)
+returns-in-StrayPart c = rw (c.in-StrayPart.is, c.wrapping_add_u64-in-StrayPart.ensures.value) (one _ _)
 
 pub returns-in-Refused : goal.returns-in-Refused
 unfolding weight_of
-returns-in-Refused c = rw (c.in-Refused.is, c.wrapping_add_u64-in-Refused.ensures) refl
+returns-in-Refused c = rw (c.in-Refused.is, c.wrapping_add_u64-in-Refused.ensures.value) refl

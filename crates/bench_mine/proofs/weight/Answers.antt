@@ -16,4 +16,4 @@ returns-in-Refused c = rw c.in-Refused.is refl
 pub returns-in-Written : goal.returns-in-Written
 unfolding weight_of
 returns-in-Written c =
-    rw (c.in-Written.is, c.wrapping_add_u64-in-Written.ensures, c.wrapping_add_u64.ensures, c.wrapping_add_u64-of_groups.ensures, c.wrapping_add_u64-of_file.ensures) (added _ _ _ _ _)
+    rw (c.in-Written.is, c.wrapping_add_u64-in-Written.ensures.value, c.wrapping_add_u64.ensures.value, c.wrapping_add_u64-of_groups.ensures.value, c.wrapping_add_u64-of_file.ensures.value) (added _ _ _ _ _)
