@@ -223,6 +223,20 @@ def words_for(processor, words, module, output):
     return [target(processor), *kept]
 
 
+def header_names():
+    """The functions of the header, in its order."""
+    return PROTOTYPE.findall(read(os.path.join(ROOT, "include", f"{LIBRARY}.h")))
+
+
+def same_functions(archive):
+    """The archive for this machine's kind of processor exports the header's functions and nothing else."""
+    words = ["nm", "--extern-only", "--defined-only", archive]
+    told = subprocess.run(words, stdout=subprocess.PIPE, text=True, check=True).stdout
+    exported = {line.split()[-1] for line in told.splitlines() if len(line.split()) == 3}
+    if exported != set(header_names()):
+        fail(f"functions of the archive or of the header alone: {sorted(exported ^ set(header_names()))}")
+
+
 def compile_module(processor, folder, archive, crates):
     """Writes the archive for a processor that rattle does not have."""
     tools = os.path.join(kit(), "toolchain", "bin")
@@ -232,7 +246,7 @@ def compile_module(processor, folder, archive, crates):
     as_text = ["-S", "-emit-llvm", "-Xclang", "-disable-llvm-passes", "-x", "ir", module, "-o", told]
     run([clang, target("aarch64"), *as_text])
     text = read(told)
-    named = PROTOTYPE.findall(read(os.path.join(ROOT, "include", f"{LIBRARY}.h")))
+    named = header_names()
     theirs = header_text(clang, processor, named, folder)
     ours, wanted = heads(text), heads(theirs)
     if set(ours) != set(named):
@@ -263,6 +277,8 @@ def build(processor, crates):
             compile_module(processor, folder, made, crates)
         else:
             compile_crate(processor, os.path.join(kit(), "toolchain"), made, crates)
+        if processor == "x86_64":
+            same_functions(made)
         shutil.move(made, archive)
     print(f"{os.path.relpath(archive, ROOT)} is the library for {processor}")
     print("proved: the source that it is compiled from. Not proved: the compiler")
