@@ -666,10 +666,11 @@ moved = renumber (λ u. cond (eqb u 3) 0 (suc u))
 abbrev pub swapped : List ℕ
 swapped = renumber (λ u. cond (eqb u 0) 1 0) either_pair
 
--- ---- the table
+-- ---- the table: its rows, by the file that is called `nobody`. ExamplesLaws hands them that file, so that a text misspelt in it is
+-- refused where the table is proved.
 
-abbrev pub table : List Row
-table =
+abbrev pub rows : List ℕ → List Row
+rows nobody =
     -- ---- A
     -- "parts 2 rules 1 merges 1 cost 2"; with request 9 "Example A then is 25 bytes long": output of 24 bytes 9, of 25 accepted
     row "A: 25 bytes, 2 parts, 1 rule, 1 merge, cost 2" (mining file_a 4096 25) (0 ∷ 25 ∷ 2 ∷ 1 ∷ 1 ∷ 2 ∷ [])
