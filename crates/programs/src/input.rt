@@ -1,5 +1,5 @@
 // Files, read into lent memory.
-ghost use Rattle.std.specs.Prelude.{◌≤◌, ◌≡◌, length, IfOk};
+ghost use Rattle.std.specs.Prelude.{◌≤◌, ◌≡◌, length, IfOk, IfErr};
 
 use crate::argument::{argument_count, complain_of, fail_long};
 use crate::name::text_of;
@@ -23,9 +23,10 @@ fn nothing() -> Input
     }
 }
 
-// Reads what is open until it ends or fills what is lent.
+// Reads what is open until it ends or fills what is lent. An error is that of the reader; what was read before it stands in what is lent.
 pub fn read_open<R: Read>(from: &mut R, into: &mut [u8]) -> Result<usize>
-    ensures { IfOk result (λ n. n ≤ length into.new) }
+    ensures ok { IfOk result (λ n. n ≤ length into.new) }
+    ensures err { IfErr result (λ e. length into.new ≡ length into.old) }
 {
     let mut at: usize = 0;
     while at < into.len() {
