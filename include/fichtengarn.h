@@ -10,10 +10,10 @@
  *
  * The first is for x86-64, the second for 64-bit Arm. Either needs memcpy, memmove and memset at most, and
  * nothing else of a system. Structs go by value as the C interface of the processor has it. (With the word
- * riscv64 the script builds for that processor, where calls need the stack that is said below of Arm.)
+ * riscv64 the script builds for that processor; the stacks below are not measured there.)
  *
  * What every call promises. Its answer, what it writes and that it ends are proved; the sizes of
- * the stack are measured, on both processors, and hold for both where Arm is not named.
+ * the stack are measured, on both processors, and hold for both.
  *
  *   - It ends, on every input: any bytes, any lengths, any numbers. No input is asked to be good.
  *   - It returns 0, or the number of a refusal; the call that shows one rule stores it in a lent
@@ -134,7 +134,7 @@ enum {
 };
 
 /*
- * May this role file be read? Returns 0 or 1 to 7. Stack: 48 KB.
+ * May this role file be read? Returns 0 or 1 to 7. Stack: 40 KB.
  */
 size_t fichtengarn_read_roles(const uint8_t *file, size_t file_length);
 
@@ -152,7 +152,7 @@ size_t fichtengarn_read_rules(const uint8_t *file, size_t file_length,
  * The role question: do the roles grant the user the operation on the resource?
  *
  * Returns 0, and *answer is 1 for yes or 0 for no; or 1 to 7; then 5 if a number is beyond the
- * sizes of the role file. Writes *answer and nothing else. Stack: 60 KB.
+ * sizes of the role file. Writes *answer and nothing else. Stack: 52 KB.
  */
 size_t fichtengarn_ask_roles(const uint8_t *file, size_t file_length,
                              size_t user, size_t resource, size_t operation,
@@ -216,7 +216,7 @@ fichtengarn_part fichtengarn_show(const uint8_t *file, size_t file_length,
  * the last the junior of the first. The list starts with its lowest role; no circle of the file has
  * fewer roles; and of those as short it is the first by its bytes. Or returns 1 to 6; then 9 if the
  * memory is shorter than the list. Memory of FICHTENGARN_MOST_ROLES bytes is always enough. Writes the
- * list and *count, and nothing else. Stack: 48 KB.
+ * list and *count, and nothing else. Stack: 42 KB.
  */
 size_t fichtengarn_circle(const uint8_t *file, size_t file_length,
                           uint8_t *roles, size_t roles_length,
@@ -314,7 +314,7 @@ enum {
  *
  * Scratch of FICHTENGARN_SCRATCH_WORDS is enough for every file; more changes no byte and no count. A
  * role file whose users have other numbers, no two the same, has the same bytes and counts with the same
- * cuts and weights. Scratch may hold anything before, and holds anything after. Stack: 116 KB.
+ * cuts and weights. Scratch may hold anything before, and holds anything after. Stack: 110 KB.
  */
 size_t fichtengarn_mine(const uint8_t *file, size_t file_length,
                         const uint8_t *cuts, size_t cut_count,
@@ -381,7 +381,7 @@ size_t fichtengarn_fill(fichtengarn_record record, uint64_t *table, size_t table
  *
  * The code is 0; or 17 or 5 as above; then 5 if there is no such role or user; after a refusal the
  * record is the one passed. Where an assignment changes, the 16 words of the user are worked out
- * afresh, whatever they held, and no others are written; else none is. Stack: 84 KB, on Arm 96 KB,
+ * afresh, whatever they held, and no others are written; else none is. Stack: 40 KB,
  * the records passed and handed back among them.
  */
 fichtengarn_recorded fichtengarn_assign(fichtengarn_record record, uint64_t *table, size_t table_words,

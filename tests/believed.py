@@ -61,8 +61,10 @@ ORIGINS = {
 CORE = {name: module for module, names in ORIGINS.items() for name in names.split()}
 
 # Symbols that another module has as well. The Prelude passes those of lists on as they are. `map` of an Option has the name that
-# `map` of a list has; which one is meant is told by what it is given, and no file can bring both.
-ALSO = {("mathlib.Core.List", name) for name in "List [] ◌∷◌ ◌++◌ map".split()} | {("Rattle.std.proofs.Math.Option", "map")}
+# `map` of a list has; which one is meant is told by what it is given, and no file can bring both. The Option of the code's results has
+# the name of that of the definitions; its cases, Some and None, tell it from the other's, and no file can bring both.
+ALSO = {("mathlib.Core.List", name) for name in "List [] ◌∷◌ ◌++◌ map".split()}
+ALSO |= {("Rattle.std.proofs.Math.Option", "map"), ("Rattle.std.specs.Prelude", "Option")}
 
 # In scope without an import: everywhere, and in contracts.
 PRELUDE = "⊥ absurd ¬◌ Unit tt Dec yes no IsProp IsSet Discrete Id J Path ∥◌∥₁ ∣◌∣₁ ◌×◌ ◌→◌".split()
@@ -153,16 +155,38 @@ class Source:
         self._scope = None
         self.types = {piece.name: self.type(piece) for piece in self.file.types}
         self.contracts = [self.contract(function) for function in self.file.functions]
+        self.members = [self.member(piece) for piece in self.file.members]
 
     def scope(self):
         if self._scope is None:
-            self._scope = self.tree.scope(self, PRELUDE + LENT)
+            self._scope = self.tree.scope(self, PRELUDE + LENT + ["Self"])
         return self._scope
 
     def type(self, piece):
         entry = Entry(self.path, piece.name, piece.kind, piece.line, piece.rows)
-        entry.read = lambda: self.types_in(piece)
+        entry.read = lambda: self.trait(piece) if piece.kind == "trait" else self.types_in(piece)
         return entry
+
+    def trait(self, piece):
+        """What a trait promises rests on its ghost members, and on those of its impls, which stand in its file."""
+        citations = self.types_in(piece)
+        for member in self.members:
+            citations.cited.update(member.citations().cited)
+        return citations
+
+    def member(self, piece):
+        entry = Entry(self.path, piece.name, "contract", piece.line, ())
+        entry.read = lambda: self.member_cited(piece)
+        return entry
+
+    def member_cited(self, piece):
+        citations = antt.Citations(self.scope(), self.tree.by_path)
+        names = citations.bind(self.file.generics(0, 0), frozenset())
+        try:
+            citations.part(antt.nodes_of(piece.rows), names)
+        except antt.NotRead as what:
+            self.tree.fault(self.path, piece.line, "the ghost member %s is not read: %s" % (piece.name, what))
+        return citations
 
     def contract(self, function):
         entry = Entry(self.path, function.name, "contract", function.line, ())
@@ -234,8 +258,9 @@ class Tree:
         return [contract for source in self.sources.values() for contract in source.contracts]
 
     def believable(self):
-        """All contracts, and all definitions that stand where a reader looks for them."""
-        return self.contracts() + [entry for spec in self.definitions_files() for entry in spec.definitions()]
+        """All contracts, ghost members, and all definitions that stand where a reader looks for them."""
+        members = [member for source in self.sources.values() for member in source.members]
+        return self.contracts() + members + [entry for spec in self.definitions_files() for entry in spec.definitions()]
 
     def type(self, crate, name):
         """The struct, enum, alias or constant of the code of a crate."""
@@ -400,9 +425,9 @@ def check_read(tree):
 
 
 def library_names(tree):
-    """Names with a meaning in the library: in scope without an import, the core, and all that the project imports."""
+    """Names with a meaning in the library: in scope without an import, the core, and all that definitions and contracts import."""
     names = set(PRELUDE) | set(LENT) | set(CORE)
-    for file in list(tree.specs.values()) + list(tree.sources.values()):
+    for file in tree.definitions_files() + list(tree.sources.values()):
         names |= {brought.original for brought, target in tree.imports(file) if isinstance(target, Library)}
     return names
 

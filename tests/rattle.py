@@ -6,7 +6,9 @@ import antt
 FUNCTION = re.compile(r'(?m)^[ \t]*(pub(?:\([^)]*\))?\s+)?(extern\s+"C"\s+)?fn\s+(\w+)')
 RESULT = re.compile(r"\s*->(?:[^\[{;]|\[[^\]]*\])*?(?=\s*(?:\brequires\b|\bensures\b|\bghost\b|\{|;))")
 CLAUSE = re.compile(r"\s*(?:requires|ensures|ghost)\b\*?\s*\w*:?\s*(?=\{)")
-TYPE = re.compile(r"(?m)^[ \t]*(?:pub\s+)?(struct|enum|type|const)\s+(?!fn\b)(\w+)")
+TYPE = re.compile(r"(?m)^[ \t]*(?:pub\s+)?(struct|enum|type|const|trait)\s+(?!fn\b)(\w+)")
+MEMBER = re.compile(r"(?m)^[ \t]*ghost\s+(\w+)\s*[:=]\s*(?=\{)")
+GENERIC = re.compile(r"(?:const\s+)?(\b[A-Z]\w*)\s*(?=[:,>])")
 USE = re.compile(r"(?m)^[ \t]*(?:pub\s+)?use\s+(\w+)::([^;]*);")
 USED = re.compile(r"(\w+)(\s+as\s+\w+)?\s*(?=[,}]|$)")
 GHOST_USE = re.compile(r"\bghost\s+use\s+([^;]*);")
@@ -32,6 +34,19 @@ def closing(text, start):
         if depth == 0:
             return i + 1
     return len(text)
+
+
+def generics_end(text, start):
+    """The offset behind the parameters in angle brackets that stand at start, if any do."""
+    depth = 0
+    for i in range(start, len(text)):
+        if text[i] == "<":
+            depth += 1
+        elif text[i] == ">" and text[i - 1] != "-":
+            depth -= 1
+        if depth == 0:
+            return i + 1 if text[i] == ">" else start
+    return start
 
 
 def declaration_end(text, start):
@@ -87,6 +102,7 @@ class File:
         self.used = dict(used for match in USE.finditer(self.text) for used in self.names_used(match))
         self.imports = [brought for match in GHOST_USE.finditer(self.text) for brought in self.ghost_use(match)]
         self.types = [self.type(match) for match in TYPE.finditer(self.text)]
+        self.members = [self.member(match) for match in MEMBER.finditer(self.text)]
         self.functions = [self.function(match) for match in FUNCTION.finditer(self.text)]
         self.other_clauses()
 
@@ -114,13 +130,27 @@ class File:
         end = declaration_end(self.text, match.end())
         return Piece(match.group(1), match.group(2), self.line(match.start(2)), self.rows(match.start(), end))
 
+    def member(self, match):
+        """A ghost member of a trait or an impl: its name, and the rows of its term."""
+        end = closing(self.text, match.end())
+        self.read.append((match.start(), end))
+        return Piece("contract", match.group(1), self.line(match.start(1)), self.rows(match.end() + 1, end - 1))
+
     def function(self, match):
-        opening = self.text.index("(", match.end())
+        start = match.end()
+        opening = generics_end(self.text, start)
+        generics = self.generics(start, opening)
         end = closing(self.text, opening)
-        parameters = self.parameters(opening, end)
+        parameters = generics + self.parameters(opening, end)
         result = RESULT.match(self.text, end)
         end = result.end() if result else end
-        return Function(match, self.line(match.start(3)), self.rows(opening, end), parameters, self.clauses(end))
+        return Function(match, self.line(match.start(3)), self.rows(start, end), parameters, self.clauses(end))
+
+    def generics(self, start, end):
+        """The parameters in angle brackets, and the ghost members that a trait's own clauses name, as tokens."""
+        found = [(match.group(1), match.start()) for match in GENERIC.finditer(self.text, start, end)]
+        found += [(member.name, start) for member in self.members]
+        return [antt.Token(name, self.line(place), 0, 0) for name, place in found]
 
     def parameters(self, start, end):
         """The names in front of colons, and `self`, as tokens."""

@@ -381,8 +381,8 @@ class MadeUp(unittest.TestCase):
         self.faults((CODE, "|x| requires", "is not read: a statement outside the contracts"))
 
     def test_ghost_member(self):
-        self.put(CODE, "pub struct Told {", "pub struct Told {\n    ghost twice: { ℕ },")
-        self.faults((CODE, "ghost twice", "is not read: a statement outside the contracts"))
+        self.put(CODE, "pub struct Told {", "pub struct Told {\n    ghost twice: { nought },")
+        self.faults((CODE, "ghost twice", "the contract of twice names nought, which is not found"))
 
     def test_all_clauses_are_read(self):
         self.put(CODE, "{ result ≡ length s.now }", "long { result ≡ length s.now }\n    ensures* { nought }")

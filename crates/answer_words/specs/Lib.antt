@@ -1,2 +1,1 @@
 pub mod AnswerWords
-pub mod AnswerWordLaws

@@ -5,15 +5,8 @@
 
 ghost use Rattle.std.specs.Prelude.{◌≤◌};
 
-use digits::Number;
-use role_question::Reply;
+use files::Refusal;
 use std::io;
-
-#[derive(Clone, Copy)]
-enum Asked {
-    About(usize, usize, usize),
-    Wrong,
-}
 
 fn usage(rt: &HostRuntime) {
     programs::complain(
@@ -22,38 +15,19 @@ fn usage(rt: &HostRuntime) {
     );
 }
 
-// The three numbers that are asked about, from argument i on.
-fn question(rt: &HostRuntime, i: usize) -> Asked
+// The number that argument i gives.
+fn number(rt: &HostRuntime, i: usize, wrong: &[u8]) -> Option<usize> {
+    programs::number_named(rt, b"ask", i, digits::MANY, wrong)
+}
+
+// The user, resource and operation that are asked about, from argument i on.
+fn question(rt: &HostRuntime, i: usize) -> Option<(usize, usize, usize)>
     requires { i ≤ 3 }
 {
-    let Number::Given(user) = programs::number_named(
-        rt,
-        b"ask",
-        i,
-        digits::MANY,
-        b"USER is no number of up to 4,096 digits\n",
-    ) else {
-        return Asked::Wrong;
-    };
-    let Number::Given(resource) = programs::number_named(
-        rt,
-        b"ask",
-        i + 1,
-        digits::MANY,
-        b"RESOURCE is no number of up to 4,096 digits\n",
-    ) else {
-        return Asked::Wrong;
-    };
-    let Number::Given(operation) = programs::number_named(
-        rt,
-        b"ask",
-        i + 2,
-        digits::MANY,
-        b"OPERATION is no number of up to 4,096 digits\n",
-    ) else {
-        return Asked::Wrong;
-    };
-    Asked::About(user, resource, operation)
+    let user = number(rt, i, b"USER is no number of up to 4,096 digits\n")?;
+    let resource = number(rt, i + 1, b"RESOURCE is no number of up to 4,096 digits\n")?;
+    let operation = number(rt, i + 2, b"OPERATION is no number of up to 4,096 digits\n")?;
+    Some((user, resource, operation))
 }
 
 // Prints whether it is granted, by the rules or by the roles.
@@ -65,11 +39,9 @@ fn say_granted(
     resource: usize,
     operation: usize,
 ) -> io::Result<()> {
-    let mut words = [0u8; 160];
-    let length = answer_words::reply_words(by_rules, granted, &mut words);
     programs::say_count(rt, b"answer ", granted as usize)?;
     programs::say(rt, b": ")?;
-    programs::say(rt, &words[..length])?;
+    programs::say(rt, answer_words::reply_words(by_rules, granted))?;
     programs::say_triple(rt, user, resource, operation)
 }
 
@@ -77,75 +49,58 @@ fn say_granted(
 fn answer(
     rt: &HostRuntime,
     by_rules: bool,
-    reply: Reply,
+    reply: Result<bool, Refusal>,
     user: usize,
     resource: usize,
     operation: usize,
 ) {
     match reply {
-        Reply::Yes => {
-            let said = say_granted(rt, by_rules, true, user, resource, operation);
+        Ok(granted) => {
+            let said = say_granted(rt, by_rules, granted, user, resource, operation);
             programs::end_line(rt, b"ask", said);
         }
-        Reply::No => {
-            let said = say_granted(rt, by_rules, false, user, resource, operation);
-            programs::end_line(rt, b"ask", said);
-        }
-        Reply::Refused(n) => {
-            programs::refuse(rt, b"ask", n);
-        }
+        Err(refusal) => programs::refuse(rt, b"ask", refusal),
     }
 }
 
 // The rule question about a role file that was read.
 fn ask_rules(rt: &HostRuntime, file: &[u8], user: usize, resource: usize, operation: usize) {
-    let mut lines = programs::rules_buffer();
-    let rules = programs::read_rules(rt, b"ask", 2, file, &mut lines);
-    if rules.failed {
+    let mut rules = programs::rules_buffer();
+    let Some(n) = programs::read_rules(rt, b"ask", 2, file, &mut rules) else {
         return;
-    }
-    let n = rules.length;
-    let reply = rule_question::ask(file, &lines[0..n], user, resource, operation);
+    };
+    let reply = rule_question::ask(file, &rules[..n], user, resource, operation);
     answer(rt, true, reply, user, resource, operation);
 }
 
 // Reads the role file, and asks the roles or the rules.
 fn ask_files(rt: &HostRuntime, by_rules: bool, user: usize, resource: usize, operation: usize) {
     let mut file = programs::roles_buffer();
-    let roles = programs::read_named(rt, b"ask", 1, &mut file);
-    if roles.failed {
+    let Some(n) = programs::read_named(rt, b"ask", 1, &mut file) else {
         return;
-    }
-    let n = roles.length;
+    };
     if by_rules {
-        ask_rules(rt, &file[0..n], user, resource, operation);
+        ask_rules(rt, &file[..n], user, resource, operation);
         return;
     }
-    let reply = role_question::ask(&file[0..n], user, resource, operation);
+    let reply = role_question::ask(&file[..n], user, resource, operation);
     answer(rt, false, reply, user, resource, operation);
 }
 
 // Asks, if it was numbers that were asked about.
-fn ask_about(rt: &HostRuntime, by_rules: bool, asked: Asked) {
+fn ask_about(rt: &HostRuntime, by_rules: bool, asked: Option<(usize, usize, usize)>) {
     match asked {
-        Asked::About(user, resource, operation) => {
+        Some((user, resource, operation)) => {
             ask_files(rt, by_rules, user, resource, operation);
         }
-        Asked::Wrong => {
-            usage(rt);
-        }
+        None => usage(rt),
     }
 }
 
 fn main(rt: HostRuntime) {
-    let count = programs::argument_count(&rt);
-    if count == 5 {
-        ask_about(&rt, false, question(&rt, 2));
-        return;
+    match programs::argument_count(&rt) {
+        5 => ask_about(&rt, false, question(&rt, 2)),
+        6 => ask_about(&rt, true, question(&rt, 3)),
+        _ => usage(&rt),
     }
-    if count == 6 {
-        ask_about(&rt, true, question(&rt, 3));
-        return;
-    }
-    usage(&rt);
 }

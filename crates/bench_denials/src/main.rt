@@ -6,23 +6,23 @@
 
 ghost use Rattle.std.specs.Prelude.{◌≡◌, ◌<◌, length};
 ghost use Rattle.files.specs.Answer.{told};
+ghost use Rattle.files.specs.Cause.{answer_of};
 ghost use Rattle.files.specs.Denials.{denial_answer};
 ghost use Rattle.files.specs.Windows.{worst_values};
-ghost use Rattle.log_windows.specs.Counting.{denial_numbers};
+ghost use Rattle.log_windows.specs.Counting.{worst_numbers};
 ghost use Rattle.bench_denials.specs.DenialChecksum.{weight_of, sample_of, total};
 
-use log_windows::Denials;
+use files::Refusal;
+use log_windows::Worst;
 use std::io;
 
 // What the numbers of the answer come to.
-fn weight(denials: Denials) -> u64
-    ensures { result ≡ weight_of (denial_numbers denials) }
+fn weight(counted: Result<Worst, Refusal>) -> u64
+    ensures { result ≡ weight_of (told worst_numbers (answer_of counted)) }
 {
-    match denials {
-        Denials::Refused(n) => n as u64,
-        Denials::Counted { most, start } => {
-            std::num::wrapping_add_u64(most as u64, start as u64)
-        }
+    match counted {
+        Ok(worst) => (worst.most as u64).wrapping_add(worst.start as u64),
+        Err(refusal) => refusal.number() as u64,
     }
 }
 
@@ -34,10 +34,7 @@ fn sample(file: &[u8], rules: &[u8], log: &[u8], window: usize, turn: usize) -> 
         (denial_answer 2 file.now rules.now log.now window))
         turn }
 {
-    std::num::wrapping_add_u64(
-        weight(log_denials::denials(file, rules, log, window)),
-        turn as u64,
-    )
+    weight(log_denials::denials(file, rules, log, window)).wrapping_add(turn as u64)
 }
 
 fn checksum(file: &[u8], rules: &[u8], log: &[u8], window: usize, turns: usize) -> u64
@@ -50,7 +47,7 @@ fn checksum(file: &[u8], rules: &[u8], log: &[u8], window: usize, turns: usize) 
 {
     let mut sum: u64 = 0;
     for turn in 0..turns {
-        sum = std::num::wrapping_add_u64(sum, sample(file, rules, log, window, turn));
+        sum = sum.wrapping_add(sample(file, rules, log, window, turn));
     }
     sum
 }

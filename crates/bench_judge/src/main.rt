@@ -4,28 +4,39 @@
 #![tactic(auto)]
 
 ghost use Rattle.std.specs.Prelude.{◌≡◌};
-ghost use Rattle.files.specs.Answer.{told};
+ghost use Rattle.files.specs.Answer.{told, accepted};
 ghost use Rattle.files.specs.Calls.{judge, verdict_told};
-ghost use Rattle.rule_judge.specs.Judgement.{judgement_numbers};
+ghost use Rattle.files.specs.Cause.{answer_of};
+ghost use Rattle.rule_judge.specs.Judgement.{verdict_numbers};
 ghost use Rattle.bench_judge.specs.JudgeChecksum.{weight_of, sample_of, total};
 
-use rule_judge::Judgement;
+use files::Refusal;
+use rule_judge::Verdict;
 use std::io;
 
 // The verdict's number and values, added up.
-fn weight(judgement: Judgement) -> u64
-    ensures { result ≡ weight_of (judgement_numbers judgement) }
+fn verdict_weight(verdict: Verdict) -> u64
+    ensures { result ≡ weight_of (told verdict_numbers (accepted verdict)) }
 {
-    match judgement {
-        Judgement::Sound => 0,
-        Judgement::Differ(user, resource, operation) => {
-            let of_user = std::num::wrapping_add_u64(1, user as u64);
-            let of_others = std::num::wrapping_add_u64(resource as u64, operation as u64);
-            std::num::wrapping_add_u64(of_user, of_others)
+    match verdict {
+        Verdict::Sound => 0,
+        Verdict::Differ(user, resource, operation) => {
+            let of_user = 1u64.wrapping_add(user as u64);
+            let of_others = (resource as u64).wrapping_add(operation as u64);
+            of_user.wrapping_add(of_others)
         }
-        Judgement::StrayRule(n) => std::num::wrapping_add_u64(2, n as u64),
-        Judgement::StrayPart(n) => std::num::wrapping_add_u64(3, n as u64),
-        Judgement::Refused(n) => std::num::wrapping_add_u64(4, n as u64),
+        Verdict::StrayRule(rule) => 2u64.wrapping_add(rule as u64),
+        Verdict::StrayPart(part) => 3u64.wrapping_add(part as u64),
+    }
+}
+
+// The weight of the verdict, or a refusal's number behind those of the verdicts.
+fn weight(judged: Result<Verdict, Refusal>) -> u64
+    ensures { result ≡ weight_of (told verdict_numbers (answer_of judged)) }
+{
+    match judged {
+        Ok(verdict) => verdict_weight(verdict),
+        Err(refusal) => 4u64.wrapping_add(refusal.number() as u64),
     }
 }
 
@@ -33,7 +44,7 @@ fn weight(judgement: Judgement) -> u64
 fn sample(file: &[u8], rules: &[u8], turn: usize) -> u64
     ensures { result ≡ sample_of (told verdict_told (judge 2 file.now rules.now)) turn }
 {
-    std::num::wrapping_add_u64(weight(rule_judge::judge(file, rules)), turn as u64)
+    weight(rule_judge::judge(file, rules)).wrapping_add(turn as u64)
 }
 
 fn checksum(file: &[u8], rules: &[u8], turns: usize) -> u64
@@ -41,7 +52,7 @@ fn checksum(file: &[u8], rules: &[u8], turns: usize) -> u64
 {
     let mut sum: u64 = 0;
     for turn in 0..turns {
-        sum = std::num::wrapping_add_u64(sum, sample(file, rules, turn));
+        sum = sum.wrapping_add(sample(file, rules, turn));
     }
     sum
 }

@@ -7,30 +7,26 @@
 ghost use Rattle.std.specs.Prelude.{◌≡◌, suc, length};
 ghost use Rattle.files.specs.Answer.{told};
 ghost use Rattle.files.specs.Calls.{count_values, mine_answer, mine_output};
+ghost use Rattle.files.specs.Cause.{answer_of};
 ghost use Rattle.policy.specs.Cost.{four_ones};
 ghost use Rattle.write_answer.specs.MinedNumbers.{mined_numbers};
 ghost use Rattle.bench_mine.specs.MineChecksum.{weight_of, sample_of, memory_after, total};
 
+use files::Refusal;
 use std::io;
 use write_answer::Mined;
 
 // The length, the counts and the cost added up, or the number of the refusal.
-fn weight(mined: Mined) -> u64
-    ensures { result ≡ weight_of (mined_numbers mined) }
+fn weight(answer: Result<Mined, Refusal>) -> u64
+    ensures { result ≡ weight_of (told mined_numbers (answer_of answer)) }
 {
-    match mined {
-        Mined::Refused(n) => n as u64,
-        Mined::Written {
-            length,
-            parts,
-            rules,
-            merges,
-            cost,
-        } => {
-            let of_file = std::num::wrapping_add_u64(length as u64, cost);
-            let of_groups = std::num::wrapping_add_u64(rules as u64, merges as u64);
-            std::num::wrapping_add_u64(of_file, std::num::wrapping_add_u64(parts as u64, of_groups))
+    match answer {
+        Ok(mined) => {
+            let of_file = (mined.length as u64).wrapping_add(mined.cost);
+            let of_groups = (mined.rules as u64).wrapping_add(mined.merges as u64);
+            of_file.wrapping_add((mined.parts as u64).wrapping_add(of_groups))
         }
+        Err(refusal) => refusal.number() as u64,
     }
 }
 
@@ -46,9 +42,9 @@ fn sample(file: &[u8], cuts: &[u8], scratch: &mut [u64], out: &mut [u8], turn: u
         ≡ mine_output 2 file.now cuts.now (length scratch.old)
         out.old) }
 {
-    let mined = mining::mine(file, cuts, mining::ones(), scratch, out);
-    let said = std::num::wrapping_add_u64(weight(mined), turn as u64);
-    std::num::wrapping_add_u64(said, file_bytes::byte_at(out, turn) as u64)
+    let answer = mining::mine(file, cuts, mining::ones(), scratch, out);
+    let said = weight(answer).wrapping_add(turn as u64);
+    said.wrapping_add(file_bytes::byte_at(out, turn) as u64)
 }
 
 fn checksum(file: &[u8], cuts: &[u8], scratch: &mut [u64], out: &mut [u8], turns: usize) -> u64
@@ -65,7 +61,7 @@ fn checksum(file: &[u8], cuts: &[u8], scratch: &mut [u64], out: &mut [u8], turns
 {
     let mut sum: u64 = 0;
     for turn in 0..turns {
-        sum = std::num::wrapping_add_u64(sum, sample(file, cuts, scratch, out, turn));
+        sum = sum.wrapping_add(sample(file, cuts, scratch, out, turn));
     }
     sum
 }

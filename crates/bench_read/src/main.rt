@@ -4,39 +4,43 @@
 #![tactic(auto)]
 
 ghost use Rattle.std.specs.Prelude.{◌≡◌};
+ghost use Rattle.files.specs.Answer.{map_answer};
 ghost use Rattle.files.specs.RoleFile.{read_roles};
-ghost use Rattle.role_file.specs.Reading.{loaded_of};
-ghost use Rattle.bench_read.specs.ReadChecksum.{sample_of, total};
+ghost use Rattle.role_record.specs.Record.{record_of};
+ghost use Rattle.bench_read.specs.ReadChecksum.{sample_of, total, weight_of};
 
 use role_record::RoleFile;
 use std::io;
 
 const VALUES: usize = RoleFile::SIDES * RoleFile::ATTRIBUTES * RoleFile::MEMBERS;
 
-// Reads once, and adds up some words of the record, other words each turn.
-fn sample(s: &[u8], turn: usize) -> u64
-    ensures { result ≡ sample_of (loaded_of (read_roles 2 s.now)) turn }
+// Some words of the record, added up; other words each turn.
+fn weight(f: &RoleFile, turn: usize) -> u64
+    ensures { result ≡ weight_of f.now turn }
 {
-    let l = role_file::read(s);
-    let f = l.file;
-    let given = std::num::wrapping_add_u64(
-        f.values[turn % VALUES],
-        f.permissions[turn % RoleFile::PARTS],
-    );
-    let worked_out = std::num::wrapping_add_u64(
-        f.seniors[turn % RoleFile::ROLES],
+    let given = f.values[turn % VALUES].wrapping_add(f.permissions[turn % RoleFile::PARTS]);
+    let worked_out = f.seniors[turn % RoleFile::ROLES].wrapping_add(
         f.holders[turn % RoleFile::ROLES],
     );
-    let words = std::num::wrapping_add_u64(given, worked_out);
-    std::num::wrapping_add_u64(words, l.code as u64)
+    given.wrapping_add(worked_out)
+}
+
+// Reads once, and weighs the record, or answers the number of the refusal.
+fn sample(s: &[u8], turn: usize) -> u64
+    ensures { result ≡ sample_of (map_answer record_of (read_roles 2 s.now)) turn }
+{
+    match role_file::read(s) {
+        Ok(f) => weight(&f, turn),
+        Err(refusal) => refusal.number() as u64,
+    }
 }
 
 fn checksum(s: &[u8], turns: usize) -> u64
-    ensures { result ≡ total (sample_of (loaded_of (read_roles 2 s.now))) turns }
+    ensures { result ≡ total (sample_of (map_answer record_of (read_roles 2 s.now))) turns }
 {
     let mut sum: u64 = 0;
     for turn in 0..turns {
-        sum = std::num::wrapping_add_u64(sum, sample(s, turn));
+        sum = sum.wrapping_add(sample(s, turn));
     }
     sum
 }

@@ -4,26 +4,25 @@
 // follows. The plain Rust program of bench/rights does the same, and the two are measured against each other.
 #![tactic(auto)]
 
-use right_edits::Edited;
 use role_record::{Grid, RoleFile};
 use std::io;
 
 const WORDS: usize = right_answers::WORDS;
 
 fn add(sum: u64, table: &Grid, i: usize) -> u64 {
-    std::num::wrapping_add_u64(sum, table[i % WORDS])
+    sum.wrapping_add(table[i % WORDS])
 }
 
-// Of a table whose length is in its type, so that loops have nothing to say of it.
-fn fill(f: RoleFile, table: &mut Grid) {
-    right_edits::fill(f, table);
+// Of a table whose length is in its type, so that loops have nothing to say of it. One that is refused stays as it is.
+fn fill(f: &RoleFile, table: &mut Grid) {
+    let _ = right_edits::fill(f, table);
 }
 
-fn edit(f: RoleFile, table: &mut Grid, gives: bool, role: usize, user: usize) -> Edited {
-    right_edits::edit(f, table, gives, role, user)
+fn edit(f: &mut RoleFile, table: &mut Grid, gives: bool, role: usize, user: usize) {
+    let _ = right_edits::edit(f, table, gives, role, user);
 }
 
-fn fill_often(f: RoleFile, turns: usize) -> u64 {
+fn fill_often(f: &RoleFile, turns: usize) -> u64 {
     let mut table = [0u64; WORDS];
     let mut sum: u64 = 0;
     for turn in 0..turns {
@@ -34,17 +33,15 @@ fn fill_often(f: RoleFile, turns: usize) -> u64 {
 }
 
 // Every edit changes an assignment, or none does.
-fn edit_often(loaded: RoleFile, changing: bool, turns: usize) -> u64 {
+fn edit_often(f: &mut RoleFile, changing: bool, turns: usize) -> u64 {
     let mut table = [0u64; WORDS];
-    fill(loaded, &mut table);
-    let mut f = loaded;
+    fill(f, &mut table);
     let mut sum: u64 = 0;
     for turn in 0..turns {
         let role = turn % RoleFile::ROLES;
         let user = turn % RoleFile::USERS;
         let there = sets::has(f.assigned[role], user);
-        let edited = edit(f, &mut table, there != changing, role, user);
-        f = edited.file;
+        edit(f, &mut table, there != changing, role, user);
         sum = add(
             sum,
             &table,
@@ -54,7 +51,7 @@ fn edit_often(loaded: RoleFile, changing: bool, turns: usize) -> u64 {
     sum
 }
 
-fn look_often(f: RoleFile, turns: usize) -> u64 {
+fn look_often(f: &RoleFile, turns: usize) -> u64 {
     let mut table = [0u64; WORDS];
     fill(f, &mut table);
     let mut sum: u64 = 0;
@@ -64,19 +61,15 @@ fn look_often(f: RoleFile, turns: usize) -> u64 {
     sum
 }
 
+// Of a file that is refused the record is empty.
 fn checksum(what: usize, file: &[u8], turns: usize) -> u64 {
-    let l = role_file::read(file);
-    let f = l.file;
-    if what == 0 {
-        return fill_often(f, turns);
+    let mut f = role_file::read(file).unwrap_or(RoleFile::empty());
+    match what {
+        0 => fill_often(&f, turns),
+        1 => edit_often(&mut f, true, turns),
+        2 => edit_often(&mut f, false, turns),
+        _ => look_often(&f, turns),
     }
-    if what == 1 {
-        return edit_often(f, true, turns);
-    }
-    if what == 2 {
-        return edit_often(f, false, turns);
-    }
-    look_often(f, turns)
 }
 
 fn main(rt: HostRuntime) -> io::Result<()> {

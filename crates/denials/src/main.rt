@@ -5,8 +5,7 @@
 
 ghost use Rattle.std.specs.Prelude.{length, ◌≡◌};
 
-use digits::Number;
-use log_windows::Denials;
+use log_windows::Worst;
 use programs::say_count;
 use std::io;
 
@@ -25,20 +24,16 @@ fn log_buffer() -> [u8; 3145728]
 }
 
 // Prints how many records are denied at most, and where.
-fn say_counted(rt: &impl Print, most: usize, start: usize) -> io::Result<()> {
-    say_count(rt, b"most ", most)?;
-    say_count(rt, b" start ", start)
+fn say_worst(rt: &impl Print, worst: Worst) -> io::Result<()> {
+    say_count(rt, b"most ", worst.most)?;
+    say_count(rt, b" start ", worst.start)
 }
 
-// Prints the answer.
-fn answer(rt: &HostRuntime, denials: Denials) {
-    match denials {
-        Denials::Refused(n) => {
-            programs::refuse(rt, b"denials", n);
-        }
-        Denials::Counted { most, start } => {
-            programs::end_line(rt, b"denials", say_counted(rt, most, start));
-        }
+// Counts, and prints the answer.
+fn answer(rt: &HostRuntime, file: &[u8], rules: &[u8], log: &[u8], window: usize) {
+    match log_denials::denials(file, rules, log, window) {
+        Ok(worst) => programs::end_line(rt, b"denials", say_worst(rt, worst)),
+        Err(refusal) => programs::refuse(rt, b"denials", refusal),
     }
 }
 
@@ -46,50 +41,40 @@ fn answer(rt: &HostRuntime, denials: Denials) {
 // whatever stands in it.
 fn refuse_long(rt: &HostRuntime, file: &[u8], rules: &[u8], window: usize) {
     match log_denials::denials(file, rules, b"", window) {
-        Denials::Refused(n) => {
-            programs::refuse(rt, b"denials", n);
-        }
-        Denials::Counted { most: _, start: _ } => {
-            programs::complain_of(
-                rt,
-                b"denials",
-                3,
-                b"the log is longer than this program can hold, 3,145,727 bytes\n",
-            );
-        }
+        Ok(_) => programs::complain_of(
+            rt,
+            b"denials",
+            3,
+            b"the log is longer than this program can hold, 3,145,727 bytes\n",
+        ),
+        Err(refusal) => programs::refuse(rt, b"denials", refusal),
     }
 }
 
 // Reads the log, and counts.
 fn count(rt: &HostRuntime, file: &[u8], rules: &[u8], window: usize) {
     let mut log = log_buffer();
-    let read = programs::read_named(rt, b"denials", 3, &mut log);
-    if read.failed {
+    let Some(n) = programs::read_named(rt, b"denials", 3, &mut log) else {
         return;
-    }
-    let n = read.length;
+    };
     if n == log.len() {
         refuse_long(rt, file, rules, window);
         return;
     }
-    answer(rt, log_denials::denials(file, rules, &log[0..n], window));
+    answer(rt, file, rules, &log[..n], window);
 }
 
 // Reads the role file and the rule file.
 fn count_files(rt: &HostRuntime, window: usize) {
     let mut file = programs::roles_buffer();
-    let roles = programs::read_named(rt, b"denials", 1, &mut file);
-    if roles.failed {
+    let Some(k) = programs::read_named(rt, b"denials", 1, &mut file) else {
         return;
-    }
-    let k = roles.length;
-    let mut lines = programs::rules_buffer();
-    let rules = programs::read_rules(rt, b"denials", 2, &file[0..k], &mut lines);
-    if rules.failed {
+    };
+    let mut rules = programs::rules_buffer();
+    let Some(m) = programs::read_rules(rt, b"denials", 2, &file[..k], &mut rules) else {
         return;
-    }
-    let m = rules.length;
-    count(rt, &file[0..k], &lines[0..m], window);
+    };
+    count(rt, &file[..k], &rules[..m], window);
 }
 
 fn main(rt: HostRuntime) {
@@ -97,15 +82,14 @@ fn main(rt: HostRuntime) {
         usage(&rt);
         return;
     }
-    let Number::Given(window) = programs::number_named(
+    match programs::number_named(
         &rt,
         b"denials",
         4,
         digits::MANY,
         b"WINDOW is no number of up to 4,096 digits\n",
-    ) else {
-        usage(&rt);
-        return;
-    };
-    count_files(&rt, window);
+    ) {
+        Some(window) => count_files(&rt, window),
+        None => usage(&rt),
+    }
 }

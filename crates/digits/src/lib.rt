@@ -4,12 +4,6 @@
 ghost use Rattle.std.specs.Prelude.{◌≡◌, ◌+◌, ◌-◌, ◌*◌, ◌≤◌, ◌<◌, min};
 ghost use Rattle.digits.specs.Digits.{is_within, number_in, hex_digit};
 
-#[derive(Clone, Copy)]
-pub enum Number {
-    Given(usize),
-    Wrong,
-}
-
 // Far beyond every size that a role file can declare, and every count of rules that a program can hold: such numbers need not be told
 // apart above this one.
 pub const MANY: u32 = 999999;
@@ -18,10 +12,7 @@ pub const MANY: u32 = 999999;
 pub fn within(n: usize, low: usize, high: usize) -> bool
     ensures { result ≡ is_within n low high }
 {
-    if n < low {
-        return false;
-    }
-    n <= high
+    low <= n && n <= high
 }
 
 // The bytes of the digits.
@@ -38,28 +29,25 @@ fn with_digit(n: usize, c: u8, last: u32) -> usize
 {
     let more = 10 * n + (c - 48) as usize;
     let beyond = last as usize + 1;
-    if more < beyond { more } else { beyond }
+    more.min(beyond)
 }
 
 // One digit or more, and nothing else. Numbers are told apart up to the last: a larger one is taken for the one behind it, so that any
 // number of digits can be read.
-pub fn number_in(text: &[u8], last: u32) -> Number
+pub fn number_in(text: &[u8], last: u32) -> Option<usize>
     ensures { result ≡ number_in last text.now }
 {
-    if text.len() == 0 {
-        return Number::Wrong;
+    if text.is_empty() {
+        return None;
     }
     let mut n: usize = 0;
-    let mut at: usize = 0;
-    while at < text.len() {
-        let c = text[at];
-        if !is_digit(c) {
-            return Number::Wrong;
+    for c in text {
+        if !is_digit(*c) {
+            return None;
         }
-        n = with_digit(n, c, last);
-        at = at + 1;
+        n = with_digit(n, *c, last);
     }
-    Number::Given(n)
+    Some(n)
 }
 
 // The byte of a hexadecimal digit.

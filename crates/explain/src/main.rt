@@ -12,11 +12,15 @@ fn main(rt: HostRuntime) {
         &mut file,
         &mut rules,
     );
-    if both.failed {
-        return;
+    if let Some(both) = both {
+        // no rule has a number beyond that of the bytes
+        rule_words::tell_files(
+            &rt,
+            b"explain",
+            &file[..both.roles],
+            &rules[..both.rules],
+            0,
+            both.rules,
+        );
     }
-    let n = both.roles;
-    let m = both.rules;
-    // no rule has a number beyond that of the bytes
-    rule_words::tell_files(&rt, b"explain", &file[0..n], &rules[0..m], 0, m);
 }

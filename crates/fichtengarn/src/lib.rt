@@ -22,22 +22,20 @@ ghost use Rattle.load_file.specs.GeneratedNumbers.{bytes_written};
 ghost use Rattle.right_edits.specs.EveryList.{LoadedFrom, EveryList};
 ghost use Rattle.right_edits.specs.Standing.{standing, fill_answer, standing_answer};
 ghost use Rattle.right_record.specs.Reassigned.{an_edit};
-ghost use Rattle.role_file.specs.Reading.{loaded_of};
+ghost use Rattle.answers.specs.Records.{loaded_of};
 ghost use Rattle.role_circle.specs.CircledNumbers.{roles_listed};
 ghost use Rattle.sets.specs.Tests.{Is, ◌is_in◌};
-ghost use Rattle.answers.specs.Numbers.{no_values};
-ghost use Rattle.answers.specs.Numbers.{returned, stored, rules_told};
+ghost use Rattle.answers.specs.Numbers.{returned, stored, no_values, rules_told};
 
+use answers::{Edited, Loaded};
 use policy::Weights;
-use right_edits::Edited;
-use role_file::Loaded;
 use role_record::{RoleFile, Sizes};
 
 // Whether a role file may be read: 0, or 1 to 7.
 pub fn fichtengarn_read_roles(file: &[u8]) -> usize
     ensures { result ≡ returned (told no_values (read_roles 2 file.now)) }
 {
-    role_file::read(file).code
+    answers::code(&role_file::read(file))
 }
 
 // Whether a rule file may be read beside a role file, and how many rules it has.
@@ -46,8 +44,7 @@ pub fn fichtengarn_read_rules(file: &[u8], rules: &[u8], count: &mut [usize; 1])
         × (count.new
         ≡ stored (told rules_told (read_both 2 file.now rules.now)) count.old) }
 {
-    let b = rule_file::read(file, rules);
-    answers::store_rule_count(b.code, b.rules, count)
+    answers::store(rule_file::read(file, rules), count)
 }
 
 // Whether the roles grant a triple: 1 for yes, 0 for no.
@@ -63,7 +60,7 @@ pub fn fichtengarn_ask_roles(
         ≡ stored (told yes_no (role_question 2 file.now user resource operation))
         answer.old) }
 {
-    answers::store_reply(role_question::ask(file, user, resource, operation), answer)
+    answers::store(role_question::ask(file, user, resource, operation), answer)
 }
 
 // Whether some rule grants a triple: 1 for yes, 0 for no.
@@ -80,7 +77,7 @@ pub fn fichtengarn_ask_rules(
         ≡ stored (told yes_no (rule_question 2 file.now rules.now user resource operation))
         answer.old) }
 {
-    answers::store_reply(
+    answers::store(
         rule_question::ask(file, rules, user, resource, operation),
         answer,
     )
@@ -93,7 +90,7 @@ pub fn fichtengarn_judge(file: &[u8], rules: &[u8], verdict: &mut [usize; 4]) ->
         ≡ stored (told verdict_told (judge 2 file.now rules.now))
         verdict.old) }
 {
-    answers::store_judgement(rule_judge::judge(file, rules), verdict)
+    answers::store(rule_judge::judge(file, rules), verdict)
 }
 
 // A part of the rule file that was lent: its first byte, and how many it has. It stands in for the part itself, since no reference is
@@ -111,11 +108,10 @@ pub fn fichtengarn_show(file: &[u8], rules: &[u8], rule: usize, answer: &mut u8)
         × (result.start + result.length ≡ (shown_place 2 file.now rules.now rule).1)
         × (answer.new ≡ shown_byte 2 file.now rules.now rule) }
 {
-    let p = rule_show::locate(file, rules, rule);
-    rule_show::tell(p.code, answer);
+    let place = rule_show::tell(rule_show::locate(file, rules, rule), answer);
     Part {
-        start: p.from,
-        length: p.to - p.from,
+        start: place.from,
+        length: place.to - place.from,
     }
 }
 
@@ -134,7 +130,7 @@ pub fn fichtengarn_circle(file: &[u8], roles: &mut [u8], count: &mut [usize; 1])
         × Circle F (take (length list) roles.new)
         × ((l : List ℕ) → Is (closes F.line l) → (k : ℕ) → k is_in l → k < F.roles)) }
 {
-    answers::store_circled(role_circle::circle(file, roles), count)
+    answers::store(role_circle::circle(file, roles), count)
 }
 
 // A role file made from a seed and four sizes, in the memory for output, and how long it is. The reader accepts it.
@@ -165,7 +161,7 @@ pub fn fichtengarn_load(
         operations,
         roles,
     };
-    answers::store_generated(load_file::generate(seed, sizes, out), count)
+    answers::store(load_file::generate(seed, sizes, out), count)
 }
 
 // Denials in a usage log, in windows of so many records: the most that the rules deny in one, and the lowest record from which so many are.
@@ -186,7 +182,7 @@ pub fn fichtengarn_denials(
         (denial_answer 2 file.now rules.now log.now window))
         denials.old) }
 {
-    answers::store_denials(log_denials::denials(file, rules, log, window), denials)
+    answers::store(log_denials::denials(file, rules, log, window), denials)
 }
 
 // Mining, within the runs of roles that the cuts make first: the rule file in the memory for output, and length, parts, rules, merges and the
@@ -221,14 +217,20 @@ pub fn fichtengarn_mine(
         × (read_roles 2 file.now ≡ accepted F)
         × Demand3 2 cuts.now weights (beside_of F) (take c.size out.new) c) }
 {
-    answers::store_mined(mining::mine(file, cuts, weights, scratch, out), counts)
+    answers::store(mining::mine(file, cuts, weights, scratch, out), counts)
 }
 
 // A role file read into a record, which the caller keeps: 0 and the record, or 1 to 7 and the empty one.
 pub fn fichtengarn_read_record(file: &[u8]) -> Loaded
     ensures { result ≡ loaded_of (read_roles 2 file.now) }
 {
-    role_file::read(file)
+    match role_file::read(file) {
+        Ok(file) => Loaded { code: 0, file },
+        Err(refusal) => Loaded {
+            code: refusal.number(),
+            file: RoleFile::empty(),
+        },
+    }
 }
 
 // The standing summary of rights: fills a table from a record, any record.
@@ -242,7 +244,7 @@ pub fn fichtengarn_fill(loaded: RoleFile, table: &mut [u64]) -> usize
         → (es : List Edit)
         → EveryList F (standing loaded table.new) es) }
 {
-    right_edits::fill(loaded, table)
+    answers::code(&right_edits::fill(&loaded, table))
 }
 
 // Assigns a user to a role: the record and the table after it, or both as they were.
@@ -252,7 +254,9 @@ pub fn fichtengarn_assign(loaded: RoleFile, table: &mut [u64], role: usize, user
         ≡ left_by (standing loaded table.old)
         (standing_answer (standing loaded table.old) (an_edit true role user))) }
 {
-    right_edits::edit(loaded, table, true, role, user)
+    let mut file = loaded;
+    let code = answers::code(&right_edits::edit(&mut file, table, true, role, user));
+    Edited { code, file }
 }
 
 // Takes the assignment of a user to a role away: the same.
@@ -262,5 +266,7 @@ pub fn fichtengarn_withdraw(loaded: RoleFile, table: &mut [u64], role: usize, us
         ≡ left_by (standing loaded table.old)
         (standing_answer (standing loaded table.old) (an_edit false role user))) }
 {
-    right_edits::edit(loaded, table, false, role, user)
+    let mut file = loaded;
+    let code = answers::code(&right_edits::edit(&mut file, table, false, role, user));
+    Edited { code, file }
 }

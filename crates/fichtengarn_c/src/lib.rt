@@ -17,16 +17,14 @@ ghost use Rattle.load_file.specs.GeneratedNumbers.{bytes_written};
 ghost use Rattle.right_edits.specs.EveryList.{LoadedFrom, EveryList};
 ghost use Rattle.right_edits.specs.Standing.{standing, fill_answer, standing_answer};
 ghost use Rattle.right_record.specs.Reassigned.{an_edit};
-ghost use Rattle.role_file.specs.Reading.{loaded_of};
+ghost use Rattle.answers.specs.Records.{loaded_of};
 ghost use Rattle.role_circle.specs.CircledNumbers.{roles_listed};
 ghost use Rattle.sets.specs.Tests.{Is, ◌is_in◌};
-ghost use Rattle.answers.specs.Numbers.{no_values};
-ghost use Rattle.answers.specs.Numbers.{returned, stored, rules_told};
+ghost use Rattle.answers.specs.Numbers.{returned, stored, no_values, rules_told};
 
+use answers::{Edited, Loaded};
 use fichtengarn::Part;
 use policy::Weights;
-use right_edits::Edited;
-use role_file::Loaded;
 use role_record::RoleFile;
 
 // Whether a role file may be read: 0, or 1 to 7.

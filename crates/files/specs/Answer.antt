@@ -100,3 +100,8 @@ code_of (accepted a) = 0
 abbrev pub left_by : {A : Type 0} → A → Answer A → A
 left_by former (refused e) = former
 left_by former (accepted a) = a
+
+-- what is made of what was accepted
+abbrev pub map_answer : {A B : Type 0} → (A → B) → Answer A → Answer B
+map_answer f (refused e) = refused e
+map_answer f (accepted a) = accepted (f a)

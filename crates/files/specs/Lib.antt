@@ -1,4 +1,5 @@
 pub mod Answer
+pub mod Cause
 pub mod Bytes
 pub mod RoleFile
 pub mod Beside

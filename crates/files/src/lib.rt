@@ -2,6 +2,8 @@
 // commands by name, for the code. A number that 01 does not give would not be proved: contracts speak of the definitions.
 #![tactic(auto)]
 
-pub mod refusal;
+mod refusal;
 pub mod role_byte;
 pub mod rule_byte;
+
+pub use refusal::Refusal;

@@ -1,42 +1,38 @@
-// The numbers of the refusals, by the names of specs/Answer.
-pub const TOO_LONG: usize = 1;
+ghost use Rattle.std.specs.Prelude.{◌≡◌};
+ghost use Rattle.files.specs.Answer.{number_of};
+ghost use Rattle.files.specs.Cause.{cause};
 
-pub const CUT_OFF: usize = 2;
+// Why a call refuses, by the names of specs/Answer.
+#[derive(Clone, Copy, Debug, PartialEq, Eq)]
+pub enum Refusal {
+    TooLong = 1,
+    CutOff = 2,
+    UnknownCommand = 3,
+    OutOfPlace = 4,
+    Beyond = 5,
+    WrongKind = 6,
+    OwnSenior = 7,
+    SmallScratch = 8,
+    ShortOutput = 9,
+    RulesCutOff = 10,
+    RulesUnknown = 11,
+    RulesOrder = 12,
+    RulesOperand = 13,
+    NoSuchRule = 14,
+    ZeroSeed = 15,
+    WrongShape = 16,
+    WrongTable = 17,
+    WrongLevel = 18,
+    WrongWindow = 19,
+    RaggedLog = 20,
+    BadCuts = 21,
+}
 
-pub const UNKNOWN_COMMAND: usize = 3;
-
-pub const OUT_OF_PLACE: usize = 4;
-
-pub const BEYOND: usize = 5;
-
-pub const WRONG_KIND: usize = 6;
-
-pub const OWN_SENIOR: usize = 7;
-
-pub const SMALL_SCRATCH: usize = 8;
-
-pub const SHORT_OUTPUT: usize = 9;
-
-pub const RULES_CUT_OFF: usize = 10;
-
-pub const RULES_UNKNOWN: usize = 11;
-
-pub const RULES_ORDER: usize = 12;
-
-pub const RULES_OPERAND: usize = 13;
-
-pub const NO_SUCH_RULE: usize = 14;
-
-pub const ZERO_SEED: usize = 15;
-
-pub const WRONG_SHAPE: usize = 16;
-
-pub const WRONG_TABLE: usize = 17;
-
-pub const WRONG_LEVEL: usize = 18;
-
-pub const WRONG_WINDOW: usize = 19;
-
-pub const RAGGED_LOG: usize = 20;
-
-pub const BAD_CUTS: usize = 21;
+impl Refusal {
+    // Its number.
+    pub fn number(self) -> usize
+        ensures { result ≡ number_of (cause self) }
+    {
+        self as usize
+    }
+}

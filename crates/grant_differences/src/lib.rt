@@ -7,7 +7,6 @@ ghost use Rattle.grant_grids.specs.Grid.{in_grid, same_words, same_tables, grid_
 ghost use Rattle.role_record.specs.Cells.{grid_cells};
 ghost use Rattle.sets.specs.Tests.{iff};
 
-use grant_grids::Difference;
 use role_record::{ByMember, RoleFile};
 
 // Whether two grids differ at a triple.
@@ -67,7 +66,7 @@ pub fn first_difference<'a>(
     users: usize,
     resources: usize,
     operations: usize,
-) -> Difference
+) -> Option<(usize, usize, usize)>
     requires { (users ≤ 64)
         × (operations ≤ 64)
         × (length a.now ≡ grid_cells operations)
@@ -76,7 +75,7 @@ pub fn first_difference<'a>(
 {
     // Most pairs of grids are the same.
     if alike(a, b) {
-        return Difference::Same;
+        return None;
     }
     'triples: loop {
         for u in 0..users {
@@ -87,12 +86,12 @@ pub fn first_difference<'a>(
             for r in 0..resources {
                 for o in 0..operations {
                     if differ_at(a, b, u, r, o, operations) {
-                        break 'triples Difference::At(u, r, o);
+                        break 'triples Some((u, r, o));
                     }
                 }
             }
         }
-        break 'triples Difference::Same;
+        break 'triples None;
     }
 }
 

@@ -1,6 +1,6 @@
 -- The laws of grids: what a grid has, how loops fill one, and how a search for the first difference goes on.
 -- Assumes nothing.
-use Rattle.std.specs.Prelude.{ℕ, zero, suc, ◌+◌, ◌≤◌, ◌<◌, eqb, length, get_or, Bool, true, false, cond, ◌&&◌, not, ◌⊎◌, ◌≡◌}
+use Rattle.std.specs.Prelude.{ℕ, zero, suc, ◌+◌, ◌≤◌, ◌<◌, eqb, length, get_or, Bool, true, false, cond, ◌&&◌, not, Some, None, is_some, Option as Handed, ◌⊎◌, ◌≡◌}
 use Rattle.std.proofs.Common.{eqb-true, eq-eqb, inl, inr, ap₂, ◌∙◌, not-suc-le-zero, le_of_suc-le-suc, eq-or-lt_of_le, add-one, arith}
 use Rattle.std.specs.Int.Bits.{bit_or, bit_xor, or_add_and, xor_add_and, xor_self}
 use Rattle.std.proofs.lemmas.Nat.{and_le_l, and_le_r}
@@ -30,7 +30,6 @@ use Rattle.sets.specs.SetLaws.{bit_mask}
 use Rattle.sets.specs.Tests.{Is, iff, all, each, up_to, ◌is_in◌}
 use Rattle.sets.specs.TestLaws.{and_in, and_l, and_r, fails, same, iff_in, all-out, up_to_in, up_to-out, each-out, map-out, beq_iff}
 use Rattle.grant_grids.specs.Grid.{grid_of, in_grid, granted_by, triple_list, differ_at, same_words, same_tables, grid_difference, difference_of, is_same}
-use Rattle.grant_grids.specs.declared.Difference.TheVariants.{Same, At}
 
 -- ---- grids
 
@@ -196,11 +195,11 @@ user-skipped a b rs os n h q e = user-passed (in_grid a) (in_grid b) rs os n rs 
 -- what the code hands back
 module _ (a b : List ℕ) where
   pub found_at : (us rs os u r o : ℕ) {d : Bool} → u < us → r < rs → o < os → UsersPassed (in_grid a) (in_grid b) rs os u → ResourcesPassed (in_grid a) (in_grid b) os u r → OperationsPassed (in_grid a) (in_grid b) u r o
-      → d ≡ not (iff (in_grid a u r o) (in_grid b u r o)) → d ≡ true → At u r o ≡ difference_of (grid_difference a b us rs os)
+      → d ≡ not (iff (in_grid a u r o) (in_grid b u r o)) → d ≡ true → Some (u, r, o) ≡ difference_of (grid_difference a b us rs os)
   unfolding grid_difference difference_of
   found_at us rs os u r o lu lr lo hu hr ho q e = sym (ap difference_of (found (in_grid a) (in_grid b) us rs os u r o lu lr lo hu hr ho (sym q ∙ e)))
 
-  pub found_none : (us rs os u : ℕ) → UsersPassed (in_grid a) (in_grid b) rs os u → u ≡ us → Same ≡ difference_of (grid_difference a b us rs os)
+  pub found_none : (us rs os u : ℕ) → UsersPassed (in_grid a) (in_grid b) rs os u → u ≡ us → None ≡ difference_of (grid_difference a b us rs os)
   unfolding grid_difference difference_of
   found_none us rs os u h e = sym (ap difference_of (ap (λ (x : ℕ). first (differ_at (in_grid a) (in_grid b)) (triple_list x rs os)) (sym e) ∙ h))
 
@@ -272,6 +271,17 @@ pub grids_same : (P : Setting) (G H : Block) (a b : List ℕ)
     → is_same (difference_of (grid_difference a b (P.side user).count (P.side resource).count P.slots)) ≡ same_block P G H
 grids_same P G H a b p q = ap (λ (d : Option (ℕ × ℕ × ℕ)). is_same (difference_of d)) (difference_means P G H a b p q) ∙ same_means P G H
 
+-- what is handed back tells whether nothing differs
+pub told_same : (d : Handed (ℕ × ℕ × ℕ)) {e : Handed (ℕ × ℕ × ℕ)} (b : Bool) → is_some d ≡ not b → d ≡ e → b ≡ is_same e
+unfolding is_same
+told_same d b h e = go d b h ∙ ap is_same e
+  where
+    go : (d : Handed (ℕ × ℕ × ℕ)) (b : Bool) → is_some d ≡ not b → b ≡ is_same d
+    go None true h = refl
+    go None false h = h
+    go (Some t) true h = h
+    go (Some t) false h = refl
+
 -- ---- many words at once
 
 -- `differences | (x ^ y)` has nothing in it just if nothing differs so far and x is y
@@ -310,7 +320,7 @@ module _ (f g : ℕ → ℕ) where
   alike_end d n m h e = h ∙ ap (λ (x : ℕ). all (λ i. eqb (f i) (g i)) (up_to x)) e
 
 -- tables with the same words differ at none of their triples
-pub all-skipped : (a b : List ℕ) (us rs os : ℕ) {s : Bool} → us ≤ 64 → s ≡ same_tables a b (grid_cells os) → s ≡ true → Same ≡ difference_of (grid_difference a b us rs os)
+pub all-skipped : (a b : List ℕ) (us rs os : ℕ) {s : Bool} → us ≤ 64 → s ≡ same_tables a b (grid_cells os) → s ≡ true → None ≡ difference_of (grid_difference a b us rs os)
 unfolding same_tables grid_difference difference_of triple_list differ_at in_grid
 all-skipped a b us rs os few q e = sym (ap difference_of (first-none (differ_at (in_grid a) (in_grid b)) (triple_list us rs os) alike))
   where

@@ -1,7 +1,7 @@
 -- Grants as a grid of sets: in the cell of a user and an operation stands the set of the resources granted. A grid is made for a number of
 -- operations. And the first triple at which two grids differ.
 -- Assumes nothing.
-use Rattle.std.specs.Prelude.{ℕ, eqb, get_or, Bool, true, false, ◌&&◌, not, List, map}
+use Rattle.std.specs.Prelude.{ℕ, eqb, get_or, Bool, true, false, ◌&&◌, not, List, map, Some, None, Option as Handed}
 use Rattle.std.proofs.Math.Option.{Option, none, some}
 use Rattle.files.specs.Calls.{first}
 use Rattle.role_record.specs.Cells.{permission_at, grid_at, grid_user, grid_operation, grid_cells}
@@ -9,8 +9,6 @@ use Rattle.role_record.specs.Record.{table_of}
 use Rattle.policy.specs.Rules.{Block}
 use Rattle.sets.specs.Sets.{bit, mask_of}
 use Rattle.sets.specs.Tests.{iff, all, any, each, up_to}
-use Rattle.grant_grids.specs.declared.Difference.{Difference}
-use Rattle.grant_grids.specs.declared.Difference.TheVariants.{Same, At}
 
 -- the grid of a set of triples, for n operations
 unfoldable pub grid_of : ℕ → Block → List ℕ
@@ -45,11 +43,11 @@ unfoldable pub grid_difference : List ℕ → List ℕ → ℕ → ℕ → ℕ �
 grid_difference a b us rs os = first (differ_at (in_grid a) (in_grid b)) (triple_list us rs os)
 
 -- as the code hands it back
-unfoldable pub difference_of : Option (ℕ × ℕ × ℕ) → Difference
-difference_of none = Same
-difference_of (some t) = At t.0 t.1 t.2
+unfoldable pub difference_of : Option (ℕ × ℕ × ℕ) → Handed (ℕ × ℕ × ℕ)
+difference_of none = None
+difference_of (some t) = Some t
 
 -- nothing differs
-unfoldable pub is_same : Difference → Bool
-is_same Same = true
-is_same (At u r o) = false
+unfoldable pub is_same : Handed (ℕ × ℕ × ℕ) → Bool
+is_same None = true
+is_same (Some t) = false

@@ -9,13 +9,6 @@ ghost use Rattle.role_record.specs.Cells.{most_operations, grid_at, grid_cells};
 
 use role_record::{ByRole, ByRoleOperation, RoleFile};
 
-#[derive(Clone, Copy)]
-pub enum Difference {
-    Same,
-    // The user, the resource and the operation.
-    At(usize, usize, usize),
-}
-
 // Whether a grid has a triple.
 pub fn has(grid: &[u64], user: usize, resource: usize, operation: usize) -> bool
     requires { grid_at user operation < length grid.now }

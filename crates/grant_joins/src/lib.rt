@@ -13,11 +13,8 @@ pub fn spread(block: usize, members: u64, word: u64, out: &mut [u64])
     requires { 64 * block + 64 ≤ length out.old }
     ensures { out.new ≡ spread_of (length out.old) block members word out.old }
 {
-    let mut rest = members;
-    while 0 < rest {
-        let y = sets::least(rest);
+    for y in sets::members(members) {
         out[RoleFile::MEMBERS * block + y] = sets::union(out[RoleFile::MEMBERS * block + y], word);
-        rest = sets::without_least(rest);
     }
 }
 
@@ -26,12 +23,9 @@ pub fn number(having: &ByPlaceMember, place: usize) -> usize
     requires { place < 14 }
     ensures { result ≡ value_count having.now place }
 {
-    for k in 0..RoleFile::MEMBERS {
-        if having[RoleFile::MEMBERS * place + k] == 0 {
-            return k;
-        }
-    }
-    RoleFile::MEMBERS
+    (0..RoleFile::MEMBERS)
+        .position(|k| having[RoleFile::MEMBERS * place + k] == 0)
+        .unwrap_or(RoleFile::MEMBERS)
 }
 
 // Whether an atom joins two values. Left says that the first is a set, right that the second is.

@@ -14,14 +14,11 @@ pub fn linked(links: &Links, atoms: u64, user: usize, among: u64) -> u64
     ensures { result ≡ linked_with links.now atoms user among }
 {
     let mut m = among;
-    let mut rest = sets::meet(atoms, sets::below(RoleFile::ATOMS));
-    while 0 < rest {
+    for i in sets::members(sets::meet(atoms, sets::below(RoleFile::ATOMS))) {
         if m == 0 {
             return 0;
         }
-        let i = sets::least(rest);
         m = sets::meet(m, links[RoleFile::MEMBERS * i + user]);
-        rest = sets::without_least(rest);
     }
     m
 }

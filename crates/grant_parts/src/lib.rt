@@ -14,13 +14,10 @@ pub fn class_of(permissions: &ByRoleOperation, role: usize, operations: usize, o
     ensures { result ≡ class_row permissions.now role operations o }
 {
     let row = permissions[RoleFile::ROLES * o + role];
-    let mut m: u64 = 0;
-    for q in 0..operations {
-        if permissions[RoleFile::ROLES * q + role] == row {
-            m = sets::with(m, q);
-        }
-    }
-    m
+    sets::those(
+        operations,
+        |q| permissions[RoleFile::ROLES * q + role] == row,
+    )
 }
 
 // Whether no operation of a role before operation o has the same resources.
@@ -29,12 +26,7 @@ fn is_first(permissions: &ByRoleOperation, role: usize, o: usize) -> bool
     ensures { result ≡ is_first permissions.now role o }
 {
     let row = permissions[RoleFile::ROLES * o + role];
-    for q in 0..o {
-        if permissions[RoleFile::ROLES * q + role] == row {
-            return false;
-        }
-    }
-    true
+    !(0..o).any(|q| permissions[RoleFile::ROLES * q + role] == row)
 }
 
 // Whether operation o is the lowest of a part of the role.

@@ -2,7 +2,7 @@
 // is joined to the words of all who have the value.
 #![tactic(auto)]
 
-ghost use Rattle.std.specs.Prelude.{length, List, ◌≡◌, ℕ, ◌+◌, ◌*◌, ◌≤◌, ◌<◌};
+ghost use Rattle.std.specs.Prelude.{List, ◌≡◌, ℕ, ◌+◌, ◌*◌, ◌≤◌, ◌<◌};
 ghost use Rattle.grant_distinct.specs.Distinct.{distinct_table, having_table};
 ghost use Rattle.grant_grids.specs.Links.{link_table};
 ghost use Rattle.grant_joins.specs.Tables.{link_atom, linked_to, links_by, looked_at};
@@ -59,9 +59,9 @@ fn link_atom<'a>(
     distinct: &'a ByPlaceMember,
     having: &'a ByPlaceMember,
     atom: usize,
-    out: &mut [u64],
+    out: &mut Links,
 )
-    requires { (atom < 36) × (length out.old ≡ 2304) }
+    requires { atom < 36 }
     ensures { out.new
         ≡ link_atom distinct.now having.now kinds.now
         domains.now resources atom
@@ -74,25 +74,6 @@ fn link_atom<'a>(
     for k in 0..count {
         let word = linked_to(kinds, resources, distinct, having, a, b, k, others);
         grant_joins::spread(atom, having[RoleFile::MEMBERS * a + k], word, out);
-    }
-}
-
-// Into a slice, since only a slice tells its length to a proof.
-fn fill_links<'a>(
-    kinds: &'a BySide,
-    domains: &'a ByAttribute,
-    resources: usize,
-    distinct: &'a ByPlaceMember,
-    having: &'a ByPlaceMember,
-    out: &mut [u64],
-)
-    requires { length out.old ≡ 2304 }
-    ensures { out.new ≡ links_by distinct.now having.now kinds.now
-        domains.now resources }
-{
-    role_record::clear(out);
-    for atom in 0..RoleFile::ATOMS {
-        link_atom(kinds, domains, resources, distinct, having, atom, out);
     }
 }
 
@@ -113,7 +94,10 @@ pub fn links<'a>(
         → having.now ≡ having_table known values holders users resources roles
         → out.new ≡ link_table known values kinds.now domains.now resources }
 {
-    fill_links(kinds, domains, resources, distinct, having, out);
+    role_record::clear(out);
+    for atom in 0..RoleFile::ATOMS {
+        link_atom(kinds, domains, resources, distinct, having, atom, out);
+    }
 }
 
 // The same of the values themselves, where nothing else needs the tables of distinct values.

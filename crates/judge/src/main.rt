@@ -2,72 +2,71 @@
 // meaning. Where the system does not read a file, a line on standard error says so and there is no answer.
 #![tactic(auto)]
 
-use role_question::Reply;
-use rule_judge::Judgement;
+ghost use Rattle.std.specs.Prelude.{◌≡◌};
+ghost use Rattle.answer_words.specs.AnswerWords.{bytes_of};
+ghost use Rattle.files.specs.Calls.{Verdict as Finding};
+ghost use Rattle.judge.specs.Findings.{finding_words};
+ghost use Rattle.rule_judge.specs.Judgement.{verdict_of};
+
+use rule_judge::Verdict;
 use std::io;
 
-// Prints the meaning of a verdict.
-fn say_meaning(rt: &impl Print, n: usize) -> io::Result<()> {
-    let mut words = [0u8; 160];
-    let length = answer_words::verdict_words(n, &mut words);
-    programs::say(rt, &words[..length])
-}
-
-// Prints a verdict about one number, a rule's or a part's.
-fn say_stray(rt: &impl Print, n: usize, name: &[u8], which: usize) -> io::Result<()> {
-    programs::say_count(rt, b"verdict ", n)?;
-    programs::say_count(rt, name, which)?;
-    say_meaning(rt, n)
-}
-
-// Prints on which side a triple is that roles and rules differ at.
-fn say_side(rt: &impl Print, by_roles: Reply) -> io::Result<()> {
-    match by_roles {
-        Reply::Yes => programs::say(rt, b": the roles grant it, no rule does"),
-        Reply::No => programs::say(rt, b": a rule grants it, the roles do not"),
-        Reply::Refused(_) => Ok(()),
+// The meaning of a verdict. The values that come with it stand in front.
+fn verdict_words(verdict: Verdict) -> &'static [u8]
+    ensures { (v : Finding) → verdict ≡ verdict_of v → result.now ≡ bytes_of (finding_words v) }
+{
+    match verdict {
+        Verdict::Sound =>
+            b"roles and rules grant the same, every rule what its parts do, and every part stands under one rule",
+        Verdict::Differ(_, _, _) => b" is granted by roles or rules only",
+        Verdict::StrayRule(_) => b" grants other than its parts",
+        Verdict::StrayPart(_) => b" stands under no rule or several",
     }
 }
 
-// Prints the verdict about a triple.
-fn say_difference(
+// Prints the number of a verdict and what it is about: a triple, a rule or a part.
+fn say_finding(rt: &impl Print, verdict: Verdict) -> io::Result<()> {
+    match verdict {
+        Verdict::Sound => programs::say(rt, b"verdict 0: "),
+        Verdict::Differ(user, resource, operation) => {
+            programs::say(rt, b"verdict 1: ")?;
+            programs::say_triple(rt, user, resource, operation)
+        }
+        Verdict::StrayRule(rule) => programs::say_count(rt, b"verdict 2: rule ", rule),
+        Verdict::StrayPart(part) => programs::say_count(rt, b"verdict 3: part ", part),
+    }
+}
+
+// Prints on which side a triple is that roles and rules differ at. A role file that was judged is not refused.
+fn say_side(
     rt: &impl Print,
     file: &[u8],
     user: usize,
     resource: usize,
     operation: usize,
 ) -> io::Result<()> {
-    programs::say(rt, b"verdict 1: ")?;
-    programs::say_triple(rt, user, resource, operation)?;
-    say_meaning(rt, 1)?;
-    say_side(rt, role_question::ask(file, user, resource, operation))
+    match role_question::ask(file, user, resource, operation) {
+        Ok(true) => programs::say(rt, b": the roles grant it, no rule does"),
+        Ok(false) => programs::say(rt, b": a rule grants it, the roles do not"),
+        Err(_) => Ok(()),
+    }
 }
 
-// Prints the verdict that all is well.
-fn say_sound(rt: &impl Print) -> io::Result<()> {
-    programs::say(rt, b"verdict 0: ")?;
-    say_meaning(rt, 0)
+// Prints a verdict.
+fn say_verdict(rt: &impl Print, verdict: Verdict, file: &[u8]) -> io::Result<()> {
+    say_finding(rt, verdict)?;
+    programs::say(rt, verdict_words(verdict))?;
+    if let Verdict::Differ(user, resource, operation) = verdict {
+        say_side(rt, file, user, resource, operation)?;
+    }
+    Ok(())
 }
 
 // Judges, and prints the answer.
 fn answer(rt: &HostRuntime, file: &[u8], rules: &[u8]) {
     match rule_judge::judge(file, rules) {
-        Judgement::Sound => {
-            programs::end_line(rt, b"judge", say_sound(rt));
-        }
-        Judgement::Differ(user, resource, operation) => {
-            let said = say_difference(rt, file, user, resource, operation);
-            programs::end_line(rt, b"judge", said);
-        }
-        Judgement::StrayRule(n) => {
-            programs::end_line(rt, b"judge", say_stray(rt, 2, b": rule ", n));
-        }
-        Judgement::StrayPart(n) => {
-            programs::end_line(rt, b"judge", say_stray(rt, 3, b": part ", n));
-        }
-        Judgement::Refused(n) => {
-            programs::refuse(rt, b"judge", n);
-        }
+        Ok(verdict) => programs::end_line(rt, b"judge", say_verdict(rt, verdict, file)),
+        Err(refusal) => programs::refuse(rt, b"judge", refusal),
     }
 }
 
@@ -81,10 +80,7 @@ fn main(rt: HostRuntime) {
         &mut file,
         &mut rules,
     );
-    if both.failed {
-        return;
+    if let Some(both) = both {
+        answer(&rt, &file[..both.roles], &rules[..both.rules]);
     }
-    let n = both.roles;
-    let m = both.rules;
-    answer(&rt, &file[0..n], &rules[0..m]);
 }

@@ -4,7 +4,6 @@
 use files::rule_byte;
 use programs::{say, say_count, say_number};
 use rule_commands::{Atom, ListedValue, RuleCommand};
-use rule_operands::Checked;
 use std::io;
 
 // ---- sets
@@ -236,10 +235,10 @@ fn tell_line(
         RuleCommand::Value(v) => tell_value(rt, same, some, v),
         RuleCommand::Link(atom) => tell_link(rt, some, atom, domain),
         RuleCommand::Part { role, operations } => tell_part(rt, role, operations),
-        RuleCommand::Opens => Ok(()),
-        RuleCommand::Operations(_) => Ok(()),
-        RuleCommand::Level(_) => Ok(()),
-        RuleCommand::Ends => Ok(()),
+        RuleCommand::Opens
+        | RuleCommand::Operations(_)
+        | RuleCommand::Level(_)
+        | RuleCommand::Ends => Ok(()),
     }
 }
 
@@ -249,14 +248,14 @@ pub fn tell_checked(
     wanted: bool,
     same: bool,
     some: bool,
-    checked: Checked,
+    checked: Option<RuleCommand>,
     domain: u64,
 ) -> io::Result<()> {
     if !wanted {
         return Ok(());
     }
     match checked {
-        Checked::Legal(c) => tell_line(rt, same, some, c, domain),
-        Checked::Illegal => Ok(()),
+        Some(c) => tell_line(rt, same, some, c, domain),
+        None => Ok(()),
     }
 }

@@ -2,20 +2,13 @@
 #![tactic(auto)]
 
 ghost use Rattle.std.specs.Prelude.{length, take, ◌≡◌, ℕ, ◌≤◌};
-ghost use Rattle.files.specs.Answer.{told, accepted};
+ghost use Rattle.files.specs.Answer.{accepted};
+ghost use Rattle.files.specs.Cause.{answer_of};
 ghost use Rattle.files.specs.Load.{load_bytes, load_answer, load_output, Readable};
-ghost use Rattle.load_file.specs.GeneratedNumbers.{generated_numbers, bytes_written};
 
-use files::refusal;
+use files::Refusal;
 use load_write::write;
 use role_record::{RoleFile, Sizes};
-
-// A refusal's number; or the length of the file.
-#[derive(Clone, Copy)]
-pub enum Generated {
-    Refused(usize),
-    Written(usize),
-}
 
 // How long the file is: it is made over a single byte.
 fn measure(seed: u32, sizes: Sizes) -> usize
@@ -27,11 +20,10 @@ fn measure(seed: u32, sizes: Sizes) -> usize
 }
 
 // The answer, the output at the end, and that the reader accepts the file there, with the sizes asked for.
-pub fn generate(seed: u32, sizes: Sizes, out: &mut [u8]) -> Generated
-    ensures { (generated_numbers result
-        ≡ told bytes_written
-        (load_answer 2 seed sizes.users sizes.resources sizes.operations sizes.roles
-        (length out.old)))
+pub fn generate(seed: u32, sizes: Sizes, out: &mut [u8]) -> Result<usize, Refusal>
+    ensures { (answer_of result
+        ≡ load_answer 2 seed sizes.users sizes.resources sizes.operations sizes.roles
+        (length out.old))
         × (out.new
         ≡ load_output 2 seed sizes.users sizes.resources sizes.operations sizes.roles out.old)
         × ((n : ℕ)
@@ -41,19 +33,16 @@ pub fn generate(seed: u32, sizes: Sizes, out: &mut [u8]) -> Generated
         → Readable 2 sizes.users sizes.resources sizes.operations sizes.roles (take n out.new)) }
 {
     if seed == 0 {
-        return Generated::Refused(refusal::ZERO_SEED);
+        return Err(Refusal::ZeroSeed);
     }
-    let code = role_admit::admit_sizes(sizes.users, sizes.resources, sizes.operations, sizes.roles);
-    if code != 0 {
-        return Generated::Refused(refusal::BEYOND);
-    }
+    role_admit::admit_sizes(sizes)?;
     let length = measure(seed, sizes);
     if RoleFile::BYTES < length {
-        return Generated::Refused(refusal::TOO_LONG);
+        return Err(Refusal::TooLong);
     }
     if out.len() < length {
-        return Generated::Refused(refusal::SHORT_OUTPUT);
+        return Err(Refusal::ShortOutput);
     }
     write(seed, sizes, out);
-    Generated::Written(length)
+    Ok(length)
 }

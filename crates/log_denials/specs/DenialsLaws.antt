@@ -1,100 +1,99 @@
 -- What was read of both files answers for the log.
 -- Assumes nothing.
-use Rattle.std.specs.Prelude.{ℕ, ◌%◌, eqb, length, Bool, cond, ◌&&◌, ◌≡◌}
+use Rattle.std.specs.Prelude.{ℕ, ◌%◌, eqb, leb, length, take, Bool, true, false, cond, ◌&&◌, List, ◌≡◌, refl, Result, Ok, Err}
 use borrow.Author.Tests.{eq-eqb, ne_eqb, le-leb}
-use Rattle.std.proofs.Math.Dec.{leb}
-use Rattle.std.proofs.Math.Bool.{true, false}
-use mathlib.Core.List.{List}
-use Rattle.std.proofs.Math.Path.{refl, sym, ap}
-use Rattle.std.proofs.Common.{◌∙◌, arith}
-use Rattle.files.specs.Answer.{number_of, Answer, told, unless, and_then, beyond, wrong_window, ragged_log, refused, accepted}
-use Rattle.files.proofs.BytesLaws.{Carries, number_positive}
+use Rattle.std.proofs.Common.{sym, ap, ◌∙◌, subst, arith}
+use Rattle.files.specs.Answer.{Refusal as Cause, Answer, unless, and_then, beyond, wrong_window, ragged_log, refused, accepted, map_answer}
+use Rattle.files.proofs.AnswerLaws.{map-refused}
 use Rattle.files.specs.Calls.{is_triple, rules_grant, read_both}
+use Rattle.files.specs.Cause.{answer_of}
 use Rattle.files.proofs.DenialLaws.{log_same}
 use Rattle.files.specs.Denials.{of_record, record_count, denied_by, log_answer, denial_answer}
 use Rattle.files.specs.RuleFile.{Lines}
-use Rattle.files.specs.Windows.{worst_values, worst}
+use Rattle.files.specs.Windows.{worst}
+use Rattle.files.specs.declared.refusal.Refusal.{Refusal}
+use Rattle.files.specs.declared.refusal.Refusal.TheVariants.{Beyond}
 use Rattle.grant_grids.specs.Grid.{grid_of, in_grid}
-use Rattle.log_records.specs.Records.{in_sizes}
-use Rattle.log_windows.specs.Counting.{denial_numbers, counted_as, counted_of}
+use Rattle.log_windows.specs.Counting.{worst_of, counted_of}
+use Rattle.log_windows.specs.declared.Worst.{Worst}
 use Rattle.policy.specs.Policy.{Policy, side_of, setting_of}
 use Rattle.policy.specs.Rules.{Block}
-use Rattle.role_record.specs.Record.{Sized, record_with, record_of}
-use Rattle.rule_file.specs.LegalLaws.{Sound, both-sound}
-use Rattle.rule_reading.specs.BothFiles.{nothing_read, both_of, GridShown}
+use Rattle.role_record.specs.Cells.{grid_cells}
+use Rattle.role_record.specs.Record.{Sized, sizes_of, in_sizes, record_with, record_of}
+use Rattle.rule_file.specs.LegalLaws.{Accepted, both-accepted}
+use Rattle.rule_reading.specs.BothFiles.{both_of, GridLent}
 use Rattle.rule_steps.specs.GrantedLaws.{in_rules}
 use Rattle.rule_steps.specs.Shows.{granted_within}
 use Rattle.sets.specs.Tests.{all, up_to}
-use Rattle.log_windows.specs.declared.Denials.{Denials}
-use Rattle.log_windows.specs.declared.Denials.TheVariants.{Refused}
 use Rattle.role_record.specs.declared.RoleFile.{RoleFile}
-use Rattle.role_record.specs.declared.Sizes.{Sizes}
 use Rattle.rule_reading.specs.declared.BothFiles.{BothFiles}
 
--- the sizes of a record, as code hands them on
-abbrev pub sizes_in : RoleFile → Sizes
-sizes_in f = record { users = f.users; resources = f.resources; operations = f.operations; roles = f.roles }
-
--- the answer from what was read, and the grid of what the rules grant
-unfoldable pub counted_by : BothFiles → List ℕ → List ℕ → ℕ → Denials
-counted_by b grid log w =
-    cond (eqb b.code 0)
-    (cond (leb 1 w && leb w 64)
-    (cond (eqb (length log % 3) 0) (counted_of (in_grid grid) (sizes_in b.file) log w) (Refused 20)) (Refused 19)) (Refused b.code)
+-- ---- of a policy and its rules
 
 module _ (F : Policy) (log : List ℕ) (w : ℕ) where
-  -- the tests one after the other, whatever they say
-  tested : (G : Block) (a b : Bool)
-      → denial_numbers (cond a (cond b (counted_of G (sizes_in (record_of F)) log w) (Refused 20)) (Refused 19))
-      ≡ told worst_values (unless a wrong_window (unless b ragged_log (unless (all (of_record (is_triple (setting_of F)) log) (up_to (record_count log))) beyond (accepted (worst (denied_by G log) (record_count log) w)))))
+  -- the records are tested, and then counted
+  tested : (G : Block) → answer_of (counted_of G (sizes_of (record_of F)) log w) ≡ map_answer worst_of (unless (all (of_record (is_triple (setting_of F)) log) (up_to (record_count log))) beyond (accepted (worst (denied_by G log) (record_count log) w)))
   unfolding counted_of in_sizes record_of record_with is_triple setting_of side_of
-  tested G false b = refl
-  tested G true false = refl
-  tested G true true = go (all (of_record (is_triple (setting_of F)) log) (up_to (record_count log)))
+  tested G = go (all (of_record (is_triple (setting_of F)) log) (up_to (record_count log)))
     where
-      go : (a : Bool) → denial_numbers (cond a (counted_as (worst (denied_by G log) (record_count log) w)) (Refused 5)) ≡ told worst_values (unless a beyond (accepted (worst (denied_by G log) (record_count log) w)))
+      go : (a : Bool) → answer_of (cond a (Ok (worst_of (worst (denied_by G log) (record_count log) w))) (Err Beyond)) ≡ map_answer worst_of (unless a beyond (accepted (worst (denied_by G log) (record_count log) w)))
       go true = refl
       go false = refl
 
-  tested-all : (G : Block)
-      → denial_numbers (cond (leb 1 w && leb w 64) (cond (eqb (length log % 3) 0) (counted_of G (sizes_in (record_of F)) log w) (Refused 20)) (Refused 19)) ≡ told worst_values (log_answer (setting_of F) G log w)
-  unfolding log_answer
-  tested-all G = tested G (leb 1 w && leb w 64) (eqb (length log % 3) 0)
+  module _ (e : (leb 1 w && leb w 64) ≡ true) (d : length log % 3 ≡ 0) where
+    tested-all : (G : Block) → answer_of (counted_of G (sizes_of (record_of F)) log w) ≡ map_answer worst_of (log_answer (setting_of F) G log w)
+    unfolding log_answer
+    tested-all G = tested G ∙ sym (rw (e, eq-eqb (length log % 3) 0 d) refl)
 
-  counted : (rules : List Lines) → Sized F → (grid : List ℕ) → grid ≡ grid_of F.operations (granted_within F rules) → denial_numbers (counted_by (both_of (accepted (F, rules))) grid log w) ≡ told worst_values (log_answer (setting_of F) (rules_grant (setting_of F) rules) log w)
-  unfolding counted_by both_of
-  counted rules Z grid e =
-      tested-all (in_grid grid)
-      ∙ ap (told worst_values) (log_same (setting_of F) (in_grid grid) (rules_grant (setting_of F) rules) (λ u r o t. ap (λ (g : List ℕ). in_grid g u r o) e ∙ in_rules F Z rules u r o t) log w)
-
--- THE LAW
-pub counted_means : (file rules log : List ℕ) (w : ℕ) (grid : List ℕ) → GridShown (read_both 2 file rules) grid → denial_numbers (counted_by (both_of (read_both 2 file rules)) grid log w) ≡ told worst_values (denial_answer 2 file rules log w)
-unfolding denial_answer counted_by both_of nothing_read GridShown
-counted_means file rules log w grid e = go (read_both 2 file rules) (both-sound file rules) e
-  where
-    go : (a : Answer (Policy × List Lines)) → Carries Sound a → GridShown a grid
-        → denial_numbers (counted_by (both_of a) grid log w) ≡ told worst_values (and_then a (λ (p : Policy × List Lines). log_answer (setting_of p.0) (rules_grant (setting_of p.0) p.1) log w))
-    go (refused e) z g = rw (ne_eqb (number_of e) 0 (number_positive e)) refl
-    go (accepted p) z g = counted p.0 log w p.1 z.sized grid g
+    -- by a grid of what the rules grant
+    by-rules : (rules : List Lines) → Sized F → (grid : List ℕ) → grid ≡ grid_of F.operations (granted_within F rules) → answer_of (counted_of (in_grid grid) (sizes_of (record_of F)) log w) ≡ map_answer worst_of (log_answer (setting_of F) (rules_grant (setting_of F) rules) log w)
+    by-rules rules Z grid g =
+        tested-all (in_grid grid)
+        ∙ ap (map_answer worst_of) (log_same (setting_of F) (in_grid grid) (rules_grant (setting_of F) rules) (λ u r o t. ap (λ (g : List ℕ). in_grid g u r o) g ∙ in_rules F Z rules u r o t) log w)
 
 -- ---- the answer, by the outcome of each test
 
-module _ (b : BothFiles) (grid log : List ℕ) (w : ℕ) where
-  pub counted-refused : (b.code ≡ 0 → ⊥) → Refused b.code ≡ counted_by b grid log w
-  unfolding counted_by
-  counted-refused h = rw (ne_eqb b.code 0 h) refl
+module _ (file rules log : List ℕ) (w : ℕ) where
+  pub files-refused : (e : Cause) → refused e ≡ map_answer both_of (read_both 2 file rules) → refused e ≡ map_answer worst_of (denial_answer 2 file rules log w)
+  unfolding denial_answer
+  files-refused e h = rw (map-refused both_of e (read_both 2 file rules) h) refl
 
-  pub no_window : b.code ≡ 0 → (leb 1 w && leb w 64) ≡ false → Refused 19 ≡ counted_by b grid log w
-  unfolding counted_by
-  no_window h e = rw (eq-eqb b.code 0 h, e) refl
+  module _ (b : BothFiles) (h : accepted b ≡ map_answer both_of (read_both 2 file rules)) where
+    abbrev both : Accepted file rules b
+    both = both-accepted file rules b h
 
-  pub ragged : b.code ≡ 0 → (leb 1 w && leb w 64) ≡ true → (length log % 3 ≡ 0 → ⊥) → Refused 20 ≡ counted_by b grid log w
-  unfolding counted_by
-  ragged h e d = rw (eq-eqb b.code 0 h, e, ne_eqb (length log % 3) 0 d) refl
+    abbrev policy : Policy
+    policy = both.from.value.0
 
-  pub whole : b.code ≡ 0 → (leb 1 w && leb w 64) ≡ true → length log % 3 ≡ 0 → (x : Denials) → x ≡ counted_of (in_grid grid) (sizes_in b.file) log w → x ≡ counted_by b grid log w
-  unfolding counted_by
-  whole h e d x k = k ∙ sym (rw (eq-eqb b.code 0 h, e, eq-eqb (length log % 3) 0 d) refl)
+    -- of two files that were accepted the log answers
+    by-log : denial_answer 2 file rules log w ≡ log_answer (setting_of policy) (rules_grant (setting_of policy) both.from.value.1) log w
+    unfolding denial_answer
+    by-log = ap (λ (a : Answer (Policy × List Lines)). and_then a (λ (p : Policy × List Lines). log_answer (setting_of p.0) (rules_grant (setting_of p.0) p.1) log w)) both.from.is
+
+    pub no_window : (leb 1 w && leb w 64) ≡ false → refused wrong_window ≡ map_answer worst_of (denial_answer 2 file rules log w)
+    unfolding log_answer
+    no_window e = rw (by-log, e) refl
+
+    pub ragged : (leb 1 w && leb w 64) ≡ true → (length log % 3 ≡ 0 → ⊥) → refused ragged_log ≡ map_answer worst_of (denial_answer 2 file rules log w)
+    unfolding log_answer
+    ragged e d = rw (by-log, e, ne_eqb (length log % 3) 0 d) refl
+
+    file-same : b.file ≡ record_of policy
+    unfolding both_of
+    file-same = ap (λ (c : BothFiles). c.file) both.from.made
+
+    -- the words lent are what the rules grant
+    words-same : (grid : List ℕ) → GridLent (read_both 2 file rules) grid → take (grid_cells policy.operations) grid ≡ grid_of policy.operations (granted_within policy both.from.value.1)
+    unfolding GridLent
+    words-same grid g = subst (λ (a : Answer (Policy × List Lines)). GridLent a grid) both.from.is g
+
+    pub whole : (leb 1 w && leb w 64) ≡ true → length log % 3 ≡ 0 → (grid : List ℕ) → GridLent (read_both 2 file rules) grid
+        → (r : Result Worst Refusal) → r ≡ counted_of (in_grid (take (grid_cells b.file.operations) grid)) (sizes_of b.file) log w → answer_of r ≡ map_answer worst_of (denial_answer 2 file rules log w)
+    unfolding record_of record_with
+    whole e d grid g r k =
+        ap answer_of (k ∙ ap (λ (f : RoleFile). counted_of (in_grid (take (grid_cells f.operations) grid)) (sizes_of f) log w) file-same)
+        ∙ by-rules policy log w e d both.from.value.1 both.sound.sized (take (grid_cells policy.operations) grid) (words-same grid g)
+        ∙ sym (ap (map_answer worst_of) by-log)
 
 -- a window of no records does not fit; of others only the most counts
 pub none-fits : (w : ℕ) → w ≡ 0 → false ≡ (leb 1 w && leb w 64)

@@ -2,15 +2,15 @@
 #![tactic(auto)]
 
 ghost use Rattle.std.specs.Prelude.{leb, length, ◌&&◌, ◌≡◌, ◌≤◌};
-ghost use Rattle.files.specs.Answer.{told};
+ghost use Rattle.files.specs.Answer.{map_answer};
+ghost use Rattle.files.specs.Cause.{answer_of};
 ghost use Rattle.files.specs.Denials.{denial_answer};
-ghost use Rattle.files.specs.Windows.{worst_values};
-ghost use Rattle.log_windows.specs.Counting.{denial_numbers};
+ghost use Rattle.log_windows.specs.Counting.{worst_of};
 ghost use Rattle.role_record.specs.Cells.{most_operations, grid_cells};
 
-use files::refusal;
-use log_windows::Denials;
-use role_record::{RoleFile, Sizes};
+use files::Refusal;
+use log_windows::Worst;
+use role_record::RoleFile;
 
 // A window has no more records than this, and one at least.
 const MOST: usize = 64;
@@ -32,38 +32,26 @@ fn denials_in(
     window: usize,
     listed: &mut [u64],
     grid: &mut [u64],
-) -> Denials
+) -> Result<Worst, Refusal>
     requires { (grid_cells most_operations ≤ length listed.old) × (grid_cells most_operations ≤ length grid.old) }
-    ensures { denial_numbers result
-        ≡ told worst_values
-        (denial_answer 2 file.now rules.now log.now window) }
+    ensures { answer_of result
+        ≡ map_answer worst_of (denial_answer 2 file.now rules.now log.now window) }
 {
-    let b = rule_file::read_into(file, rules, listed, grid);
-    if b.code != 0 {
-        return Denials::Refused(b.code);
-    }
+    let b = rule_file::read_into(file, rules, listed, grid)?;
     if !fits(window) {
-        return Denials::Refused(refusal::WRONG_WINDOW);
+        return Err(Refusal::WrongWindow);
     }
     if log.len() % log_records::BYTES != 0 {
-        return Denials::Refused(refusal::RAGGED_LOG);
+        return Err(Refusal::RaggedLog);
     }
-    let f = b.file;
-    let sizes = Sizes {
-        users: f.users,
-        resources: f.resources,
-        operations: f.operations,
-        roles: f.roles,
-    };
-    let words = RoleFile::USERS * f.operations;
-    log_windows::count(&grid[0..words], sizes, log, window)
+    let words = RoleFile::USERS * b.file.operations;
+    log_windows::count(&grid[0..words], b.file.sizes(), log, window)
 }
 
 // Any window and any log may be handed in: what is refused of them is refused after both files.
-pub fn denials(file: &[u8], rules: &[u8], log: &[u8], window: usize) -> Denials
-    ensures { denial_numbers result
-        ≡ told worst_values
-        (denial_answer 2 file.now rules.now log.now window) }
+pub fn denials(file: &[u8], rules: &[u8], log: &[u8], window: usize) -> Result<Worst, Refusal>
+    ensures { answer_of result
+        ≡ map_answer worst_of (denial_answer 2 file.now rules.now log.now window) }
 {
     let mut listed = [0u64; RoleFile::USERS * RoleFile::OPERATIONS];
     let mut grid = [0u64; RoleFile::USERS * RoleFile::OPERATIONS];

@@ -4,8 +4,8 @@
 ghost use Rattle.std.specs.Prelude.{length, get_or, cond, ◌≡◌, ◌+◌, ◌*◌, ◌<◌};
 ghost use Rattle.files.specs.Denials.{of_record, denied_by};
 ghost use Rattle.grant_grids.specs.Grid.{in_grid};
-ghost use Rattle.log_records.specs.Records.{in_sizes};
 ghost use Rattle.role_record.specs.Cells.{grid_at};
+ghost use Rattle.role_record.specs.Record.{in_sizes};
 
 use role_record::Sizes;
 
@@ -18,19 +18,6 @@ fn number(byte: u8) -> usize
     byte as usize
 }
 
-// Whether there are the user, the resource and the operation.
-fn inside(user: usize, resource: usize, operation: usize, sizes: Sizes) -> bool
-    ensures { result ≡ in_sizes sizes user resource operation }
-{
-    if sizes.users <= user {
-        return false;
-    }
-    if sizes.resources <= resource {
-        return false;
-    }
-    operation < sizes.operations
-}
-
 // Whether record i is within the sizes.
 pub fn within(log: &[u8], i: usize, sizes: Sizes) -> bool
     requires { 3 * i + 2 < length log.now }
@@ -40,7 +27,7 @@ pub fn within(log: &[u8], i: usize, sizes: Sizes) -> bool
     let user = number(log[at]);
     let resource = number(log[at + 1]);
     let operation = number(log[at + 2]);
-    inside(user, resource, operation, sizes)
+    sizes.has(user, resource, operation)
 }
 
 // 1 where a grid does not have what record i asks for, else 0.

@@ -1,26 +1,26 @@
--- What counting a log comes to, as code hands it back: the number and values of each case; the answer by any grid and sizes.
+-- What counting a log comes to, as code hands it back, by any grid and sizes.
 -- Assumes nothing.
-use Rattle.std.specs.Prelude.{ℕ, ◌-◌, leb, Bool, cond, List, [], ◌∷◌}
+use Rattle.std.specs.Prelude.{ℕ, ◌-◌, leb, Bool, cond, List, [], ◌∷◌, Result, Ok, Err}
 use Rattle.files.specs.Denials.{of_record, record_count, denied_by}
-use Rattle.files.specs.Windows.{Worst, worst}
-use Rattle.log_records.specs.Records.{in_sizes}
+use Rattle.files.specs.Windows.{Worst as WorstWindow, worst}
+use Rattle.files.specs.declared.refusal.Refusal.{Refusal}
+use Rattle.files.specs.declared.refusal.Refusal.TheVariants.{Beyond}
 use Rattle.policy.specs.Rules.{Block}
+use Rattle.role_record.specs.Record.{in_sizes}
 use Rattle.role_record.specs.declared.Sizes.{Sizes}
 use Rattle.sets.specs.Tests.{all, up_to}
-use Rattle.log_windows.specs.declared.Denials.{Denials}
-use Rattle.log_windows.specs.declared.Denials.TheVariants.{Refused, Counted}
+use Rattle.log_windows.specs.declared.Worst.{Worst}
 
--- 0, the most denials and where their window starts; a refusal's number alone
-abbrev pub denial_numbers : Denials → List ℕ
-denial_numbers (Refused n) = n ∷ []
-denial_numbers (Counted m s) = 0 ∷ m ∷ s ∷ []
+-- the worst window, and its values: the most denials, and where it starts
+abbrev pub worst_of : WorstWindow → Worst
+worst_of x = record { most = x.most; start = x.start }
 
-abbrev pub counted_as : Worst → Denials
-counted_as x = Counted x.most x.start
+abbrev pub worst_numbers : Worst → List ℕ
+worst_numbers x = x.most ∷ x.start ∷ []
 
--- every record is within the sizes, and then the worst window; else 5
-unfoldable pub counted_of : Block → Sizes → List ℕ → ℕ → Denials
-counted_of G s log w = cond (all (of_record (in_sizes s) log) (up_to (record_count log))) (counted_as (worst (denied_by G log) (record_count log) w)) (Refused 5)
+-- every record is within the sizes, and then the worst window; else one is beyond them
+unfoldable pub counted_of : Block → Sizes → List ℕ → ℕ → Result Worst Refusal
+counted_of G s log w = cond (all (of_record (in_sizes s) log) (up_to (record_count log))) (Ok (worst_of (worst (denied_by G log) (record_count log) w))) (Err Beyond)
 
 -- what leaves the window of w records when record i comes: 1 for a denial
 unfoldable pub leaving_of : (ℕ → Bool) → ℕ → ℕ → ℕ

@@ -1,23 +1,23 @@
 -- The loop over a log's records: which of them were seen, what they come to so far, and what all come to.
 -- Assumes nothing.
-use Rattle.std.specs.Prelude.{ℕ, ◌+◌, ◌*◌, ◌-◌, ◌≤◌, ◌<◌, min, get_or, Bool, true, false, cond, List, ◌≡◌}
+use Rattle.std.specs.Prelude.{ℕ, ◌+◌, ◌*◌, ◌-◌, ◌≤◌, ◌<◌, min, get_or, Bool, true, false, cond, List, ◌≡◌, Result, Ok, Err}
 use Rattle.std.proofs.Common.{le-leb, sym, ap, ◌∙◌, subst}
 use Rattle.std.proofs.lemmas.Bool.{lt-leb}
 use Rattle.std.proofs.Math.Path.{refl}
 use native.Mathlib.Omega.{arith}
 use Rattle.files.specs.Denials.{of_record, record_count, denied_by}
 use Rattle.files.proofs.WindowLaws.{SoFar, slides, all_seen}
-use Rattle.files.specs.Windows.{plain_count}
+use Rattle.files.specs.Windows.{Worst as WorstWindow, worst_values, plain_count}
+use Rattle.files.specs.declared.refusal.Refusal.TheVariants.{Beyond}
 use Rattle.log_records.specs.RecordLaws.{user-inside, operation-inside}
-use Rattle.log_records.specs.Records.{in_sizes}
 use Rattle.policy.specs.Rules.{Block}
 use Rattle.role_record.specs.Cells.{grid_at, grid_cells}
+use Rattle.role_record.specs.Record.{in_sizes}
 use Rattle.role_record.specs.declared.Sizes.{Sizes}
 use Rattle.sets.specs.LoopLaws.{all_none, all-on, all_found, all_end}
 use Rattle.sets.specs.Tests.{Is, all, up_to}
 use Rattle.sets.specs.TestLaws.{all-out, up_to_in}
-use Rattle.log_windows.specs.Counting.{counted_as, counted_of, leaving_of}
-use Rattle.log_windows.specs.declared.Denials.TheVariants.{Refused, Counted}
+use Rattle.log_windows.specs.Counting.{worst_of, worst_numbers, counted_of, leaving_of}
 
 -- ---- what comes and what leaves
 
@@ -71,12 +71,17 @@ module _ (s : Sizes) (log : List ℕ) where
   -- ---- what is handed back
 
   module _ (G : Block) (w : ℕ) where
-    pub one-beyond : (i : ℕ) → i < record_count log → of_record (in_sizes s) log i ≡ false → Refused 5 ≡ counted_of G s log w
+    pub one-beyond : (i : ℕ) → i < record_count log → of_record (in_sizes s) log i ≡ false → Err Beyond ≡ counted_of G s log w
     unfolding counted_of
     one-beyond i l e = rw (all_found (of_record (in_sizes s) log) i (record_count log) l e) refl
 
-    pub all-counted : (i count most start : ℕ) → Within i → SoFar (denied_by G log) w i count most start → i ≡ record_count log → Counted most start ≡ counted_of G s log w
+    pub all-counted : (i count most start : ℕ) → Within i → SoFar (denied_by G log) w i count most start → i ≡ record_count log → Ok (record { most = most; start = start }) ≡ counted_of G s log w
     unfolding counted_of
     all-counted i count most start h k e =
         rw (all_end (of_record (in_sizes s) log) i (record_count log) h e)
-        (sym (ap counted_as (all_seen (denied_by G log) w i (record_count log) count most start k e)))
+        (sym (ap (λ x. Ok (worst_of x)) (all_seen (denied_by G log) w i (record_count log) count most start k e)))
+
+-- ---- the values of what is handed back
+
+pub worst_told : (x : WorstWindow) → worst_numbers (worst_of x) ≡ worst_values x
+worst_told x = refl

@@ -7,14 +7,14 @@ ghost use Rattle.grant_grids.specs.Grid.{in_grid};
 ghost use Rattle.log_windows.specs.Counting.{leaving_of, counted_of};
 ghost use Rattle.role_record.specs.Cells.{grid_at, grid_cells};
 
-use files::refusal;
+use files::Refusal;
 use role_record::Sizes;
 
-// A refusal's number; or the most denials in a window, and the lowest record from which a window has so many.
-#[derive(Clone, Copy)]
-pub enum Denials {
-    Refused(usize),
-    Counted { most: usize, start: usize },
+// The most denials in a window, and the lowest record from which a window has so many.
+#[derive(Clone, Copy, Debug, PartialEq, Eq)]
+pub struct Worst {
+    pub most: usize,
+    pub start: usize,
 }
 
 // 1 where a denied record leaves the window when record i comes, else 0.
@@ -41,7 +41,7 @@ fn start_of(records: usize, window: usize) -> usize
 
 // By a grid of what is granted. While the log's first window is not full its count is that of a part of it, no more than the whole has, and
 // both start at 0; so no window needs a case of its own, and a log shorter than one is the last of these parts.
-pub fn count(grid: &[u64], sizes: Sizes, log: &[u8], window: usize) -> Denials
+pub fn count(grid: &[u64], sizes: Sizes, log: &[u8], window: usize) -> Result<Worst, Refusal>
     requires { (sizes.users ≤ 64) × (length grid.now ≡ grid_cells sizes.operations) }
     ensures { result ≡ counted_of (in_grid grid.now) sizes log.now window }
 {
@@ -51,7 +51,7 @@ pub fn count(grid: &[u64], sizes: Sizes, log: &[u8], window: usize) -> Denials
     let mut start: usize = 0;
     for i in 0..records {
         if !log_records::within(log, i, sizes) {
-            return Denials::Refused(refusal::BEYOND);
+            return Err(Refusal::Beyond);
         }
         counted = counted + log_records::denied(grid, log, i);
         counted = counted - leaving(grid, log, window, i);
@@ -61,8 +61,5 @@ pub fn count(grid: &[u64], sizes: Sizes, log: &[u8], window: usize) -> Denials
             start = first;
         }
     }
-    Denials::Counted {
-        most: most,
-        start: start,
-    }
+    Ok(Worst { most, start })
 }

@@ -4,11 +4,9 @@
 // line on standard error says so and rules.out stays as it is too.
 #![tactic(auto)]
 
-ghost use Rattle.std.specs.Prelude.{◌≤◌, length};
-ghost use Rattle.mine.specs.Room.{Fits};
+ghost use Rattle.std.specs.Prelude.{◌≤◌, length, IfSome};
 
-use digits::Number;
-use files::refusal;
+use files::Refusal;
 use std::io;
 use write_answer::Mined;
 
@@ -19,13 +17,6 @@ const CUTS: usize = 32;
 // No cut is above this one: a larger number is handed on as the one behind it, the last that a byte holds, and refused as that is.
 const LAST_CUT: u32 = 254;
 
-// What the arguments come to: whether all are numbers, and how many cuts are handed on.
-#[derive(Clone, Copy)]
-struct Cutting {
-    right: bool,
-    count: usize,
-}
-
 fn usage(rt: &HostRuntime) {
     programs::complain(
         rt,
@@ -34,7 +25,7 @@ fn usage(rt: &HostRuntime) {
 }
 
 // The cut that argument i gives.
-fn cut_named(rt: &HostRuntime, i: usize) -> Number {
+fn cut_named(rt: &HostRuntime, i: usize) -> Option<usize> {
     programs::number_named(
         rt,
         b"mine",
@@ -46,7 +37,7 @@ fn cut_named(rt: &HostRuntime, i: usize) -> Number {
 
 // The byte of a cut.
 fn byte_of(cut: usize) -> u8 {
-    if cut < 255 { cut as u8 } else { 255 }
+    cut.min(255) as u8
 }
 
 // Puts a cut behind those that the list has, if it has room.
@@ -61,38 +52,24 @@ fn hold(cuts: &mut [u8], held: usize, cut: u8) -> usize
     held + 1
 }
 
-// The first of the cuts that the arguments give.
-fn cuts_named(rt: &HostRuntime, count: usize, cuts: &mut [u8]) -> Cutting
-    ensures { result.count ≤ length cuts.old }
+// The first of the cuts that the arguments give, if all are numbers, and how many these are.
+fn cuts_named(rt: &HostRuntime, count: usize, cuts: &mut [u8]) -> Option<usize>
+    ensures { IfSome result (λ n. n ≤ length cuts.old) }
 {
     let mut held: usize = 0;
     for i in 1..count {
-        let Number::Given(cut) = cut_named(rt, i) else {
-            return Cutting {
-                right: false,
-                count: 0,
-            };
-        };
+        let cut = cut_named(rt, i)?;
         held = hold(cuts, held, byte_of(cut));
     }
-    Cutting {
-        right: true,
-        count: held,
-    }
+    Some(held)
 }
 
 // Prints the counts and the cost.
-fn print_counts(
-    rt: &impl Print,
-    parts: usize,
-    rules: usize,
-    merges: usize,
-    cost: u64,
-) -> io::Result<()> {
-    programs::say_count(rt, b"parts ", parts)?;
-    programs::say_count(rt, b" rules ", rules)?;
-    programs::say_count(rt, b" merges ", merges)?;
-    programs::say_count(rt, b" cost ", cost as usize)
+fn print_counts(rt: &impl Print, mined: Mined) -> io::Result<()> {
+    programs::say_count(rt, b"parts ", mined.parts)?;
+    programs::say_count(rt, b" rules ", mined.rules)?;
+    programs::say_count(rt, b" merges ", mined.merges)?;
+    programs::say_count(rt, b" cost ", mined.cost as usize)
 }
 
 // Says how long the output would have to be, for whoever has more of it to lend.
@@ -107,34 +84,19 @@ fn tell_length(rt: &HostRuntime, file: &[u8], cuts: &[u8]) {
 }
 
 // Prints the line of a refusal as 01 has it, the number alone; its meaning goes to standard error.
-fn refuse(rt: &HostRuntime, n: usize, file: &[u8], cuts: &[u8]) {
-    programs::end_line(rt, b"mine", programs::say_count(rt, b"refused ", n));
-    programs::complain_refused(rt, b"mine", n);
-    if n == refusal::SHORT_OUTPUT {
+fn refuse(rt: &HostRuntime, refusal: Refusal, file: &[u8], cuts: &[u8]) {
+    let printed = programs::say_count(rt, b"refused ", refusal.number());
+    programs::end_line(rt, b"mine", printed);
+    programs::complain_refused(rt, b"mine", refusal);
+    if refusal == Refusal::ShortOutput {
         tell_length(rt, file, cuts);
     }
 }
 
-// Saves and prints what came of mining the file.
-fn finish(rt: &HostRuntime, mined: Mined, file: &[u8], cuts: &[u8], out: &[u8])
-    requires { Fits mined (length out.now) }
-{
-    match mined {
-        Mined::Refused(n) => {
-            refuse(rt, n, file, cuts);
-        }
-        Mined::Written {
-            length,
-            parts,
-            rules,
-            merges,
-            cost,
-        } => {
-            if programs::save(rt, b"mine", b"rules.out", &out[0..length]) {
-                let printed = print_counts(rt, parts, rules, merges, cost);
-                programs::end_line(rt, b"mine", printed);
-            }
-        }
+// Saves the rules, and prints what is told of them.
+fn finish(rt: &HostRuntime, mined: Mined, bytes: &[u8]) {
+    if programs::save(rt, b"mine", b"rules.out", bytes) {
+        programs::end_line(rt, b"mine", print_counts(rt, mined));
     }
 }
 
@@ -142,26 +104,25 @@ fn finish(rt: &HostRuntime, mined: Mined, file: &[u8], cuts: &[u8], out: &[u8])
 fn mine_file(rt: &HostRuntime, file: &[u8], cuts: &[u8]) {
     let mut scratch = [0u64; mining::SCRATCH];
     let mut out = programs::roles_buffer();
-    let mined = mining::mine(file, cuts, mining::ones(), &mut scratch, &mut out);
-    finish(rt, mined, file, cuts, &out);
+    match mining::mine(file, cuts, mining::ones(), &mut scratch, &mut out) {
+        Ok(mined) => finish(rt, mined, &out[..mined.length]),
+        Err(refusal) => refuse(rt, refusal, file, cuts),
+    }
 }
 
 // Mines what standard input has.
 fn mine_input(rt: &HostRuntime, cuts: &[u8]) {
     let mut input = programs::roles_buffer();
     match programs::read_open(&mut rt.stdin(), &mut input) {
-        Ok(n) => mine_file(rt, &input[0..n], cuts),
+        Ok(n) => mine_file(rt, &input[..n], cuts),
         Err(error) => programs::fail(rt, b"mine", b"cannot read standard input", &error),
     }
 }
 
 fn main(rt: HostRuntime) {
     let mut cuts = [0u8; CUTS];
-    let cutting = cuts_named(&rt, programs::argument_count(&rt), &mut cuts);
-    if !cutting.right {
-        usage(&rt);
-        return;
+    match cuts_named(&rt, programs::argument_count(&rt), &mut cuts) {
+        Some(n) => mine_input(&rt, &cuts[..n]),
+        None => usage(&rt),
     }
-    let n = cutting.count;
-    mine_input(&rt, &cuts[0..n]);
 }

@@ -13,7 +13,7 @@ use Rattle.policy.specs.Covering.{op_in, pair_in, stands_in, fits}
 use Rattle.policy.specs.Policy.{Policy, side_of, setting_of}
 use Rattle.policy.proofs.PolicyLaws.{lawful}
 use Rattle.policy.proofs.RuleLaws.{Lawful, same_out}
-use Rattle.policy.specs.Rules.{Setting, Block, attrs_of, own_at, Triple, Some, user, resource}
+use Rattle.policy.specs.Rules.{Setting, Block, attrs_of, own_at, Triple, NotEmpty, user, resource}
 use Rattle.sets.specs.ListLaws.{all_ext}
 use Rattle.sets.specs.Sets.{narrowing, bit, mask_of, subset}
 use Rattle.sets.specs.MaskLaws.{bit-mask_of, mask_lt, mask_same, empty_law}
@@ -221,7 +221,7 @@ words-paired P Z L B f u r lu lr h =
     and_r (bit (words_of P B).ops t.0) _ (sym (spans-own P Z L B f u r t.0 (record { user = lu; resource = lr; op = t.1 })) ∙ t.2)
 
 -- in the words of a set of triples that is not empty and fits level 3 everybody stands in a pair
-pub words_stand : (P : Setting) → Roomy P → Lawful P → (B : Block) → Some P B → Is (fits P B 3) → Stands P (words_of P B)
+pub words_stand : (P : Setting) → Roomy P → Lawful P → (B : Block) → NotEmpty P B → Is (fits P B 3) → Stands P (words_of P B)
 unfolding words_of
 words_stand P Z L B s f = record {
   by-user = λ u h.
@@ -239,7 +239,7 @@ words_stand P Z L B s f = record {
 }
 
 -- two sets of triples that fit a level together pass the tests
-pub blocks_join : (F : Policy) → Sized F → (A B : Block) → Some (setting_of F) A → Some (setting_of F) B → Is (fits (setting_of F) A 3) → Is (fits (setting_of F) B 3) → (l : ℕ) → Is (fits (setting_of F) (together A B) l)
+pub blocks_join : (F : Policy) → Sized F → (A B : Block) → NotEmpty (setting_of F) A → NotEmpty (setting_of F) B → Is (fits (setting_of F) A 3) → Is (fits (setting_of F) B 3) → (l : ℕ) → Is (fits (setting_of F) (together A B) l)
     → Is (may_join (links_of F) (words_of (setting_of F) A) (words_of (setting_of F) B))
 blocks_join F Z A B a b f g l h =
     fit_joins F Z (words_of (setting_of F) A) (words_of (setting_of F) B) (words_stand (setting_of F) (roomy F Z) (lawful F) A a f) (words_stand (setting_of F) (roomy F Z) (lawful F) B b g)

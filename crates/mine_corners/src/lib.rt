@@ -24,15 +24,7 @@ fn corner_free(links: &Links, atoms: u64, users: u64, resources: u64) -> bool
     if resources == 0 {
         return true;
     }
-    let mut rest = users;
-    while 0 < rest {
-        let u = sets::least(rest);
-        if grant_links::linked(links, atoms, u, resources) != 0 {
-            return false;
-        }
-        rest = sets::without_least(rest);
-    }
-    true
+    sets::members(users).all(|u| grant_links::linked(links, atoms, u, resources) == 0)
 }
 
 // Whether the atoms of both groups join no user of one group only with a resource of the other only.

@@ -13,7 +13,7 @@ use Rattle.files.specs.Calls.{first}
 use Rattle.grant_grids.specs.Grid.{differ_at, difference_of, is_same}
 use Rattle.grant_grids.proofs.GridLaws.{triples-same, same_means}
 use Rattle.policy.proofs.RuleLaws.{same_in, same_out}
-use Rattle.policy.specs.Rules.{Setting, by, same_block, user, resource}
+use Rattle.policy.specs.Rules.{Setting, by, same_block}
 use Rattle.sets.specs.MaskLaws.{mask_lt, bit-low}
 use Rattle.sets.specs.Sets.{bit, subset, mask_of}
 use Rattle.sets.specs.SetLaws.{bit-none, subset-out, subset-self, bit_mask}

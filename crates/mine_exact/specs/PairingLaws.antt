@@ -4,14 +4,13 @@ use Prim.Native.Nat.{ℕ, ◌+◌, ◌≤◌, ◌<◌}
 use Rattle.std.proofs.Common.{eqb-true, inl, inr, ◌∙◌, arith}
 use Rattle.std.proofs.Math.Dec.{eqb}
 use Rattle.std.proofs.Math.Bool.{Bool, false, not, or-false}
-use Rattle.std.specs.Prelude.{true, ◌&&◌, ◌||◌, ◌⊎◌, ◌≡◌}
+use Rattle.std.specs.Prelude.{true, ◌&&◌, ◌||◌, Some, None, ◌⊎◌, ◌≡◌}
 use mathlib.Core.List.{List, map}
 use Rattle.std.proofs.Math.Path.{refl, sym, ap, ap₂}
 use Rattle.files.proofs.CallLaws.{first-none}
 use Rattle.files.specs.Calls.{first}
 use Rattle.grant_grids.specs.Grid.{triple_list, differ_at, difference_of}
 use Rattle.grant_grids.proofs.GridLaws.{UsersPassed, ResourcesPassed, OperationsPassed, user-passed, found}
-use Rattle.grant_grids.specs.declared.Difference.TheVariants.{Same, At}
 use Rattle.grant_links.specs.Linked.{row_of}
 use Rattle.sets.specs.Sets.{bit, mask_of}
 use Rattle.sets.specs.SetLaws.{bit-none, bit_mask}
@@ -120,11 +119,11 @@ module _ (links : List ℕ) (W X : Words) (who what : ℕ) where
   -- the search is left at a difference
   pub beyond-at : (us rs os u r o : ℕ) {d : Bool} → u < us → r < rs → o < os → UsersPassed (covered links W X who what) (grouped links W X) rs os u
       → ResourcesPassed (covered links W X who what) (grouped links W X) os u r → OperationsPassed (covered links W X who what) (grouped links W X) u r o
-      → d ≡ not (iff (covered links W X who what u r o) (grouped links W X u r o)) → d ≡ true → At u r o ≡ difference_of (first_beyond links W X who what us rs os)
+      → d ≡ not (iff (covered links W X who what u r o) (grouped links W X u r o)) → d ≡ true → Some (u, r, o) ≡ difference_of (first_beyond links W X who what us rs os)
   unfolding first_beyond difference_of
   beyond-at us rs os u r o lu lr lo hu hr ho q e = sym (ap difference_of (found (covered links W X who what) (grouped links W X) us rs os u r o lu lr lo hu hr ho (sym q ∙ e)))
 
   -- it ends without one
-  pub beyond-none : (us rs os u : ℕ) → UsersPassed (covered links W X who what) (grouped links W X) rs os u → u ≡ us → Same ≡ difference_of (first_beyond links W X who what us rs os)
+  pub beyond-none : (us rs os u : ℕ) → UsersPassed (covered links W X who what) (grouped links W X) rs os u → u ≡ us → None ≡ difference_of (first_beyond links W X who what us rs os)
   unfolding first_beyond difference_of
   beyond-none us rs os u h e = sym (ap difference_of (ap (λ (x : ℕ). first (differ_at (covered links W X who what) (grouped links W X)) (triple_list x rs os)) (sym e) ∙ h))

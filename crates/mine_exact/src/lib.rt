@@ -8,7 +8,6 @@ ghost use Rattle.sets.specs.Sets.{bit};
 ghost use Rattle.sets.specs.Tests.{iff};
 ghost use Rattle.role_record.specs.Record.{WithinLimits};
 
-use grant_grids::Difference;
 use mine_corners::Group;
 use role_record::{Links, Sizes};
 
@@ -54,7 +53,7 @@ pub fn first_beyond(
     who: u64,
     what: u64,
     sizes: Sizes,
-) -> Difference
+) -> Option<(usize, usize, usize)>
     requires { WithinLimits sizes
         × OthersSame links.now (words_in g) (words_in h) among who what sizes.users }
     ensures { result
@@ -80,12 +79,12 @@ pub fn first_beyond(
             for r in 0..sizes.resources {
                 for o in 0..sizes.operations {
                     if differ_at(all, c, g.operations, a, h.operations, b, r, o) {
-                        break 'triples Difference::At(u, r, o);
+                        break 'triples Some((u, r, o));
                     }
                 }
             }
         }
-        break 'triples Difference::Same;
+        break 'triples None;
     }
 }
 
@@ -106,11 +105,7 @@ pub fn grants_just(
         ≡ covers_just links.now (words_in g) (words_in h) who what sizes.users sizes.resources
         sizes.operations }
 {
-    let difference = first_beyond(links, g, h, among, who, what, sizes);
-    match difference {
-        Difference::Same => true,
-        Difference::At(_, _, _) => false,
-    }
+    first_beyond(links, g, h, among, who, what, sizes).is_none()
 }
 
 // Whom the covering rule of two groups that may become one may grant more than they have: the users of a group with atoms that the other

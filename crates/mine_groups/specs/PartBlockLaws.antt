@@ -11,7 +11,7 @@ use Rattle.policy.specs.Mined.{part_count, part_at, part_block}
 use Rattle.policy.proofs.PartLaws.{part-some, part-fits}
 use Rattle.policy.specs.Policy.{Policy, setting_of, roles_in}
 use Rattle.policy.proofs.PolicyLaws.{lawful, owned}
-use Rattle.policy.specs.Rules.{Some}
+use Rattle.policy.specs.Rules.{NotEmpty}
 use Rattle.policy.proofs.ThinLaws.{cover-at, at-3}
 use Rattle.sets.specs.Tests.{Is, up_to}
 use Rattle.sets.specs.TestLaws.{or_l, any_out}
@@ -27,7 +27,7 @@ module _ (F : Policy) where
   block-fits i h = part-fits (setting_of F) (roles_in F) (lawful F) (owned F) (part_at (setting_of F) (roles_in F) i) (part_in (setting_of F) (roles_in F) i h)
 
   -- it is not empty
-  pub block-some : (i : ℕ) → i < part_count (setting_of F) (roles_in F) → Some (setting_of F) (blocks_of F i)
+  pub block-some : (i : ℕ) → i < part_count (setting_of F) (roles_in F) → NotEmpty (setting_of F) (blocks_of F i)
   unfolding part_block
   block-some i h = part-some (setting_of F) (roles_in F) (part_in (setting_of F) (roles_in F) i h)
 
@@ -47,5 +47,5 @@ module _ (F : Policy) where
       exact-fits (setting_of F) (lawful F) B 3 (cover (setting_of F) B t.0) (at-3 (setting_of F) t.0 (cover (setting_of F) B t.0) (cover-at (setting_of F) B t.0)) (fits-exact (setting_of F) (lawful F) B t.0 t.2)
 
   -- a group that takes in another is not empty if it was not
-  pub merged_some : (g h : List ℕ) → Some (setting_of F) (union (setting_of F) (blocks_of F) g) → Some (setting_of F) (union (setting_of F) (blocks_of F) (g ++ h))
+  pub merged_some : (g h : List ℕ) → NotEmpty (setting_of F) (union (setting_of F) (blocks_of F) g) → NotEmpty (setting_of F) (union (setting_of F) (blocks_of F) (g ++ h))
   merged_some g h s = rw (union-joined (setting_of F) (blocks_of F) g h) (record { u = s.u; r = s.r; o = s.o; triple = s.triple; inside = or_l _ s.inside })

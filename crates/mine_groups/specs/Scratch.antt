@@ -7,7 +7,7 @@ use Rattle.policy.specs.Covering.{fits, level_of}
 use Rattle.policy.specs.Merging.{union}
 use Rattle.policy.specs.Mined.{part_count, part_at, part_block, mined_groups}
 use Rattle.policy.specs.Policy.{Policy, setting_of, roles_in}
-use Rattle.policy.specs.Rules.{Block, Some}
+use Rattle.policy.specs.Rules.{Block, NotEmpty}
 use Rattle.mine_parts.specs.Layout.{room_in, rest_at, level_in, head_in, role_at, named_at, words_at, is_head_at}
 use Rattle.sets.specs.Tests.{Is, elem}
 
@@ -24,7 +24,7 @@ module _ (F : Policy) where
     pub words : (i : ℕ) → i < parts → Is (s.alive i) → words_at t i ≡ words_of (setting_of F) (union (setting_of F) blocks_of (s.group i))
     pub level : (i : ℕ) → i < parts → Is (s.alive i) → level_in (rest_at t i) ≡ level_of (setting_of F) (union (setting_of F) blocks_of (s.group i))
     pub fitting : (i : ℕ) → i < parts → Is (s.alive i) → Is (fits (setting_of F) (union (setting_of F) blocks_of (s.group i)) 3)
-    pub filled : (i : ℕ) → i < parts → Is (s.alive i) → Some (setting_of F) (union (setting_of F) blocks_of (s.group i))
+    pub filled : (i : ℕ) → i < parts → Is (s.alive i) → NotEmpty (setting_of F) (union (setting_of F) blocks_of (s.group i))
     pub members : (i k : ℕ) → i < parts → k < parts → Is (s.alive i) → elem k (s.group i) ≡ eqb (head_in (rest_at t k)) i
     pub low : (i k : ℕ) → i < parts → Is (s.alive i) → Is (elem k (s.group i)) → k < parts
 

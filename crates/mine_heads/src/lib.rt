@@ -2,7 +2,7 @@
 // k % 64 of word k / 64.
 #![tactic(auto)]
 
-ghost use Rattle.std.specs.Prelude.{ltb, length, ◌&&◌, ◌≡◌, ℕ, ◌+◌, ◌*◌, ◌-◌, ◌≤◌, ◌<◌, min};
+ghost use Rattle.std.specs.Prelude.{ltb, ◌&&◌, ◌≡◌, ℕ, ◌+◌, ◌*◌, ◌-◌, ◌≤◌, ◌<◌, min};
 ghost use Rattle.mine_heads.specs.Heads.{mark_words, is_marked, Marked, Open, unmarked};
 ghost use Rattle.mine_corners.specs.Pairing.{words_in, reaches};
 ghost use Rattle.mine_parts.specs.Layout.{most_parts, room_in, words_at, is_head_at};
@@ -52,9 +52,9 @@ fn heads_in(scratch: &[u64], before: usize, word: usize) -> u64
     m
 }
 
-// Marks every head of a window, whatever the table held: bit k % 64 of word k / 64. A slice, since only a slice tells its length to a proof.
-pub fn mark(scratch: &[u64], window: Window, heads: &mut [u64])
-    requires { (length heads.old ≡ mark_words) × (window.end ≤ room_in scratch.now) }
+// Marks every head of a window, whatever the table held: bit k % 64 of word k / 64.
+pub fn mark(scratch: &[u64], window: Window, heads: &mut Marks)
+    requires { window.end ≤ room_in scratch.now }
     ensures { Marked window.first window.end heads.new scratch.now }
 {
     for word in 0..WORDS {
@@ -96,18 +96,6 @@ fn reaching(scratch: &[u64], marked: u64, word: usize, g: Group) -> u64
     m
 }
 
-// Into a slice, since only a slice tells its length to a proof.
-fn fill_open(scratch: &[u64], window: Window, heads: &Marks, c: usize, ready: &mut [u64])
-    requires { (c < window.end) × (window.end ≤ room_in scratch.now) × (length ready.old ≡ mark_words)
-        × Marked window.first window.end heads.now scratch.now }
-    ensures { Open window.first window.end ready.new scratch.now c }
-{
-    let g = mine_parts::group_at(scratch, c);
-    for word in 0..WORDS {
-        ready[word] = reaching(scratch, heads[word], word, g);
-    }
-}
-
 // Marks the heads of a window that reach part c's group, whatever the table held: no other of them can be joined with it.
 pub fn mark_open(scratch: &[u64], window: Window, heads: &Marks, c: usize, ready: &mut Marks)
     requires { (c < window.end)
@@ -115,5 +103,8 @@ pub fn mark_open(scratch: &[u64], window: Window, heads: &Marks, c: usize, ready
         × Marked window.first window.end heads.now scratch.now }
     ensures { Open window.first window.end ready.new scratch.now c }
 {
-    fill_open(scratch, window, heads, c, ready);
+    let g = mine_parts::group_at(scratch, c);
+    for word in 0..WORDS {
+        ready[word] = reaching(scratch, heads[word], word, g);
+    }
 }

@@ -17,22 +17,14 @@ fn known_at(users: usize, resources: usize, known: &ByAttribute, place: usize) -
     )
 }
 
-// Into a slice, since only a slice tells its length to a proof.
-fn fill_known(users: usize, resources: usize, known: &ByAttribute, out: &mut [u64])
-    requires { (users ≤ 64) × (resources ≤ 64) × (length out.old ≡ 14) }
-    ensures { out.new ≡ known_places users resources known.now }
-{
-    for i in 0..RoleFile::PLACES {
-        out[i] = known_at(users, resources, known, i);
-    }
-}
-
 // Who knows the attribute of each place, whatever the table held.
 pub fn known_places(users: usize, resources: usize, known: &ByAttribute, out: &mut ByPlace)
     requires { (users ≤ 64) × (resources ≤ 64) }
     ensures { out.new ≡ known_places users resources known.now }
 {
-    fill_known(users, resources, known, out);
+    for i in 0..RoleFile::PLACES {
+        out[i] = known_at(users, resources, known, i);
+    }
 }
 
 // Who meets a conjunct of the values of these members at a place.

@@ -27,7 +27,7 @@ use Rattle.policy.specs.Merging.{union}
 use Rattle.policy.specs.Mined.{part_count, part_at, part_block}
 use Rattle.policy.specs.Policy.{Policy, setting_of, roles_in}
 use Rattle.policy.specs.Roles.{Part, parts}
-use Rattle.policy.specs.Rules.{Block, Some}
+use Rattle.policy.specs.Rules.{Block, NotEmpty}
 use Rattle.role_record.specs.Record.{Sized, record_of}
 use Rattle.sets.specs.MaskLaws.{mask_lt}
 use Rattle.sets.specs.Tests.{Is, ◌is_in◌, elem}
@@ -65,7 +65,7 @@ module _ (F : Policy) (Z : Sized F) {links matches known attributes holders perm
   here-fits : (k : ℕ) → k < n → Is (fits (setting_of F) (block k) 3)
   here-fits k h = rw (one_block F k) (block-fits F k (below k h))
 
-  here-some : (k : ℕ) → k < n → Some (setting_of F) (block k)
+  here-some : (k : ℕ) → k < n → NotEmpty (setting_of F) (block k)
   here-some k h = rw (one_block F k) (block-some F k (below k h))
 
   here-level : (k : ℕ) → k < n → level_for links matches known attributes holders permissions users resources operations (part k) ≡ level_of (setting_of F) (block k)

@@ -12,7 +12,7 @@ use Rattle.mine_join.specs.Joins.{Joined}
 use Rattle.policy.specs.Covering.{fits, level_of}
 use Rattle.policy.specs.Merging.{union, mergeable}
 use Rattle.policy.specs.Policy.{Policy, setting_of}
-use Rattle.policy.specs.Rules.{Block, Some}
+use Rattle.policy.specs.Rules.{Block, NotEmpty}
 use Rattle.mine_parts.specs.Layout.{rest_at, atoms_in, level_in, head_in, words_at, is_head_at}
 use Rattle.mine_parts.specs.LayoutLaws.{named-same}
 use Rattle.sets.specs.TestLaws.{or_l, or_r, or_out, never, test}
@@ -71,7 +71,7 @@ module _ (F : Policy) (Z : Sized F) (parts : ℕ) (t u : List ℕ) (s : Groups (
       ∙ sym (words-joined (setting_of F) (roomy F Z) (block (s.group i)) (block (s.group j)))
       ∙ ap (words_of (setting_of F)) (sym (union-joined (setting_of F) (blocks_of F) (s.group i) (s.group j)))
 
-  filled-both : Some (setting_of F) (block (s.group i ++ s.group j))
+  filled-both : NotEmpty (setting_of F) (block (s.group i ++ s.group j))
   filled-both = merged_some F (s.group i) (s.group j) (S.filled i first_below first-alive)
 
   -- a head names itself
@@ -150,7 +150,7 @@ module _ (F : Policy) (Z : Sized F) (parts : ℕ) (t u : List ℕ) (s : Groups (
     words = λ k h a. each_after (λ k g. k < parts → words_at u k ≡ words_of (setting_of F) (block g)) (λ h. words-both) (λ k di dj b h. words-other k di dj ∙ S.words k h b) k a h;
     level = λ k h a. each_after (λ k g. k < parts → level_in (rest_at u k) ≡ level_of (setting_of F) (block g)) (λ h. J.level-set ∙ right) (λ k di dj b h. ap level_in (J.others k di dj) ∙ S.level k h b) k a h;
     fitting = λ k h a. each_after (λ k g. k < parts → Is (fits (setting_of F) (block g) 3)) (λ h. merged-fits F (s.group i) (s.group j) merged) (λ k di dj b h. S.fitting k h b) k a h;
-    filled = λ k h a. each_after (λ k g. k < parts → Some (setting_of F) (block g)) (λ h. filled-both) (λ k di dj b h. S.filled k h b) k a h;
+    filled = λ k h a. each_after (λ k g. k < parts → NotEmpty (setting_of F) (block g)) (λ h. filled-both) (λ k di dj b h. S.filled k h b) k a h;
     earlier = shown-earlier;
     members = shown-members;
     low = λ a k h p. each_after (λ a g. a < parts → Is (elem k g) → k < parts) (λ h q. either k (or_out (elem k (s.group i)) (elem k (s.group j)) (sym (elem-append k (s.group i) (s.group j)) ∙ q))) (λ a di dj b h. S.low a k h b) a p h;

@@ -7,7 +7,7 @@ use Rattle.policy.specs.Covering.{fits, level_of}
 use Rattle.policy.specs.Merging.{union}
 use Rattle.policy.specs.Mined.{part_count, part_at}
 use Rattle.policy.specs.Policy.{Policy, setting_of, roles_in}
-use Rattle.policy.specs.Rules.{Some}
+use Rattle.policy.specs.Rules.{NotEmpty}
 use Rattle.mine_parts.specs.Layout.{rest_at, level_in, head_in, named_at, words_at, is_head_at}
 use Rattle.sets.specs.Tests.{Is, elem}
 use Rattle.mine_groups.specs.Scratch.{blocks_of}
@@ -25,7 +25,7 @@ module _ (F : Policy) where
     pub words : (i : ℕ) → i < parts → Is (s.alive i) → words_at t i ≡ words_of (setting_of F) (union (setting_of F) (blocks_of F) (s.group i))
     pub level : (i : ℕ) → i < parts → Is (s.alive i) → level_in (rest_at t i) ≡ level_of (setting_of F) (union (setting_of F) (blocks_of F) (s.group i))
     pub fitting : (i : ℕ) → i < parts → Is (s.alive i) → Is (fits (setting_of F) (union (setting_of F) (blocks_of F) (s.group i)) 3)
-    pub filled : (i : ℕ) → i < parts → Is (s.alive i) → Some (setting_of F) (union (setting_of F) (blocks_of F) (s.group i))
+    pub filled : (i : ℕ) → i < parts → Is (s.alive i) → NotEmpty (setting_of F) (union (setting_of F) (blocks_of F) (s.group i))
     pub earlier : (k : ℕ) → k < parts → head_in (rest_at t k) ≤ k
     pub members : (i k : ℕ) → i < parts → k < parts → Is (s.alive i) → elem k (s.group i) ≡ traced_to t (s.group i) i k
     pub low : (i k : ℕ) → i < parts → Is (s.alive i) → Is (elem k (s.group i)) → k < parts

@@ -9,7 +9,6 @@ ghost use Rattle.sets.specs.Tests.{iff};
 ghost use Rattle.mine_rows.specs.Others.{first_other};
 ghost use Rattle.mine_rows.specs.Others.{no_other};
 
-use grant_grids::Difference;
 use mine_corners::Group;
 use role_record::{Links, Sizes};
 
@@ -30,7 +29,7 @@ pub fn first_other(
     who: u64,
     what: u64,
     sizes: Sizes,
-) -> Difference
+) -> Option<(usize, usize, usize)>
     requires { sizes.users ≤ 64 }
     ensures { result
         ≡ difference_of
@@ -48,12 +47,12 @@ pub fn first_other(
             for r in 0..sizes.resources {
                 for o in 0..sizes.operations {
                     if differ_at(g.operations, c, a, r, o) {
-                        break 'triples Difference::At(u, r, o);
+                        break 'triples Some((u, r, o));
                     }
                 }
             }
         }
-        break 'triples Difference::Same;
+        break 'triples None;
     }
 }
 
@@ -64,9 +63,5 @@ pub fn no_other(links: &Links, g: Group, atoms: u64, who: u64, what: u64, sizes:
         ≡ no_other links.now (words_in g) atoms who what sizes.users sizes.resources
         sizes.operations }
 {
-    let difference = first_other(links, g, atoms, who, what, sizes);
-    match difference {
-        Difference::Same => true,
-        Difference::At(_, _, _) => false,
-    }
+    first_other(links, g, atoms, who, what, sizes).is_none()
 }

@@ -16,7 +16,7 @@ use Rattle.policy.specs.Covering.{stands_in, fits, level_of}
 use Rattle.policy.specs.Merging.{union, mergeable}
 use Rattle.policy.specs.Policy.{Policy, side_of, setting_of}
 use Rattle.policy.proofs.PolicyLaws.{lawful}
-use Rattle.policy.specs.Rules.{Which, by, Block, attrs_of, own_at, Some, user, resource}
+use Rattle.policy.specs.Rules.{Which, by, Block, attrs_of, own_at, NotEmpty, user, resource}
 use Rattle.sets.specs.LoopLaws.{any_found}
 use Rattle.sets.specs.Lowest.{lowest}
 use Rattle.sets.specs.LowestLaws.{lowest-most, lowest-least, lowest-some}
@@ -210,7 +210,7 @@ module _ (F : Policy) (Z : Sized F) where
       ∙ sym (fits-words (setting_of F) (roomy F Z) (lawful F) A B f g l)
 
   -- the level of two sets of triples together, if they fit one up to a limit
-  pub pair_means : (A B : Block) → Some (setting_of F) A → Some (setting_of F) B → Is (fits (setting_of F) A 3) → Is (fits (setting_of F) B 3) → (limit : ℕ)
+  pub pair_means : (A B : Block) → NotEmpty (setting_of F) A → NotEmpty (setting_of F) B → Is (fits (setting_of F) A 3) → Is (fits (setting_of F) B 3) → (limit : ℕ)
       → pair_level_in F (words_of (setting_of F) A) (words_of (setting_of F) B) limit ≡ level_within (fits (setting_of F) (together A B)) limit
   unfolding pair_level level_within
   pair_means A B a b f g limit =
@@ -221,7 +221,7 @@ module _ (F : Policy) (Z : Sized F) where
       refused q = fails (any (fits (setting_of F) (together A B)) (up_to (suc limit))) (λ h. let t = any_out (fits (setting_of F) (together A B)) (up_to (suc limit)) h in never (blocks_join F Z A B a b f g t.0 t.2) q)
 
   -- THE LAW of two groups: whether they may become one, and the level of the one
-  pub groups_mean : (block : ℕ → Block) (g h : List ℕ) → Some (setting_of F) (union (setting_of F) block g) → Some (setting_of F) (union (setting_of F) block h) → Is (fits (setting_of F) (union (setting_of F) block g) 3) → Is (fits (setting_of F) (union (setting_of F) block h) 3)
+  pub groups_mean : (block : ℕ → Block) (g h : List ℕ) → NotEmpty (setting_of F) (union (setting_of F) block g) → NotEmpty (setting_of F) (union (setting_of F) block h) → Is (fits (setting_of F) (union (setting_of F) block g) 3) → Is (fits (setting_of F) (union (setting_of F) block h) 3)
       → pair_level_in F (words_of (setting_of F) (union (setting_of F) block g)) (words_of (setting_of F) (union (setting_of F) block h)) (max (level_of (setting_of F) (union (setting_of F) block g)) (level_of (setting_of F) (union (setting_of F) block h)))
       ≡ cond (mergeable (setting_of F) block g h) (level_of (setting_of F) (union (setting_of F) block (g ++ h))) 4
   unfolding mergeable level_of level_within

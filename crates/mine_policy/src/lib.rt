@@ -7,7 +7,7 @@ ghost use Rattle.role_record.specs.Record.{Sized, WithinLimits};
 ghost use Rattle.files.specs.Calls.{cuts_ok, mined_bytes};
 ghost use Rattle.policy.specs.Mined.{merge_count};
 ghost use Rattle.policy.specs.Policy.{Policy, setting_of, roles_in};
-ghost use Rattle.write_answer.specs.Stages.{OfRecord, Result, KeptFor, MergedBy};
+ghost use Rattle.write_answer.specs.Stages.{OfRecord, OutcomeFor, KeptFor, MergedBy};
 ghost use Rattle.mine_groups.specs.Scratch.{Merged, all_parts, Stands};
 ghost use Rattle.sets.specs.Tests.{Is};
 
@@ -115,7 +115,7 @@ pub fn mine_record<'a>(
         → OfRecord F known.now values.now kinds.now domains.now
         attributes.now holders.now permissions.now sizes.users
         sizes.resources sizes.operations sizes.roles
-        → Result F cuts.now out.old result.wrote out.new
+        → OutcomeFor F cuts.now out.old result.wrote out.new
         × (result.bytes ≡ length (mined_bytes 2 F cuts.now)) }
 {
     let mut distinct = [0u64; RoleFile::PLACES * RoleFile::MEMBERS];

@@ -1,7 +1,7 @@
 // The conjuncts that the covering rule of a group has, and who meets them.
 #![tactic(auto)]
 
-ghost use Rattle.std.specs.Prelude.{length, ◌≡◌, ◌<◌};
+ghost use Rattle.std.specs.Prelude.{◌≡◌, ◌<◌};
 ghost use Rattle.mine_corners.specs.Pairing.{words_in};
 ghost use Rattle.policy.specs.Rules.{own_at};
 ghost use Rattle.mine_rows.specs.KeptPlaces.{met_at, met_places, allowed_at, conjunct_at, present_places};
@@ -32,21 +32,13 @@ fn met_at(matches: &ByPlaceMember, g: Group, places: u64, place: usize) -> u64
     0
 }
 
-// Into a slice, since only a slice tells its length to a proof.
-fn fill_met<'a>(matches: &'a ByPlaceMember, g: Group, places: u64, out: &mut [u64])
-    requires { length out.old ≡ 14 }
+// Who meets the conjunct of each of these places, whatever the table held.
+pub fn met_places<'a>(matches: &'a ByPlaceMember, g: Group, places: u64, out: &mut ByPlace)
     ensures { out.new ≡ met_places matches.now (words_in g) places }
 {
     for i in 0..RoleFile::PLACES {
         out[i] = met_at(matches, g, places, i);
     }
-}
-
-// Who meets the conjunct of each of these places, whatever the table held.
-pub fn met_places<'a>(matches: &'a ByPlaceMember, g: Group, places: u64, out: &mut ByPlace)
-    ensures { out.new ≡ met_places matches.now (words_in g) places }
-{
-    fill_met(matches, g, places, out);
 }
 
 // Whether a level allows the 255 of the side of a place.

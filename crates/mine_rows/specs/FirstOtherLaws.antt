@@ -1,7 +1,7 @@
 -- The laws of the comparison of a group with a rule: how the search for the first difference goes on.
 -- Assumes nothing.
 use Prim.Native.Nat.{ℕ, ◌+◌, ◌<◌}
-use Rattle.std.specs.Prelude.{Bool, true, ◌&&◌, ◌≡◌}
+use Rattle.std.specs.Prelude.{Bool, true, ◌&&◌, Some, None, ◌≡◌}
 use Rattle.std.proofs.Math.Bool.{false, not}
 use mathlib.Core.List.{List, map}
 use Rattle.std.proofs.Math.Path.{refl, sym, ap}
@@ -10,7 +10,6 @@ use Rattle.files.proofs.CallLaws.{first-none}
 use Rattle.files.specs.Calls.{first}
 use Rattle.grant_grids.specs.Grid.{triple_list, differ_at, difference_of}
 use Rattle.grant_grids.proofs.GridLaws.{UsersPassed, ResourcesPassed, OperationsPassed, user-passed, found}
-use Rattle.grant_grids.specs.declared.Difference.TheVariants.{Same, At}
 use Rattle.mine_corners.specs.Pairing.{table_spans}
 use Rattle.policy.specs.Rules.{Block}
 use Rattle.grant_links.specs.Linked.{row_of}
@@ -54,11 +53,11 @@ module _ (links : List ℕ) (W : Words) (atoms who what : ℕ) where
 
   -- the search is left at a difference
   pub other_at : (us rs os u r o : ℕ) {d : Bool} → u < us → r < rs → o < os → UsersPassed ruled (table_spans links W) rs os u → ResourcesPassed ruled (table_spans links W) os u r → OperationsPassed ruled (table_spans links W) u r o
-      → d ≡ not (iff (ruled u r o) (table_spans links W u r o)) → d ≡ true → At u r o ≡ difference_of (first_other links W atoms who what us rs os)
+      → d ≡ not (iff (ruled u r o) (table_spans links W u r o)) → d ≡ true → Some (u, r, o) ≡ difference_of (first_other links W atoms who what us rs os)
   unfolding first_other difference_of
   other_at us rs os u r o lu lr lo hu hr ho q e = sym (ap difference_of (found ruled (table_spans links W) us rs os u r o lu lr lo hu hr ho (sym q ∙ e)))
 
   -- it ends without one
-  pub other_none : (us rs os u : ℕ) → UsersPassed ruled (table_spans links W) rs os u → u ≡ us → Same ≡ difference_of (first_other links W atoms who what us rs os)
+  pub other_none : (us rs os u : ℕ) → UsersPassed ruled (table_spans links W) rs os u → u ≡ us → None ≡ difference_of (first_other links W atoms who what us rs os)
   unfolding first_other difference_of
   other_none us rs os u h e = sym (ap difference_of (ap (λ (x : ℕ). first (differ_at ruled (table_spans links W)) (triple_list x rs os)) (sym e) ∙ h))

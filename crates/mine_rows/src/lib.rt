@@ -1,7 +1,7 @@
 // What the atoms of a rule join, user by user.
 #![tactic(auto)]
 
-ghost use Rattle.std.specs.Prelude.{length, ◌≡◌, ◌<◌};
+ghost use Rattle.std.specs.Prelude.{◌≡◌, ◌<◌};
 ghost use Rattle.role_record.specs.Record.{table_of};
 ghost use Rattle.mine_corners.specs.Pairing.{words_in};
 ghost use Rattle.sets.specs.Sets.{mask_of};
@@ -11,8 +11,7 @@ use mine_corners::Group;
 use role_record::{ByMember, Links, RoleFile};
 
 // All resources for every user.
-fn widen_rows(out: &mut [u64])
-    requires { length out.old ≡ 64 }
+fn widen_rows(out: &mut ByMember)
     ensures { out.new ≡ table_of 64 (λ u. everything) }
 {
     let all = sets::below(RoleFile::RESOURCES);
@@ -22,8 +21,8 @@ fn widen_rows(out: &mut [u64])
 }
 
 // Of each user's resources those that an atom joins with the user.
-fn narrow_rows(links: &Links, atom: usize, out: &mut [u64])
-    requires { (atom < 36) × (length out.old ≡ 64) }
+fn narrow_rows(links: &Links, atom: usize, out: &mut ByMember)
+    requires { atom < 36 }
     ensures { out.new ≡ narrowed_rows links.now atom out.old }
 {
     for u in 0..RoleFile::MEMBERS {
@@ -31,9 +30,8 @@ fn narrow_rows(links: &Links, atom: usize, out: &mut [u64])
     }
 }
 
-// Into a slice, since only a slice tells its length to a proof.
-fn fill_rows(links: &Links, atoms: u64, out: &mut [u64])
-    requires { length out.old ≡ 64 }
+// The resources that all atoms of a group join with each user, whatever the table held.
+pub fn joined_rows(links: &Links, atoms: u64, out: &mut ByMember)
     ensures { out.new ≡ joined_rows links.now atoms }
 {
     widen_rows(out);
@@ -42,13 +40,6 @@ fn fill_rows(links: &Links, atoms: u64, out: &mut [u64])
         narrow_rows(links, sets::least(rest), out);
         rest = sets::without_least(rest);
     }
-}
-
-// The resources that all atoms of a group join with each user, whatever the table held.
-pub fn joined_rows(links: &Links, atoms: u64, out: &mut ByMember)
-    ensures { out.new ≡ joined_rows links.now atoms }
-{
-    fill_rows(links, atoms, out);
 }
 
 // The group's resources for a user, from the rows.

@@ -128,13 +128,11 @@ fn near_within(scratch: &[u64], end: usize, marked: u64, word: usize, g: Group) 
     ensures { FirstIn end (λ k. bit marked (k % 64) && near_at scratch.now (words_in g) k) (64 * word)
         (64 * word + 64) result }
 {
-    let mut rest = marked;
-    while 0 < rest {
-        let k = 64 * word + sets::least(rest);
+    for i in sets::members(marked) {
+        let k = 64 * word + i;
         if mine_corners::near(g, mine_parts::group_at(scratch, k)) {
             return k;
         }
-        rest = sets::without_least(rest);
     }
     end
 }

@@ -2,7 +2,7 @@
 // its word is joined to the words of all who have the value.
 #![tactic(auto)]
 
-ghost use Rattle.std.specs.Prelude.{length, List, ◌≡◌, ℕ, ◌≤◌, ◌<◌};
+ghost use Rattle.std.specs.Prelude.{List, ◌≡◌, ℕ, ◌≤◌, ◌<◌};
 ghost use Rattle.mine_matches.specs.Matches.{known_places, match_table};
 ghost use Rattle.mine_tables.specs.Matching.{met_by_number};
 ghost use Rattle.grant_joins.specs.Tables.{value_count};
@@ -45,9 +45,9 @@ fn match_place<'a>(
     distinct: &'a ByPlaceMember,
     having: &'a ByPlaceMember,
     place: usize,
-    out: &mut [u64],
+    out: &mut ByPlaceMember,
 )
-    requires { (place < 14) × (length out.old ≡ 896) }
+    requires { place < 14 }
     ensures { out.new
         ≡ match_place distinct.now having.now knowing.now kinds.now place
         out.old }
@@ -65,23 +65,6 @@ fn match_place<'a>(
             word,
             out,
         );
-    }
-}
-
-fn fill_matches<'a>(
-    knowing: &'a ByPlace,
-    kinds: &'a BySide,
-    distinct: &'a ByPlaceMember,
-    having: &'a ByPlaceMember,
-    out: &mut [u64],
-)
-    requires { length out.old ≡ 896 }
-    ensures { out.new
-        ≡ matches_by distinct.now having.now knowing.now kinds.now }
-{
-    role_record::clear(out);
-    for place in 0..RoleFile::PLACES {
-        match_place(knowing, kinds, distinct, having, place, out);
     }
 }
 
@@ -103,5 +86,8 @@ pub fn matches<'a>(
         → having.now ≡ having_table known values holders users resources roles
         → out.new ≡ match_table kinds.now known values holders users resources roles }
 {
-    fill_matches(knowing, kinds, distinct, having, out);
+    role_record::clear(out);
+    for place in 0..RoleFile::PLACES {
+        match_place(knowing, kinds, distinct, having, place, out);
+    }
 }

@@ -41,8 +41,8 @@ module _ (links met : List ℕ) (us rs os : ℕ) (W : Words) (p : ℕ) where
   skipped-to : (n m : ℕ) → n ≤ m → ((k : ℕ) → n ≤ k → k < m → bit p k ≡ false) → thin_to links met us rs os W p m ≡ thin_to links met us rs os W p n
   skipped-to n m l h = let e : m ≡ n + (m - n) = omega arith in ap (thin_to links met us rs os W p) e ∙ skipped n (m - n) (λ k a b. h k a (omega arith))
 
-  pub visit_begin : (m : ℕ) → m ≡ p → Visited links met us rs os W p m m
-  visit_begin m e = record { turns = 0; few = omega arith; so_far = e; left = λ k. ap (λ (x : ℕ). bit x k) e ∙ sym (ap (λ (b : Bool). not b && bit p k) (le-ltb k 0 (omega arith))) }
+  pub visit_begin : (rest kept : ℕ) → rest ≡ kept → kept ≡ p → Visited links met us rs os W p rest kept
+  visit_begin rest kept r e = record { turns = 0; few = omega arith; so_far = e; left = λ k. ap (λ (x : ℕ). bit x k) (r ∙ e) ∙ sym (ap (λ (b : Bool). not b && bit p k) (le-ltb k 0 (omega arith))) }
 
   module _ (rest kept : ℕ) (v : Visited links met us rs os W p rest kept) where
     -- a place after the turns is one of those left

@@ -2,11 +2,12 @@
 // the resources with theirs, and the 36 atoms. One place after the other is struck if the rule still grants just the group's triples.
 #![tactic(auto)]
 
-ghost use Rattle.std.specs.Prelude.{◌≡◌, ◌≤◌, ◌<◌};
-ghost use Rattle.mine_corners.specs.Pairing.{words_in};
+ghost use Rattle.std.specs.Prelude.{eqb, ◌≡◌, ◌≤◌, ◌<◌};
+ghost use Rattle.grant_links.specs.Linked.{linked_with};
+ghost use Rattle.mine_corners.specs.Pairing.{words_in, less};
 ghost use Rattle.sets.specs.Sets.{mask_of};
 ghost use Rattle.mine_rows.specs.KeptPlaces.{grants_same, thin_by, kept_in};
-ghost use Rattle.mine_rows.specs.Rows.{joined_rows, free_corner, free_corners, is_full, adds_none, asks_no_more};
+ghost use Rattle.mine_rows.specs.Rows.{joined_rows, free_corner, free_corners, is_full, row_in, adds_none, asks_no_more};
 
 use mine_corners::Group;
 use role_record::{ByMember, ByPlace, ByPlaceMember, CountBySide, Links, RoleFile, Sizes};
@@ -18,15 +19,7 @@ fn corner_free(rows: &ByMember, users: u64, resources: u64) -> bool
     if resources == 0 {
         return true;
     }
-    let mut rest = users;
-    while 0 < rest {
-        let u = sets::least(rest);
-        if sets::meet(rows[u], resources) != 0 {
-            return false;
-        }
-        rest = sets::without_least(rest);
-    }
-    true
+    sets::members(users).all(|u| sets::meet(rows[u], resources) == 0)
 }
 
 // Whether the group's users have none of the resources that the rule adds, and the users that it adds none at all.
@@ -37,6 +30,23 @@ fn corners_free(rows: &ByMember, g: Group, who: u64, what: u64) -> bool
         return corner_free(rows, sets::without(who, g.users), what);
     }
     false
+}
+
+// Whether these atoms join a user with none of these resources but the group's.
+fn joins_no_other<'a>(
+    links: &'a Links,
+    rows: &'a ByMember,
+    g: Group,
+    atoms: u64,
+    u: usize,
+    what: u64,
+) -> bool
+    requires { u < 64 }
+    ensures { result
+        ≡ eqb (linked_with links.now atoms u (less what (row_in rows.now (words_in g) u))) 0 }
+{
+    let others = sets::without(what, mine_rows::row_in(rows, g, u));
+    grant_links::linked(links, atoms, u, others) == 0
 }
 
 // Whether these atoms join those who meet the rule's conjuncts with none but the group's resources.
@@ -52,16 +62,9 @@ fn adds_none<'a>(
     requires { full ≡ mask_of 64 (is_full rows.now (words_in g)) }
     ensures { result ≡ adds_none links.now rows.now (words_in g) atoms who what }
 {
-    let mut rest = mine_rows::open_users(g, full, who, what);
-    while 0 < rest {
-        let u = sets::least(rest);
-        let others = sets::without(what, mine_rows::row_in(rows, g, u));
-        if grant_links::linked(links, atoms, u, others) != 0 {
-            return false;
-        }
-        rest = sets::without_least(rest);
-    }
-    true
+    sets::members(mine_rows::open_users(g, full, who, what)).all(|u| joins_no_other(
+        links, rows, g, atoms, u, what,
+    ))
 }
 
 // Whether a rule asks no more than a group has: all members of the group meet its conjuncts, its atoms are some of the group's, and the
@@ -158,10 +161,8 @@ pub fn kept_places<'a>(
     mine_rows::joined_rows(links, g.atoms, &mut rows);
     let full = mine_rows::full_users(&rows, g);
     // No place comes in, so those without a condition need no turn.
-    let mut rest = kept;
-    while 0 < rest {
-        kept = thinned(links, &met, &rows, g, full, kept, sets::least(rest), sizes);
-        rest = sets::without_least(rest);
+    for place in sets::members(kept) {
+        kept = thinned(links, &met, &rows, g, full, kept, place, sizes);
     }
     kept
 }

@@ -7,7 +7,7 @@ ghost use Rattle.mine_matches.specs.Matches.{both_members, Met, MemberAdded, Sid
 
 use role_record::{ByAttribute, ByPlaceMember, RoleFile};
 
-// Joins to a table of a side who meets the values that one member has, attribute by attribute. The 255 is left out.
+// Joins to a side's part of the table who meets the values that one member has, attribute by attribute. The 255 is left out.
 fn add_member(matches: &ByPlaceMember, side: usize, member: usize, met: &mut [u64])
     requires { (side < 2) × (member < 64) × (length met.old ≡ 6) }
     ensures { (length met.new ≡ 6)
@@ -21,8 +21,8 @@ fn add_member(matches: &ByPlaceMember, side: usize, member: usize, met: &mut [u6
     }
 }
 
-// Into a slice, since only a slice tells its length to a proof. Member by member and not attribute by attribute: most groups have few
-// members, and the inner loop always takes six turns.
+// The same of some members, into a slice, as a part of the table is lent. Member by member and not attribute by attribute: most groups have
+// few members, and the inner loop always takes six turns.
 fn add_members(matches: &ByPlaceMember, side: usize, members: u64, met: &mut [u64])
     requires { (side < 2) × (length met.old ≡ 6) }
     ensures { (length met.new ≡ 6)
@@ -37,9 +37,8 @@ fn add_members(matches: &ByPlaceMember, side: usize, members: u64, met: &mut [u6
     }
 }
 
-// Into a slice, of which a part can be lent: the users' attributes come first.
-fn add_sides(matches: &ByPlaceMember, users: u64, resources: u64, met: &mut [u64])
-    requires { length met.old ≡ 12 }
+// Makes the table of some users and resources that of these too: the users' attributes come first.
+pub fn widen(matches: &ByPlaceMember, users: u64, resources: u64, met: &mut ByAttribute)
     ensures { (m n : ℕ)
         → SidesMet matches.now m n met.old
         → SidesMet matches.now (both_members m users) (both_members n resources) met.new }
@@ -51,13 +50,4 @@ fn add_sides(matches: &ByPlaceMember, users: u64, resources: u64, met: &mut [u64
         resources,
         &mut met[RoleFile::ATTRIBUTES..RoleFile::SIDES * RoleFile::ATTRIBUTES],
     );
-}
-
-// Makes the table of some users and resources that of these too.
-pub fn widen(matches: &ByPlaceMember, users: u64, resources: u64, met: &mut ByAttribute)
-    ensures { (m n : ℕ)
-        → SidesMet matches.now m n met.old
-        → SidesMet matches.now (both_members m users) (both_members n resources) met.new }
-{
-    add_sides(matches, users, resources, met);
 }

@@ -36,13 +36,10 @@ fn true_of_user(links: &Links, atoms: u64, user: usize, resources: u64) -> u64
     ensures { result ≡ true_of_user links.now atoms user resources }
 {
     let mut m: u64 = 0;
-    let mut rest = atoms;
-    while 0 < rest {
-        let i = sets::least(rest);
+    for i in sets::members(atoms) {
         if sets::within(resources, links[RoleFile::MEMBERS * i + user]) {
             m = sets::with(m, i);
         }
-        rest = sets::without_least(rest);
     }
     m
 }
@@ -57,10 +54,8 @@ pub fn atoms_of<'a>(
     ensures { result ≡ atoms_of links.now attributes.now users resources }
 {
     let mut m = declared(attributes);
-    let mut rest = users;
-    while 0 < rest {
-        m = true_of_user(links, m, sets::least(rest), resources);
-        rest = sets::without_least(rest);
+    for user in sets::members(users) {
+        m = true_of_user(links, m, user, resources);
     }
     m
 }

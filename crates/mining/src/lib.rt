@@ -1,22 +1,22 @@
 // Mining: a role file's rules, written into lent memory.
 #![tactic(auto)]
 
-ghost use Rattle.std.specs.Prelude.{ℕ, ◌≤◌, length, take, ◌≡◌};
+ghost use Rattle.std.specs.Prelude.{ℕ, ◌≤◌, length, take, Err, ◌≡◌};
 ghost use Rattle.mine_parts.specs.Layout.{most_parts, room_in};
-ghost use Rattle.files.specs.Answer.{told, accepted};
-ghost use Rattle.files.specs.Calls.{Counts, count_values, least_scratch, mine_answer, mine_output};
+ghost use Rattle.files.specs.Answer.{map_answer, accepted};
+ghost use Rattle.files.specs.Cause.{answer_of};
+ghost use Rattle.files.specs.Calls.{Counts, least_scratch, mine_answer, mine_output};
 ghost use Rattle.files.specs.Beside.{beside_of};
 ghost use Rattle.files.specs.Demand3.{Demand3};
 ghost use Rattle.files.specs.RoleFile.{read_roles};
 ghost use Rattle.policy.specs.Cost.{four_ones};
 ghost use Rattle.policy.specs.Policy.{Policy};
-ghost use Rattle.write_answer.specs.MinedNumbers.{mined_numbers};
+ghost use Rattle.write_answer.specs.MinedNumbers.{mined_of};
 ghost use Rattle.write_answer.specs.Stages.{bytes_for, needed_bytes, Outcome};
 
-use files::refusal;
+use files::Refusal;
 use policy::Weights;
-use role_record::Sizes;
-use write_answer::{Attempt, Mined, Wrote};
+use write_answer::{Attempt, Mined};
 
 // Words of scratch that a caller has to lend.
 pub const SCRATCH: usize = mine_parts::WORDS;
@@ -36,6 +36,16 @@ pub fn ones() -> Weights
     }
 }
 
+// Where no rule file is made.
+fn nothing(refusal: Refusal) -> Attempt
+    ensures { (result.wrote ≡ Err refusal) × (result.bytes ≡ 0) }
+{
+    Attempt {
+        wrote: Err(refusal),
+        bytes: NO_FILE,
+    }
+}
+
 // Mining, within the runs of roles that the cuts make first, with the words of scratch that it needs, whatever they hold.
 fn mine_in(file: &[u8], cuts: &[u8], scratch: &mut [u64], out: &mut [u8]) -> Attempt
     requires { most_parts ≤ room_in scratch.old }
@@ -44,26 +54,13 @@ fn mine_in(file: &[u8], cuts: &[u8], scratch: &mut [u64], out: &mut [u8]) -> Att
         → Outcome file.now cuts.now n out.old result.wrote out.new)
         × (result.bytes ≡ bytes_for cuts.now (read_roles 2 file.now)) }
 {
-    let l = role_file::read(file);
-    if l.code != 0 {
-        return Attempt {
-            wrote: Wrote::Nothing(l.code),
-            bytes: NO_FILE,
-        };
-    }
-    let f = l.file;
-    if !mine_cuts::legal(cuts, f.roles) {
-        return Attempt {
-            wrote: Wrote::Nothing(refusal::BAD_CUTS),
-            bytes: NO_FILE,
-        };
-    }
-    let sizes = Sizes {
-        users: f.users,
-        resources: f.resources,
-        operations: f.operations,
-        roles: f.roles,
+    let f = match role_file::read(file) {
+        Ok(f) => f,
+        Err(refusal) => return nothing(refusal),
     };
+    if !mine_cuts::legal(cuts, f.roles) {
+        return nothing(Refusal::BadCuts);
+    }
     mine_policy::mine_record(
         &f.known,
         &f.values,
@@ -72,7 +69,7 @@ fn mine_in(file: &[u8], cuts: &[u8], scratch: &mut [u64], out: &mut [u8]) -> Att
         &f.attributes,
         &f.holders,
         &f.permissions,
-        sizes,
+        f.sizes(),
         cuts,
         scratch,
         out,
@@ -87,9 +84,9 @@ pub fn mine(
     weights: Weights,
     scratch: &mut [u64],
     out: &mut [u8],
-) -> Mined
-    ensures { (mined_numbers result
-        ≡ told count_values
+) -> Result<Mined, Refusal>
+    ensures { (answer_of result
+        ≡ map_answer mined_of
         (mine_answer 2 file.now cuts.now weights (length scratch.old)
         (length out.old)))
         × (out.new
@@ -103,12 +100,13 @@ pub fn mine(
         × (read_roles 2 file.now ≡ accepted F)
         × Demand3 2 cuts.now weights (beside_of F) (take c.size out.new) c) }
 {
-    if scratch.len() < SCRATCH {
-        return Mined::Refused(refusal::SMALL_SCRATCH);
+    let small = scratch.len() < SCRATCH;
+    if small {
+        return Err(Refusal::SmallScratch);
     }
     let a = mine_in(file, cuts, &mut scratch[0..mine_parts::WORDS], out);
-    let wrote = a.wrote;
-    write_answer::answer(wrote, weights)
+    let written = a.wrote?;
+    Ok(written.weighed(weights))
 }
 
 // How long the rule file of a role file is, so that output can be found for it; 0 where the role file or the cuts are refused or scratch is below

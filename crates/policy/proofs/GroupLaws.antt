@@ -14,7 +14,7 @@ use Rattle.policy.specs.Covering.{fits, level_of}
 use Rattle.policy.proofs.MergeLaws.{total, Every, Runs, runs_apart, runs_count, runs_total, runs_every, runs_ascending, apart-at}
 use Rattle.policy.specs.Merging.{start_groups, union, mergeable, low_part}
 use Rattle.policy.proofs.RuleLaws.{Lawful}
-use Rattle.policy.specs.Rules.{Setting, Rule, Block, grants, at, rule_level, Some, Same}
+use Rattle.policy.specs.Rules.{Setting, Rule, Block, grants, at, rule_level, NotEmpty, Same}
 use Rattle.policy.proofs.ThinLaws.{written-exact, fits-same, written-level}
 use Rattle.policy.specs.Thinning.{written}
 use Rattle.sets.specs.LowestLaws.{lowest-most, lowest-passes, lowest-some}
@@ -147,13 +147,13 @@ module _ (P : Setting) (block : ℕ → Block) where
         ∙ start-union 0 n u r o
 
     -- no group is empty of triples
-    pub groups-some : ((p : ℕ) → p < n → Some P (block p)) → Every (λ g. Some P (union P block g)) gs
-    groups-some h = runs_every (mergeable P block) ◌++◌ (λ g. Some P (union P block g)) joined mined first
+    pub groups-some : ((p : ℕ) → p < n → NotEmpty P (block p)) → Every (λ g. NotEmpty P (union P block g)) gs
+    groups-some h = runs_every (mergeable P block) ◌++◌ (λ g. NotEmpty P (union P block g)) joined mined first
       where
-        joined : (g k : List ℕ) → Some P (union P block g) → Some P (union P block k) → Is (mergeable P block g k) → Some P (union P block (g ++ k))
+        joined : (g k : List ℕ) → NotEmpty P (union P block g) → NotEmpty P (union P block k) → Is (mergeable P block g k) → NotEmpty P (union P block (g ++ k))
         joined g k s _ _ = record { u = s.u; r = s.r; o = s.o; triple = s.triple; inside = union-append g k s.u s.r s.o ∙ or_l _ s.inside }
 
-        first : Every (λ g. Some P (union P block g)) (start_groups 0 n)
+        first : Every (λ g. NotEmpty P (union P block g)) (start_groups 0 n)
         first g m =
             let t = map-out (λ p. p ∷ []) (from 0 n) m in
             let s = h t.0 (up_to-out n t.1) in

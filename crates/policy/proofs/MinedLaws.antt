@@ -12,7 +12,7 @@ use Rattle.policy.specs.Mined.{part_count, part_at, part_block, mined_groups, me
 use Rattle.policy.proofs.PartLaws.{part-some, Own, part-fits}
 use Rattle.policy.specs.Roles.{Roles, parts, block_of, roles_grant}
 use Rattle.policy.proofs.RuleLaws.{Lawful}
-use Rattle.policy.specs.Rules.{Setting, Rule, grants, at, rule_level, Triple, Some, Same, struck}
+use Rattle.policy.specs.Rules.{Setting, Rule, grants, at, rule_level, Triple, NotEmpty, Same, struck}
 use Rattle.policy.proofs.SegmentLaws.{mined-run}
 use Rattle.policy.proofs.ThinLaws.{written-exact, written-thin, written-level, no_lower}
 use Rattle.policy.specs.Thinning.{thinned, written}
@@ -28,7 +28,7 @@ module _ (P : Setting) (R : Roles) (cuts : List ℕ) where
     pub once : (p : ℕ) → p < part_count P R → total ◌+◌ 0 (times p) (mined_groups P R cuts) ≡ 1
     pub members : (g : List ℕ) → g is_in mined_groups P R cuts → (p : ℕ) → p is_in g → p < part_count P R
     -- a group's block is not empty, and fits its level
-    pub filled : (g : List ℕ) → g is_in mined_groups P R cuts → Some P (group_block P R g)
+    pub filled : (g : List ℕ) → g is_in mined_groups P R cuts → NotEmpty P (group_block P R g)
     pub fitting : (g : List ℕ) → g is_in mined_groups P R cuts → Is (fits P (group_block P R g) (level_of P (group_block P R g)))
     -- a rule grants what its parts do
     pub exact : (g : List ℕ) → g is_in mined_groups P R cuts → Same P (grants P (rule_of P R g)) (group_block P R g)
@@ -53,7 +53,7 @@ module _ (P : Setting) (R : Roles) (cuts : List ℕ) where
     unfolding part_block part_at part_count
     numbered-fits p h = part-fits P R L O (get_or (parts P R) p (record { role = 0; lead = 0 })) (get_d_in (parts P R) (record { role = 0; lead = 0 }) p h)
 
-    numbered-some : (p : ℕ) → p < part_count P R → Some P (part_block P R p)
+    numbered-some : (p : ℕ) → p < part_count P R → NotEmpty P (part_block P R p)
     unfolding part_block part_at part_count
     numbered-some p h = part-some P R (get_d_in (parts P R) (record { role = 0; lead = 0 }) p h)
 
@@ -67,7 +67,7 @@ module _ (P : Setting) (R : Roles) (cuts : List ℕ) where
         any_places (λ p. block_of P R p u r o) (record { role = 0; lead = 0 }) 0 (parts P R) (λ p. get_or (parts P R) p (record { role = 0; lead = 0 }))
         (λ i l. ap (λ (k : ℕ). get_or (parts P R) k (record { role = 0; lead = 0 })) (zero-add i))
 
-    group-some : (g : List ℕ) → g is_in mined_groups P R cuts → Some P (group_block P R g)
+    group-some : (g : List ℕ) → g is_in mined_groups P R cuts → NotEmpty P (group_block P R g)
     unfolding group_block
     group-some = groups-some P (part_block P R) (part_count P R) (mined_groups P R cuts) (merge_count P R cuts) (mined-run P R cuts) numbered-some
 

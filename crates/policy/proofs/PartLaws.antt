@@ -9,7 +9,7 @@ use Rattle.policy.proofs.CoverLaws.{exact-fits}
 use Rattle.policy.specs.Covering.{fits}
 use Rattle.policy.specs.Roles.{Roles, Part, alike, leads, is_part, parts, block_of, roles_grant, some_role_gives}
 use Rattle.policy.proofs.RuleLaws.{Lawful}
-use Rattle.policy.specs.Rules.{own, Setting, Rule, meets, attrs_of, holds, grants, allowed, at, Triple, Some, Same, user, resource, conjunct}
+use Rattle.policy.specs.Rules.{own, Setting, Rule, meets, attrs_of, holds, grants, allowed, at, Triple, NotEmpty, Same, user, resource, conjunct}
 use Rattle.sets.specs.Lowest.{lowest_from}
 use Rattle.sets.specs.LowestLaws.{lowest_from-misses, lowest_from-passes, lowest_from-most}
 use Rattle.sets.specs.Sets.{mask_of}
@@ -107,7 +107,7 @@ module _ (P : Setting) (R : Roles) where
       any_in (λ p. block_of P R p u r o) (first_part k u r o t lk hu ho) (and_in hu (and_in (first_gives k u r o t lk hu ho) (first_alike k u r o t lk hu ho))))
 
   -- a part's block is not empty
-  pub part-some : {p : Part} → p is_in parts P R → Some P (block_of P R p)
+  pub part-some : {p : Part} → p is_in parts P R → NotEmpty P (block_of P R p)
   unfolding is_part leads block_of
   part-some {p} m =
       let t = parts_out m in

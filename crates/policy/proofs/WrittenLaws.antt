@@ -11,7 +11,7 @@ use Rattle.policy.proofs.CoverLaws.{op-in, conjuncts-out, atom_conds-out, cover_
 use Rattle.policy.specs.Covering.{op_in, stands_in, conjuncts, atom_conds, cover, fits, level_of}
 use Rattle.policy.proofs.OrderLaws.{met_says}
 use Rattle.policy.proofs.RuleLaws.{Lawful, grants-cond}
-use Rattle.policy.specs.Rules.{Which, by, Setting, Form, linked, Cond, Block, both, atom_form, holds, allowed, at, well_formed, of_section, Some, user, resource, conjunct, atom}
+use Rattle.policy.specs.Rules.{Which, by, Setting, Form, linked, Cond, Block, both, atom_form, holds, allowed, at, well_formed, of_section, NotEmpty, user, resource, conjunct, atom}
 use Rattle.policy.proofs.SideLaws.{values-out}
 use Rattle.policy.proofs.StrikeLaws.{strike-within}
 use Rattle.policy.proofs.ThinLaws.{at-3, written-exact, written_at}
@@ -75,7 +75,7 @@ module _ (P : Setting) where
   pub written_ops_lt : (B : Block) → (written P B).ops < 2 ^ P.slots
   written_ops_lt B = rw (written-ops B) (mask_lt P.slots (op_in P B))
 
-  pub written_ops_some : (B : Block) → Some P B → 0 < (written P B).ops
+  pub written_ops_some : (B : Block) → NotEmpty P B → 0 < (written P B).ops
   written_ops_some B s = rw (written-ops B) (mask_some P.slots (op_in P B) s.o s.triple.op (op-in P B s.triple s.inside))
 
   -- an atom that holds of somebody has a form
@@ -97,11 +97,11 @@ module _ (P : Setting) where
     unfolding at
     written-allowed c m = all-out (allowed P 3) (at-3 P (level_of P B) (written P B) (written_at P L B fit)) m
 
-    pub written-formed : Some P B → (c : Cond) → c is_in (written P B).conds → Is (well_formed P c)
+    pub written-formed : NotEmpty P B → (c : Cond) → c is_in (written P B).conds → Is (well_formed P c)
     written-formed s c m = holds-formed c s.u s.r (grants-cond P (written P B) s.u s.r s.o (written-exact P L B fit s.u s.r s.o s.triple ∙ s.inside) m)
 
     -- a written rule is a rule of 01's section
-    pub written_of_section : Some P B → Is (of_section P (written P B))
+    pub written_of_section : NotEmpty P B → Is (of_section P (written P B))
     unfolding of_section
     written_of_section s =
         and_in (at-3 P (level_of P B) (written P B) (written_at P L B fit))

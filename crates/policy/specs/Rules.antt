@@ -146,7 +146,7 @@ module _ (P : Setting) where
     pub op : o < P.slots
 
   -- a set of triples is not empty
-  pub record Some (B : Block) : Type 0 where
+  pub record NotEmpty (B : Block) : Type 0 where
     pub u : ℕ
     pub r : ℕ
     pub o : ℕ

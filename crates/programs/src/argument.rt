@@ -10,11 +10,7 @@ use std::rt::Env;
 const NAME_TOO_LONG: i32 = 36;
 
 fn is_given(rt: &HostRuntime, i: usize) -> bool {
-    match rt.arg(i, &mut [0u8; 1]) {
-        Ok(_) => true,
-        Err(FillError::TooLong) => true,
-        Err(FillError::NotPresent) => false,
-    }
+    !matches!(rt.arg(i, &mut [0u8; 1]), Err(FillError::NotPresent))
 }
 
 // How many arguments there are, the program's name among them.
@@ -31,10 +27,7 @@ pub fn argument_count(rt: &HostRuntime) -> usize {
 pub fn read_argument(rt: &HostRuntime, i: usize, text: &mut [u8]) -> usize
     ensures { result ≤ length text.new }
 {
-    match rt.arg(i, text) {
-        Ok(n) => n,
-        Err(_) => 0,
-    }
+    rt.arg(i, text).unwrap_or(0)
 }
 
 // The first bytes of argument i, for one that is too long to be read whole.

@@ -1,5 +1,5 @@
 // Files, read into lent memory.
-ghost use Rattle.std.specs.Prelude.{◌≤◌, ◌≡◌, length, IfOk, IfErr};
+ghost use Rattle.std.specs.Prelude.{◌≤◌, ◌≡◌, length, IfOk, IfErr, IfSome};
 
 use crate::argument::{argument_count, complain_of, fail_long};
 use crate::name::text_of;
@@ -8,33 +8,19 @@ use std::fs::File;
 use std::io::{Read, Result};
 use std::rt::Env;
 
-#[derive(Clone, Copy)]
-pub struct Input {
-    pub failed: bool,
-    pub length: usize,
-}
-
-fn nothing() -> Input
-    ensures { result.length ≡ 0 }
-{
-    Input {
-        failed: true,
-        length: 0,
-    }
-}
-
 // Reads what is open until it ends or fills what is lent. An error is that of the reader; what was read before it stands in what is lent.
 pub fn read_open<R: Read>(from: &mut R, into: &mut [u8]) -> Result<usize>
     ensures ok { IfOk result (λ n. n ≤ length into.new) }
     ensures err { IfErr result (λ e. length into.new ≡ length into.old) }
 {
     let mut at: usize = 0;
+    // no walk over the pieces: a read hands over as many bytes as it likes
     while at < into.len() {
         let more = from.read(&mut into[at..])?;
         if more == 0 {
-            return Ok(at);
+            break;
         }
-        at = at + more;
+        at += more;
     }
     Ok(at)
 }
@@ -47,32 +33,30 @@ fn read_text(rt: &HostRuntime, name: &[u8], into: &mut [u8]) -> Result<usize>
     read_open(&mut file, into)
 }
 
-// Reads the file of this name. Where the system does not open or read it, a line on standard error says so.
-fn read_file(rt: &HostRuntime, program: &[u8], name: &[u8], into: &mut [u8]) -> Input
-    ensures { result.length ≤ length into.new }
+// Reads the file of this name, and answers its length. Where the system does not open or read it, a line on standard error says so, and there
+// is none.
+fn read_file(rt: &HostRuntime, program: &[u8], name: &[u8], into: &mut [u8]) -> Option<usize>
+    ensures { IfSome result (λ n. n ≤ length into.new) }
 {
     match read_text(rt, name, into) {
-        Ok(length) => Input {
-            failed: false,
-            length,
-        },
+        Ok(length) => Some(length),
         Err(error) => {
             fail(rt, program, name, &error);
-            nothing()
+            None
         }
     }
 }
 
 // Reads the file that argument i names.
-pub fn read_named(rt: &HostRuntime, program: &[u8], i: usize, into: &mut [u8]) -> Input
-    ensures { result.length ≤ length into.new }
+pub fn read_named(rt: &HostRuntime, program: &[u8], i: usize, into: &mut [u8]) -> Option<usize>
+    ensures { IfSome result (λ n. n ≤ length into.new) }
 {
     let mut name = [0u8; 4096];
     match rt.arg(i, &mut name) {
         Ok(n) => read_file(rt, program, &name[..n], into),
         Err(_) => {
             fail_long(rt, program, i);
-            nothing()
+            None
         }
     }
 }
@@ -94,50 +78,40 @@ pub fn rules_buffer() -> [u8; 262144]
 // Of a rule file that fills the memory, and so may go on behind it, there is no answer; but a role file that is refused is refused
 // whatever stands in the rule file.
 fn refuse_long(rt: &HostRuntime, program: &[u8], i: usize, file: &[u8]) {
-    let l = role_file::read(file);
-    if l.code != 0 {
-        refuse(rt, program, l.code);
-        return;
+    match role_file::read(file) {
+        Ok(_) => complain_of(
+            rt,
+            program,
+            i,
+            b"the rule file is longer than this program can hold, 262,143 bytes\n",
+        ),
+        Err(refusal) => refuse(rt, program, refusal),
     }
-    complain_of(
-        rt,
-        program,
-        i,
-        b"the rule file is longer than this program can hold, 262,143 bytes\n",
-    );
 }
 
 // Reads the rule file that argument i names, which stands beside this role file.
-pub fn read_rules(rt: &HostRuntime, program: &[u8], i: usize, file: &[u8], into: &mut [u8]) -> Input
-    ensures { result.length ≤ length into.new }
+pub fn read_rules(
+    rt: &HostRuntime,
+    program: &[u8],
+    i: usize,
+    file: &[u8],
+    into: &mut [u8],
+) -> Option<usize>
+    ensures { IfSome result (λ n. n ≤ length into.new) }
 {
-    let read = read_named(rt, program, i, into);
-    if read.failed {
-        return nothing();
-    }
-    if read.length < into.len() {
-        return read;
+    let n = read_named(rt, program, i, into)?;
+    if n < into.len() {
+        return Some(n);
     }
     refuse_long(rt, program, i, file);
-    nothing()
+    None
 }
 
-// What was read of both files.
+// The lengths of both files.
 #[derive(Clone, Copy)]
 pub struct Both {
-    pub failed: bool,
     pub roles: usize,
     pub rules: usize,
-}
-
-fn neither() -> Both
-    ensures { (result.roles ≡ 0) × (result.rules ≡ 0) }
-{
-    Both {
-        failed: true,
-        roles: 0,
-        rules: 0,
-    }
 }
 
 // Reads the role file and the rule file that the arguments name, for a program that takes these two and nothing else; for any others
@@ -148,22 +122,14 @@ pub fn read_both(
     usage: &[u8],
     file: &mut [u8],
     rules: &mut [u8],
-) -> Both
-    ensures { (result.roles ≤ length file.new) × (result.rules ≤ length rules.new) }
+) -> Option<Both>
+    ensures { IfSome result (λ b. (b.roles ≤ length file.new) × (b.rules ≤ length rules.new)) }
 {
     if argument_count(rt) != 3 {
         complain(rt, usage);
-        return neither();
+        return None;
     }
-    let one = read_named(rt, program, 1, file);
-    if one.failed {
-        return neither();
-    }
-    let n = one.length;
-    let two = read_rules(rt, program, 2, &file[0..n], rules);
-    Both {
-        failed: two.failed,
-        roles: n,
-        rules: two.length,
-    }
+    let roles = read_named(rt, program, 1, file)?;
+    let rules = read_rules(rt, program, 2, &file[..roles], rules)?;
+    Some(Both { roles, rules })
 }

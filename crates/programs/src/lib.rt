@@ -10,9 +10,7 @@ mod output;
 mod print;
 
 pub use argument::{argument_count, complain_of, read_argument};
-pub use input::{
-    Both, Input, read_both, read_named, read_open, read_rules, roles_buffer, rules_buffer,
-};
+pub use input::{Both, read_both, read_named, read_open, read_rules, roles_buffer, rules_buffer};
 pub use number::number_named;
 pub use output::save;
 pub use print::{

@@ -69,9 +69,9 @@ fn may_replace(rt: &HostRuntime, program: &[u8], name: &str) -> bool {
 // Writes a number's last six digits to the end of a name.
 fn put_number(number: u32, spare: &mut Spare) {
     let mut rest = number;
-    for i in 0..6usize {
-        spare[16 - i] = b'0' + (rest % 10) as u8;
-        rest = rest / 10;
+    for digit in spare[11..].iter_mut().rev() {
+        *digit = b'0' + (rest % 10) as u8;
+        rest /= 10;
     }
 }
 

@@ -2,6 +2,7 @@
 // cannot, and with `?` nothing is printed behind a failure. Everything else goes to standard error, behind the name of the program; where that
 // cannot be written, there is no place left to say so.
 use answer_words::refusal_words;
+use files::Refusal;
 use std::io::{Cursor, Error, Result, Write};
 use std::str;
 
@@ -34,24 +35,21 @@ fn ended(rt: &impl Print, printed: Result<()>) -> Result<()> {
 
 // Ends the line. Where not all was printed, a line on standard error says so.
 pub fn end_line(rt: &HostRuntime, program: &[u8], printed: Result<()>) {
-    match ended(rt, printed) {
-        Ok(()) => {}
-        Err(error) => fail(rt, program, b"cannot print the answer", &error),
+    if let Err(error) = ended(rt, printed) {
+        fail(rt, program, b"cannot print the answer", &error);
     }
 }
 
 // A refusal, its number and its meaning.
-pub fn say_refusal(rt: &impl Print, n: usize) -> Result<()> {
-    let mut words = [0u8; 160];
-    let length = refusal_words(n, &mut words);
-    say_count(rt, b"refused ", n)?;
+pub fn say_refusal(rt: &impl Print, refusal: Refusal) -> Result<()> {
+    say_count(rt, b"refused ", refusal.number())?;
     say(rt, b": ")?;
-    say(rt, &words[..length])
+    say(rt, refusal_words(refusal))
 }
 
 // The line of a refusal.
-pub fn refuse(rt: &HostRuntime, program: &[u8], n: usize) {
-    end_line(rt, program, say_refusal(rt, n));
+pub fn refuse(rt: &HostRuntime, program: &[u8], refusal: Refusal) {
+    end_line(rt, program, say_refusal(rt, refusal));
 }
 
 // A text on standard error.
@@ -66,11 +64,9 @@ pub fn name_program(rt: &HostRuntime, program: &[u8]) {
 }
 
 // The meaning of a refusal, for a program whose line of a refusal has the number alone.
-pub fn complain_refused(rt: &HostRuntime, program: &[u8], n: usize) {
-    let mut words = [0u8; 160];
-    let length = refusal_words(n, &mut words);
+pub fn complain_refused(rt: &HostRuntime, program: &[u8], refusal: Refusal) {
     name_program(rt, program);
-    complain(rt, &words[..length]);
+    complain(rt, refusal_words(refusal));
     complain(rt, b"\n");
 }
 

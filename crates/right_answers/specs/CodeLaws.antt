@@ -1,17 +1,21 @@
 -- What the code has worked out is what the calls answer; and what a 0 says.
 -- Assumes nothing.
-use Rattle.std.specs.Prelude.{ℕ, ◌<◌, eqb, leb, Bool, ◌&&◌, ◌≡◌}
+use Rattle.std.specs.Prelude.{ℕ, ◌<◌, eqb, leb, Bool, ◌&&◌, ◌≡◌, Result}
+use Rattle.std.specs.Result.{result_and}
 use borrow.Author.Tests.{eq-eqb, ne_eqb, eqb-true, ltb-true, leb-true}
 use Rattle.std.proofs.Math.Dec.{ltb}
 use Rattle.std.proofs.Math.Bool.{true, false}
 use Rattle.std.proofs.Math.Path.{refl, sym, ap₂}
 use Rattle.std.proofs.Common.{ap, ◌∙◌}
 use Rattle.files.specs.Answer.{unless, code_of, wrong_table, beyond, accepted}
-use Rattle.files.proofs.AnswerLaws.{unless-code, unless-passed}
+use Rattle.files.proofs.AnswerLaws.{unless-passed, map-code}
+use Rattle.files.specs.Cause.{answer_of}
 use Rattle.files.specs.Edits.{Edit, may_fill, may_edit}
 use Rattle.right_answers.specs.Codes.{fill_code, edit_code}
-use Rattle.role_admit.specs.Admit.{below_of, sizes_code}
-use Rattle.role_admit.specs.AdmitLaws.{both_tests, limits-code}
+use Rattle.files.specs.declared.refusal.Refusal.{Refusal}
+use Rattle.files.specs.declared.refusal.Refusal.TheVariants.{Beyond}
+use Rattle.role_admit.specs.Admit.{checked, below_of, sizes_admitted}
+use Rattle.role_admit.specs.AdmitLaws.{limits as size_limits}
 use Rattle.role_record.specs.Record.{WithinLimits}
 use Rattle.role_record.specs.declared.Sizes.{Sizes}
 use Rattle.sets.specs.TestLaws.{and_l, and_r, and_three}
@@ -36,6 +40,10 @@ same_code a b true true false = refl
 same_code a b true false z = refl
 same_code a b false y z = refl
 
+-- of sizes that are admitted nothing more is said
+abbrev nothing_more : Sizes → Unit {0}
+nothing_more n = tt
+
 module _ (n : Sizes) (words : ℕ) where
   -- the limits of the sizes
   abbrev limits : Bool
@@ -53,10 +61,11 @@ module _ (n : Sizes) (words : ℕ) where
   unfolding fill_code
   fill_wrong h = rw (ne_eqb words 1024 h) refl
 
-  pub fill_right : (v : ℕ) → words ≡ 1024 → v ≡ sizes_code n.users n.resources n.operations n.roles → v ≡ fill_code n words
+  pub fill_right : (v : Result (Unit {0}) Refusal) → words ≡ 1024 → v ≡ sizes_admitted n → code_of (answer_of v) ≡ fill_code n words
   unfolding fill_code
   fill_right v h e =
-      e ∙ sym (limits-code n.users n.resources n.operations n.roles n)
+      ap (λ (w : Result (Unit {0}) Refusal). code_of (answer_of w)) e
+      ∙ ap code_of (size_limits n.users n.resources n.operations n.roles n) ∙ map-code nothing_more (unless limits beyond (accepted n))
       ∙ sym (ap (λ (b : Bool). code_of (unless b wrong_table (unless limits beyond (accepted n)))) (eq-eqb words 1024 h))
 
   pub fill-code : {A : Type 0} (a : A) → code_of (may_fill words n.users n.resources n.operations n.roles (accepted a)) ≡ fill_code n words
@@ -107,12 +116,17 @@ module _ (n : Sizes) (words : ℕ) where
         go true false z h = refl
         go false y z h = refl
 
-    pub edit_then : (v : ℕ) → fill_code n words ≡ 0 → v ≡ below_of role n.roles (below_of user n.users 0) → v ≡ edit_code n words role user
-    unfolding fill_code edit_code below_of
+    pub edit_then : (v : Result (Unit {0}) Refusal) → fill_code n words ≡ 0 → v ≡ result_and (below_of role n.roles) (below_of user n.users) → code_of (answer_of v) ≡ edit_code n words role user
+    unfolding fill_code edit_code
     edit_then v h e =
-        e ∙ sym (both_tests (ltb role n.roles) (ltb user n.users) 0 5) ∙ sym (unless-code (ltb role n.roles && ltb user n.users) beyond (accepted n))
+        ap (λ (w : Result (Unit {0}) Refusal). code_of (answer_of w)) e ∙ both-below (ltb role n.roles) (ltb user n.users)
         ∙ go (eqb words 1024) limits (both-passed n (eqb words 1024) limits h)
       where
+        both-below : (a b : Bool) → code_of (answer_of (result_and (checked a Beyond) (checked b Beyond))) ≡ code_of (unless (a && b) beyond (accepted n))
+        both-below true true = refl
+        both-below true false = refl
+        both-below false b = refl
+
         go : (x y : Bool) → (x ≡ true) × (y ≡ true)
             → code_of (unless (ltb role n.roles && ltb user n.users) beyond (accepted n)) ≡ code_of (unless x wrong_table (unless y beyond (unless (ltb role n.roles && ltb user n.users) beyond (accepted n))))
         go x y p = rw (p.0, p.1) refl

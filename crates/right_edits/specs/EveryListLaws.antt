@@ -8,7 +8,7 @@ use Rattle.std.proofs.Math.Bool.{true, false, cond, and-false}
 use mathlib.Core.List.{List, [], ◌∷◌}
 use Rattle.std.proofs.Math.Path.{refl, sym, ap, ap₂, subst, fun_ext}
 use Rattle.std.proofs.Common.{◌∙◌, arith}
-use Rattle.files.specs.Answer.{Answer, unless, code_of, left_by, wrong_table, beyond, accepted}
+use Rattle.files.specs.Answer.{Answer, unless, code_of, left_by, wrong_table, beyond, accepted, map_answer}
 use Rattle.files.proofs.BytesLaws.{carried}
 use Rattle.files.specs.Edits.{Edit, may_edit, with_edit, edit_answer, summary_word, summary, edited_by}
 use Rattle.files.specs.RoleFile.{read_roles}
@@ -20,14 +20,13 @@ use Rattle.policy.specs.Rules.{user, resource}
 use Rattle.right_answers.specs.Codes.{edit_code}
 use Rattle.right_answers.specs.CodeLaws.{fill-code, fill_passed, edit-code}
 use Rattle.right_edits.specs.EveryList.{LoadedFrom, EveryList}
-use Rattle.right_edits.specs.Standing.{Standing, standing, sizes_of, holders_of, filled, fill_answer, is_so, changed, edited, standing_answer, after_all}
+use Rattle.right_edits.specs.Standing.{Standing, standing, holders_of, filled, fill_answer, is_so, changed, edited, standing_answer, after_all}
 use Rattle.right_record.specs.Reassigned.{assigned_as, record_as}
 use Rattle.right_words.specs.Rights.{rights_word, rights_table, refreshed}
-use Rattle.role_file.specs.Reading.{loaded_of}
 use Rattle.role_file.specs.SettleLaws.{assigned-shown, seniors-shown, holders-shown}
 use Rattle.role_file.specs.SizedLaws.{accepted-sized}
 use Rattle.role_record.specs.Cells.{permission_at, cell_row, cell_operation, user_cells}
-use Rattle.role_record.specs.Record.{Sized, table_of, known_table, value_table, assigned_table, line_table, permission_table, attribute_table, kind_table, domain_table, record_with, record_of}
+use Rattle.role_record.specs.Record.{Sized, sizes_of, table_of, known_table, value_table, assigned_table, line_table, permission_table, attribute_table, kind_table, domain_table, record_with, record_of}
 use Rattle.role_record.specs.RecordLaws.{table_get, table_ext}
 use Rattle.role_record.specs.declared.RoleFile.{RoleFile}
 use Rattle.role_seniority.specs.Closure.{among, held_table}
@@ -285,10 +284,10 @@ module _ (F : Policy) (Z : Sized F) where
 
 -- a loaded file and its filled table
 begun : (f : RoleFile) (t after : List ℕ) → 0 ≡ code_of (fill_answer f (length t)) → after ≡ left_by t (fill_answer f (length t)) → (file : List ℕ) (F : Policy) → LoadedFrom file F f → Beside (standing f after) F
-unfolding loaded_of fill_answer
+unfolding fill_answer
 begun f t after h q file F l =
     let Z = carried Sized (read_roles 2 file) (accepted-sized file) l.0 in
-    let loaded : f ≡ record_of F = l.1 ∙ ap (λ (r : Answer Policy). (loaded_of r).file) l.0 in
+    let loaded : f ≡ record_of F = let e = l.1 ∙ ap (map_answer record_of) l.0 in cc in
     let long = (fill_passed (sizes_of f) (length t) (sym (fill-code (sizes_of f) (length t) (filled f)) ∙ sym h)).0 in
     record {
       sized = Z;

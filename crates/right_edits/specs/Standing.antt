@@ -6,8 +6,8 @@ use Rattle.files.specs.Answer.{Answer, left_by, accepted}
 use Rattle.files.specs.Edits.{Edit, may_fill, may_edit}
 use Rattle.right_record.specs.Reassigned.{record_as}
 use Rattle.right_words.specs.Rights.{rights_table, refreshed}
+use Rattle.role_record.specs.Record.{sizes_of}
 use Rattle.role_record.specs.declared.RoleFile.{RoleFile}
-use Rattle.role_record.specs.declared.Sizes.{Sizes}
 use Rattle.role_seniority.specs.Closure.{held_table}
 use Rattle.sets.specs.Sets.{bit}
 use Rattle.sets.specs.Tests.{iff}
@@ -19,9 +19,6 @@ pub record Standing : Type 0 where
 
 abbrev pub standing : RoleFile → List ℕ → Standing
 standing f t = record { file = f; table = t }
-
-abbrev pub sizes_of : RoleFile → Sizes
-sizes_of f = record { users = f.users; resources = f.resources; operations = f.operations; roles = f.roles }
 
 -- "Its holders are the users assigned to it or to a senior", worked out from the record's assignments and seniors,
 -- whatever holders it names

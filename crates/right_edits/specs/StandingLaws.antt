@@ -11,10 +11,10 @@ use Rattle.files.proofs.AnswerLaws.{code-kept}
 use Rattle.files.specs.Edits.{Edit}
 use Rattle.right_answers.specs.Codes.{fill_code, edit_code}
 use Rattle.right_answers.specs.CodeLaws.{fill-code, fill_accepted, edit-code, edit_passed, edit_accepted}
-use Rattle.right_edits.specs.Standing.{standing, sizes_of, filled, fill_answer, is_so, changed, edited, standing_answer}
+use Rattle.right_edits.specs.Standing.{standing, filled, fill_answer, is_so, changed, edited, standing_answer}
 use Rattle.right_record.specs.Reassigned.{record_as}
 use Rattle.right_words.specs.Rights.{rights_table, refreshed}
-use Rattle.role_record.specs.Record.{WithinLimits}
+use Rattle.role_record.specs.Record.{WithinLimits, sizes_of}
 use Rattle.role_record.specs.declared.RoleFile.{RoleFile}
 use Rattle.role_seniority.specs.Closure.{held_table}
 use Rattle.sets.specs.Sets.{bit}

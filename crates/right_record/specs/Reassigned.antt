@@ -2,7 +2,7 @@
 -- Assumes nothing.
 use Rattle.std.specs.Prelude.{ℕ, eqb, get_or, Bool, cond, ◌&&◌, List}
 use Rattle.files.specs.Edits.{Edit}
-use Rattle.role_record.specs.Record.{table_of}
+use Rattle.role_record.specs.Record.{table_of, set_assigned, set_derived}
 use Rattle.role_record.specs.declared.RoleFile.{RoleFile}
 use Rattle.role_seniority.specs.Closure.{held_table}
 use Rattle.sets.specs.Sets.{bit, mask_of}
@@ -18,19 +18,4 @@ assigned_as assigned e =
 
 -- the record with these, and with the holders worked out from them
 unfoldable pub record_as : RoleFile → Edit → RoleFile
-record_as f e = record {
-  users = f.users;
-  resources = f.resources;
-  operations = f.operations;
-  roles = f.roles;
-  attributes = f.attributes;
-  kinds = f.kinds;
-  domains = f.domains;
-  known = f.known;
-  values = f.values;
-  assigned = assigned_as f.assigned e;
-  lines = f.lines;
-  permissions = f.permissions;
-  seniors = f.seniors;
-  holders = held_table (assigned_as f.assigned e) f.seniors f.roles;
-}
+record_as f e = let assigned = assigned_as f.assigned e in set_derived (set_assigned f assigned) f.seniors (held_table assigned f.seniors f.roles)

@@ -5,7 +5,7 @@ use Rattle.std.proofs.Common.{eqb-true, length-set, get_or-set_same, get_or-set_
 use Rattle.std.proofs.lemmas.Bool.{eqb-false}
 use Rattle.files.specs.Edits.{Edit}
 use Rattle.right_record.specs.Reassigned.{an_edit, assigned_as, record_as}
-use Rattle.role_record.specs.Record.{table_of}
+use Rattle.role_record.specs.Record.{table_of, set_assigned, set_derived}
 use Rattle.role_record.specs.declared.RoleFile.{RoleFile}
 use Rattle.role_seniority.specs.Closure.{held_table}
 use Rattle.sets.specs.LoopLaws.{table-unique}
@@ -51,6 +51,6 @@ assigned-stored l gives role user v e fits h q =
 
 -- the record put together
 pub record-stored : (f : RoleFile) (e : Edit) (assigned holders : List ℕ) → assigned ≡ assigned_as f.assigned e → holders ≡ held_table assigned f.seniors f.roles
-    → record { users = f.users; resources = f.resources; operations = f.operations; roles = f.roles; attributes = f.attributes; kinds = f.kinds; domains = f.domains; known = f.known; values = f.values; assigned = assigned; lines = f.lines; permissions = f.permissions; seniors = f.seniors; holders = holders } ≡ record_as f e
+    → set_derived (set_assigned f assigned) f.seniors holders ≡ record_as f e
 unfolding record_as
 record-stored f e assigned holders p q = rw (q, p) refl

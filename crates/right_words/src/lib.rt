@@ -16,11 +16,8 @@ fn permitted(held: u64, permissions: &ByRoleOperation, operation: usize) -> u64
     ensures { result ≡ permitted_by held permissions.now operation }
 {
     let mut all: u64 = 0;
-    let mut rest = held;
-    while 0 < rest {
-        let k = sets::least(rest);
+    for k in sets::members(held) {
         all = sets::union(all, permissions[RoleFile::ROLES * operation + k]);
-        rest = sets::without_least(rest);
     }
     all
 }

@@ -4,11 +4,8 @@
 // line on standard error says so and there is no answer.
 #![tactic(auto)]
 
-ghost use Rattle.std.specs.Prelude.{◌≤◌, length};
-
-use digits::Number;
+use files::Refusal;
 use programs::{say, say_count};
-use right_edits::Edited;
 use role_record::{Grid, RoleFile};
 use std::io;
 
@@ -19,74 +16,33 @@ fn usage(rt: &HostRuntime) {
     );
 }
 
-// The edit that an argument asks for, if it is one.
+// An edit that an argument asks for.
 #[derive(Clone, Copy)]
 struct Wanted {
-    right: bool,
     gives: bool,
     role: usize,
     user: usize,
 }
 
-fn no_edit() -> Wanted {
-    Wanted {
-        right: false,
-        gives: false,
-        role: 0,
-        user: 0,
-    }
-}
-
-// Where the first comma of a text stands; its length where there is none.
-fn comma(text: &[u8]) -> usize
-    ensures { result ≤ length text.now }
-{
-    let mut at: usize = 0;
-    while at < text.len() {
-        if text[at] == b',' {
-            return at;
-        }
-        at = at + 1;
-    }
-    at
-}
-
 // ROLE,USER
-fn with_numbers(gives: bool, text: &[u8]) -> Wanted {
-    let at = comma(text);
-    if text.len() <= at {
-        return no_edit();
-    }
-    let Number::Given(role) = digits::number_in(&text[..at], digits::MANY) else {
-        return no_edit();
-    };
-    let Number::Given(user) = digits::number_in(&text[at + 1..], digits::MANY) else {
-        return no_edit();
-    };
-    Wanted {
-        right: true,
-        gives,
-        role,
-        user,
-    }
+fn with_numbers(gives: bool, text: &[u8]) -> Option<Wanted> {
+    let comma = text.iter().position(|c| *c == b',')?;
+    let role = digits::number_in(&text[..comma], digits::MANY)?;
+    let user = digits::number_in(&text[comma + 1..], digits::MANY)?;
+    Some(Wanted { gives, role, user })
 }
 
 // +ROLE,USER or -ROLE,USER
-fn edit_in(text: &[u8]) -> Wanted {
-    if text.len() == 0 {
-        return no_edit();
+fn edit_in(text: &[u8]) -> Option<Wanted> {
+    match text {
+        [b'+', rest @ ..] => with_numbers(true, rest),
+        [b'-', rest @ ..] => with_numbers(false, rest),
+        _ => None,
     }
-    if text[0] == b'+' {
-        return with_numbers(true, &text[1..]);
-    }
-    if text[0] == b'-' {
-        return with_numbers(false, &text[1..]);
-    }
-    no_edit()
 }
 
-// Argument i. One that is too long to be read whole is no edit.
-fn edit_named(rt: &HostRuntime, i: usize) -> Wanted {
+// The edit in argument i. One that is too long to be read whole is no edit.
+fn edit_named(rt: &HostRuntime, i: usize) -> Option<Wanted> {
     let mut text = [0u8; 4096];
     let n = programs::read_argument(rt, i, &mut text);
     edit_in(&text[..n])
@@ -95,8 +51,7 @@ fn edit_named(rt: &HostRuntime, i: usize) -> Wanted {
 // Whether every argument behind the role file is an edit.
 fn all_edits(rt: &HostRuntime, count: usize) -> bool {
     for i in 2..count {
-        let wanted = edit_named(rt, i);
-        if !wanted.right {
+        if edit_named(rt, i).is_none() {
             programs::complain_of(rt, b"rights", i, b"an edit is +ROLE,USER or -ROLE,USER\n");
             return false;
         }
@@ -111,20 +66,28 @@ fn say_argument(rt: &HostRuntime, i: usize) -> io::Result<()> {
     say(rt, &text[..n])
 }
 
-// What an edit has come to: whether the user is assigned to the role now, or the refusal.
-fn say_edit(rt: &HostRuntime, i: usize, wanted: Wanted, code: usize) -> io::Result<()> {
-    say_argument(rt, i)?;
-    say(rt, b": ")?;
-    if code != 0 {
-        programs::say_refusal(rt, code)?;
-        return say(rt, b"\n");
-    }
+// Whether the user is assigned to the role after an edit.
+fn say_assigned(rt: &impl Print, wanted: Wanted) -> io::Result<()> {
     say_count(rt, b"user ", wanted.user)?;
     if wanted.gives {
-        say_count(rt, b" is assigned to role ", wanted.role)?;
-        return say(rt, b"\n");
+        return say_count(rt, b" is assigned to role ", wanted.role);
     }
-    say_count(rt, b" is not assigned to role ", wanted.role)?;
+    say_count(rt, b" is not assigned to role ", wanted.role)
+}
+
+// What the edit of argument i has come to.
+fn say_edit(
+    rt: &HostRuntime,
+    i: usize,
+    wanted: Wanted,
+    edited: Result<(), Refusal>,
+) -> io::Result<()> {
+    say_argument(rt, i)?;
+    say(rt, b": ")?;
+    match edited {
+        Ok(()) => say_assigned(rt, wanted)?,
+        Err(refusal) => programs::say_refusal(rt, refusal)?,
+    }
     say(rt, b"\n")
 }
 
@@ -159,10 +122,14 @@ fn say_word(rt: &impl Print, user: usize, operation: usize, resources: u64) -> i
 // The lines of all that have a right.
 fn say_table(rt: &impl Print, table: &Grid) -> io::Result<()> {
     let mut some = false;
-    for i in 0..right_answers::WORDS {
-        let word = table[i];
-        if word != 0 {
-            say_word(rt, i / RoleFile::OPERATIONS, i % RoleFile::OPERATIONS, word)?;
+    for (i, word) in table.iter().enumerate() {
+        if *word != 0 {
+            say_word(
+                rt,
+                i / RoleFile::OPERATIONS,
+                i % RoleFile::OPERATIONS,
+                *word,
+            )?;
             some = true;
         }
     }
@@ -172,47 +139,53 @@ fn say_table(rt: &impl Print, table: &Grid) -> io::Result<()> {
     say(rt, b"no rights\n")
 }
 
-// One edit. Of a table whose length is in its type, so that the loop below has nothing to say of it.
-fn edit(kept: RoleFile, table: &mut Grid, wanted: Wanted) -> Edited {
-    right_edits::edit(kept, table, wanted.gives, wanted.role, wanted.user)
+// Reads the role file, and fills the table from it.
+fn standing(file: &[u8], table: &mut Grid) -> Result<RoleFile, Refusal> {
+    let f = role_file::read(file)?;
+    right_edits::fill(&f, table)?;
+    Ok(f)
 }
 
-// Fills the table, edits one after the other, and prints.
-fn answer(rt: &HostRuntime, file: &[u8], count: usize) -> io::Result<()> {
-    let l = role_file::read(file);
-    if l.code != 0 {
-        programs::say_refusal(rt, l.code)?;
-        return say(rt, b"\n");
-    }
-    let mut kept = l.file;
-    let mut table = [0u64; right_answers::WORDS];
-    right_edits::fill(kept, &mut table);
+// One edit. Of a table whose length is in its type, so that the loop below has nothing to say of it.
+fn edit(f: &mut RoleFile, table: &mut Grid, wanted: Wanted) -> Result<(), Refusal> {
+    right_edits::edit(f, table, wanted.gives, wanted.role, wanted.user)
+}
+
+// Edits one after the other, and prints what comes of each, and the table.
+fn say_edits(rt: &HostRuntime, loaded: RoleFile, filled: Grid, count: usize) -> io::Result<()> {
+    let mut f = loaded;
+    let mut table = filled;
     for i in 2..count {
-        let wanted = edit_named(rt, i);
-        let edited = edit(kept, &mut table, wanted);
-        kept = edited.file;
-        say_edit(rt, i, wanted, edited.code)?;
+        if let Some(wanted) = edit_named(rt, i) {
+            let edited = edit(&mut f, &mut table, wanted);
+            say_edit(rt, i, wanted, edited)?;
+        }
     }
     say_table(rt, &table)
 }
 
+// Fills the table, edits and prints; or the line of a refusal.
+fn answer(rt: &HostRuntime, file: &[u8], count: usize) -> io::Result<()> {
+    let mut table = [0u64; right_answers::WORDS];
+    match standing(file, &mut table) {
+        Ok(f) => say_edits(rt, f, table, count),
+        Err(refusal) => {
+            programs::say_refusal(rt, refusal)?;
+            say(rt, b"\n")
+        }
+    }
+}
+
 fn main(rt: HostRuntime) {
     let count = programs::argument_count(&rt);
-    if count < 2 {
-        usage(&rt);
-        return;
-    }
-    if !all_edits(&rt, count) {
+    if count < 2 || !all_edits(&rt, count) {
         usage(&rt);
         return;
     }
     let mut file = programs::roles_buffer();
-    let roles = programs::read_named(&rt, b"rights", 1, &mut file);
-    if roles.failed {
-        return;
-    }
-    let k = roles.length;
-    if let Err(error) = answer(&rt, &file[0..k], count) {
-        programs::fail(&rt, b"rights", b"cannot print the answer", &error);
+    if let Some(n) = programs::read_named(&rt, b"rights", 1, &mut file) {
+        if let Err(error) = answer(&rt, &file[..n], count) {
+            programs::fail(&rt, b"rights", b"cannot print the answer", &error);
+        }
     }
 }

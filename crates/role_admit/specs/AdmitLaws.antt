@@ -1,16 +1,20 @@
 -- What the code admits is what the definitions obey.
 -- Assumes nothing.
-use Rattle.std.specs.Prelude.{ℕ, zero, suc, ◌+◌, ◌*◌, ◌%◌, ◌<◌, eqb, ltb, leb, length, get_or, set, Bool, true, false, cond, ◌&&◌, not, ◌≡◌, refl}
-use Rattle.std.proofs.Common.{ltb-true, lt-ltb, le-leb, leb-true, sym, ap, ap₂, ◌∙◌, arith}
-use Rattle.role_admit.specs.Admit.{below_of, first_of, declaring_of, later_of, sizes_code, kind_code, size_of, value_code, permission_code, admit_of}
+use Rattle.std.specs.Prelude.{ℕ, zero, suc, ◌+◌, ◌*◌, ◌%◌, ◌<◌, eqb, ltb, leb, length, get_or, set, Bool, true, false, ◌&&◌, not, ◌≡◌, refl, Result}
+use Rattle.std.specs.Result.{result_and}
+use Rattle.std.proofs.Common.{ltb-true, lt-ltb, le-leb, leb-true, ap, ap₂, ◌∙◌, arith}
+use Rattle.role_admit.specs.Admit.{checked, below_of, sizes_admitted, kind_admitted, size_of, value_admitted, is_first, is_early, operands_admitted, admit_of}
+use Rattle.role_admit.specs.declared.phase.Phase.{Phase as Place}
+use Rattle.role_admit.specs.declared.phase.Phase.TheVariants.{Nothing, Declaring, Telling}
 use Rattle.role_commands.specs.DecodeLaws.{meaning}
 use Rattle.role_commands.specs.declared.Command.{Command}
 use Rattle.role_commands.specs.declared.Command.TheVariants.{Sizes, Declare, Give, Assign, Permit, Line, End}
-use Rattle.files.specs.Answer.{Answer, unless, and_then, code_of, out_of_place, beyond, wrong_kind, refused, accepted}
-use Rattle.files.proofs.AnswerLaws.{unless-code}
+use Rattle.files.specs.Answer.{Answer, unless, map_answer, beyond, wrong_kind, refused, accepted}
+use Rattle.files.specs.Cause.{answer_of}
+use Rattle.files.specs.declared.refusal.Refusal.{Refusal}
+use Rattle.files.specs.declared.refusal.Refusal.TheVariants.{OutOfPlace, Beyond, WrongKind}
 use Rattle.files.specs.RoleFile.{Phase, Loading, blank, side_by, with_kind, with_value, with_assigned, with_permitted, with_line, is_nothing, is_declaring, enter, take_kind, take_value, take_assignment, take_permission, take_line, take_sizes, obey_role, nothing, declaring, telling}
-use Rattle.role_record.specs.declared.Sizes.{Sizes as Counts}
-use Rattle.role_record.specs.Record.{column_side, known_table, attribute_table, kind_table, Sized}
+use Rattle.role_record.specs.Record.{column_side, known_table, attribute_table, kind_table, record_with, record_so_far, Sized}
 use Rattle.role_record.specs.RecordLaws.{table_get, column-side}
 use Rattle.policy.specs.Policy.{Policy, kind_of}
 use Rattle.policy.specs.Rules.{Which, user, resource}
@@ -19,55 +23,63 @@ use Rattle.sets.specs.Sets.{bit, mask_of}
 use Rattle.sets.specs.TestLaws.{test, same}
 use Rattle.sets.specs.Tests.{iff, is_some}
 
-abbrev pub phase_code : Phase → ℕ
-phase_code nothing = 0
-phase_code declaring = 1
-phase_code telling = 2
+-- the code's name of a phase
+abbrev pub phase_of : Phase → Place
+phase_of nothing = Nothing
+phase_of declaring = Declaring
+phase_of telling = Telling
 
--- how many a policy has of each
-abbrev pub sizes_in : Policy → Counts
-sizes_in F = record { users = (F.table user).count; resources = (F.table resource).count; operations = F.operations; roles = F.roles }
+-- that something was accepted, and no more
+abbrev pub passed : {A : Type 0} → Answer A → Answer (Unit {0})
+passed r = map_answer (λ a. tt) r
 
--- ---- codes of answers
+-- ---- tests one after the other
 
-entered-code : (r : Answer Policy) (ph : Phase) → code_of {A = Loading} (and_then r (λ F. accepted (record { phase = ph; policy = F }))) ≡ code_of r
-entered-code (refused e) ph = refl
-entered-code (accepted F) ph = refl
+pub two-tests : {A : Type 0} (a b : Bool) (x : A) → answer_of (result_and (checked a Beyond) (checked b Beyond)) ≡ passed (unless (a && b) beyond (accepted x))
+two-tests true true x = refl
+two-tests true false x = refl
+two-tests false b x = refl
 
-enter-code : (place : Bool) (ph : Phase) (r : Answer Policy) → code_of (enter place ph r) ≡ cond place (code_of r) 4
-enter-code place ph r = unless-code place out_of_place (and_then r (λ F. accepted (record { phase = ph; policy = F }))) ∙ ap (λ (n : ℕ). cond place n 4) (entered-code r ph)
+three-tests : {A : Type 0} (a b c : Bool) (x : A) → answer_of (result_and (checked a Beyond) (result_and (checked b Beyond) (checked c Beyond))) ≡ passed (unless (a && b && c) beyond (accepted x))
+three-tests true true true x = refl
+three-tests true true false x = refl
+three-tests true false c x = refl
+three-tests false b c x = refl
 
--- tests one after the other
-pub both_tests : {A : Type 0} (a b : Bool) (x y : A) → cond (a && b) x y ≡ cond a (cond b x y) y
-both_tests true b x y = refl
-both_tests false b x y = refl
+four-tests : {A : Type 0} (a b c d : Bool) (x : A)
+    → answer_of (result_and (checked a Beyond) (result_and (checked b Beyond) (result_and (checked c Beyond) (checked d Beyond)))) ≡ passed (unless (a && b && c && d) beyond (accepted x))
+four-tests true true true true x = refl
+four-tests true true true false x = refl
+four-tests true true false d x = refl
+four-tests true false c d x = refl
+four-tests false b c d x = refl
 
-at_most : (a b : ℕ) → leb a b ≡ ltb a (suc b)
-at_most a b = same (leb a b) (ltb a (suc b)) (λ h. let k = leb-true a b h in lt-ltb a (suc b) (omega arith)) (λ h. let k = ltb-true a (suc b) h in le-leb a b (omega arith))
+-- the place comes before what is said
+entered : (place : Bool) (ph : Phase) (v : Result (Unit {0}) Refusal) (r : Answer Policy) → answer_of v ≡ passed r → answer_of (result_and (checked place OutOfPlace) v) ≡ passed (enter place ph r)
+entered false ph v r e = refl
+entered true ph v (refused d) e = e
+entered true ph v (accepted F) e = e
 
-is-nothing : (ph : Phase) → is_nothing ph ≡ eqb (phase_code ph) 0
-is-nothing nothing = refl
-is-nothing declaring = refl
-is-nothing telling = refl
+-- ---- places
 
-is-declaring : (ph : Phase) → is_declaring ph ≡ eqb (phase_code ph) 1
-is-declaring nothing = refl
-is-declaring declaring = refl
-is-declaring telling = refl
+stands_first : (ph : Phase) → is_first (phase_of ph) ≡ is_nothing ph
+stands_first nothing = refl
+stands_first declaring = refl
+stands_first telling = refl
 
-first-place : (ph after : Phase) (r : Answer Policy) → code_of (enter (is_nothing ph) after r) ≡ first_of (phase_code ph) (code_of r)
-unfolding first_of
-first-place ph after r = enter-code (is_nothing ph) after r ∙ ap (λ (b : Bool). cond b (code_of r) 4) (is-nothing ph)
+stands_early : (ph : Phase) → is_early (phase_of ph) ≡ is_declaring ph
+stands_early nothing = refl
+stands_early declaring = refl
+stands_early telling = refl
 
-declaring-place : (ph after : Phase) (r : Answer Policy) → code_of (enter (is_declaring ph) after r) ≡ declaring_of (phase_code ph) (code_of r)
-unfolding declaring_of
-declaring-place ph after r = enter-code (is_declaring ph) after r ∙ ap (λ (b : Bool). cond b (code_of r) 4) (is-declaring ph)
+first-place : (ph after : Phase) (v : Result (Unit {0}) Refusal) (r : Answer Policy) → answer_of v ≡ passed r → answer_of (result_and (checked (is_first (phase_of ph)) OutOfPlace) v) ≡ passed (enter (is_nothing ph) after r)
+first-place ph after v r e = ap (λ (b : Bool). answer_of (result_and (checked b OutOfPlace) v)) (stands_first ph) ∙ entered (is_nothing ph) after v r e
 
-later-place : (ph after : Phase) (r : Answer Policy) → code_of (enter (not (is_nothing ph)) after r) ≡ later_of (phase_code ph) (code_of r)
-unfolding later_of
-later-place nothing after r = enter-code false after r
-later-place declaring after r = enter-code true after r
-later-place telling after r = enter-code true after r
+early-place : (ph after : Phase) (v : Result (Unit {0}) Refusal) (r : Answer Policy) → answer_of v ≡ passed r → answer_of (result_and (checked (is_early (phase_of ph)) OutOfPlace) v) ≡ passed (enter (is_declaring ph) after r)
+early-place ph after v r e = ap (λ (b : Bool). answer_of (result_and (checked b OutOfPlace) v)) (stands_early ph) ∙ entered (is_declaring ph) after v r e
+
+later-place : (ph after : Phase) (v : Result (Unit {0}) Refusal) (r : Answer Policy) → answer_of v ≡ passed r → answer_of (result_and (checked (not (is_first (phase_of ph))) OutOfPlace) v) ≡ passed (enter (not (is_nothing ph)) after r)
+later-place ph after v r e = ap (λ (b : Bool). answer_of (result_and (checked (not b) OutOfPlace) v)) (stands_first ph) ∙ entered (not (is_nothing ph)) after v r e
 
 -- ---- each command's own tests
 
@@ -84,7 +96,8 @@ side-kinds F zero h = refl
 side-kinds F (suc zero) h = refl
 side-kinds F (suc (suc n)) h = absurd (omega arith)
 
-side-count : (F : Policy) (side : ℕ) → side < 2 → size_of side (sizes_in F) ≡ (F.table (side_by side)).count
+side-count : (F : Policy) (side : ℕ) → side < 2 → size_of side (record_so_far F) ≡ (F.table (side_by side)).count
+unfolding record_so_far record_with
 side-count F zero h = refl
 side-count F (suc zero) h = refl
 side-count F (suc (suc n)) h = absurd (omega arith)
@@ -96,70 +109,68 @@ column-known F side a x hs ha hx =
     ∙ bit_mask 64 (λ y. is_some ((F.table (column_side (6 * side + a))).value ((6 * side + a) % 6) y)) x hx
     ∙ ap₂ (λ (w : Which) (b : ℕ). is_some ((F.table w).value b x)) (column-side side a hs ha) (let e : (6 * side + a) % 6 ≡ a = omega arith in e)
 
+at_most : (a b : ℕ) → leb a b ≡ ltb a (suc b)
+at_most a b = same (leb a b) (ltb a (suc b)) (λ h. let k = leb-true a b h in lt-ltb a (suc b) (omega arith)) (λ h. let k = ltb-true a (suc b) h in le-leb a b (omega arith))
+
 -- the limits of the sizes
-pub limits-code : {A : Type 0} (u r o k : ℕ) (a : A) → code_of (unless (leb u 64 && leb r 64 && leb o 16 && leb k 32) beyond (accepted a)) ≡ sizes_code u r o k
-unfolding sizes_code below_of
-limits-code u r o k a =
-    unless-code (leb u 64 && leb r 64 && leb o 16 && leb k 32) beyond (accepted a)
-    ∙ both_tests (leb u 64 && leb r 64 && leb o 16) (leb k 32) 0 5
-    ∙ both_tests (leb u 64 && leb r 64) (leb o 16) (cond (leb k 32) 0 5) 5
-    ∙ both_tests (leb u 64) (leb r 64) (cond (leb o 16) (cond (leb k 32) 0 5) 5) 5
-    ∙ rw (at_most u 64, at_most r 64, at_most o 16, at_most k 32) refl
+pub limits : {A : Type 0} (u r o k : ℕ) (a : A) → answer_of (sizes_admitted (record { users = u; resources = r; operations = o; roles = k })) ≡ passed (unless (leb u 64 && leb r 64 && leb o 16 && leb k 32) beyond (accepted a))
+unfolding sizes_admitted
+limits u r o k a = four-tests (ltb u 65) (ltb r 65) (ltb o 17) (ltb k 33) a ∙ rw (at_most u 64, at_most r 64, at_most o 16, at_most k 32) refl
 
-pub sizes-code : (u r o k : ℕ) → code_of (take_sizes 2 u r o k) ≡ sizes_code u r o k
+pub sizes-admitted : (u r o k : ℕ) → answer_of (sizes_admitted (record { users = u; resources = r; operations = o; roles = k })) ≡ passed (take_sizes 2 u r o k)
 unfolding take_sizes
-sizes-code u r o k = limits-code u r o k (blank u r o k)
+sizes-admitted u r o k = limits u r o k (blank u r o k)
 
-kind-code : (F : Policy) (side kind domain : ℕ) → code_of (take_kind F side kind domain) ≡ kind_code side kind (attribute_table F)
-unfolding take_kind kind_code
-kind-code F side kind domain =
-    unless-code (ltb side 2 && ltb kind 2 && ltb (length (F.table (side_by side)).kinds) 6) beyond (accepted (with_kind F (side_by side) (eqb kind 1) domain))
-    ∙ both_tests (ltb side 2 && ltb kind 2) (ltb (length (F.table (side_by side)).kinds) 6) 0 5
-    ∙ both_tests (ltb side 2) (ltb kind 2) (cond (ltb (length (F.table (side_by side)).kinds) 6) 0 5) 5
-    ∙ test (ltb side 2) (λ h. rw (h, side-attributes F side (ltb-true side 2 h)) refl) (λ h. rw h refl)
+module _ (F : Policy) where
+  kind-admitted : (side kind domain : ℕ) → answer_of (kind_admitted side kind (record_so_far F)) ≡ passed (take_kind F side kind domain)
+  unfolding take_kind kind_admitted record_so_far record_with
+  kind-admitted side kind domain = test (ltb side 2) (λ h. rw (side-attributes F side (ltb-true side 2 h)) whole) (λ h. rw h refl)
+    where
+      whole : answer_of (result_and (below_of side 2) (result_and (below_of kind 2) (below_of (length (F.table (side_by side)).kinds) 6))) ≡ passed (unless (ltb side 2 && ltb kind 2 && ltb (length (F.table (side_by side)).kinds) 6) beyond (accepted (with_kind F (side_by side) (eqb kind 1) domain)))
+      whole = three-tests (ltb side 2) (ltb kind 2) (ltb (length (F.table (side_by side)).kinds) 6) (with_kind F (side_by side) (eqb kind 1) domain)
 
-value-code : (F : Policy) → Sized F → (set : Bool) (side a x v : ℕ) → code_of (take_value F set side a x v) ≡ value_code set side a x (sizes_in F) (attribute_table F) (kind_table F) (known_table F)
-unfolding take_value value_code
-value-code F Z set side a x v =
-    test (ltb side 2) there (λ h. rw h refl)
-  where
-    there : ltb side 2 ≡ true → code_of (take_value F set side a x v) ≡ value_code set side a x (sizes_in F) (attribute_table F) (kind_table F) (known_table F)
-    there h =
-        let s = ltb-true side 2 h in
-        rw (h, side-attributes F side s, side-count F side s)
-        (test (ltb a (length (F.table (side_by side)).kinds)) (λ p. test (ltb x (F.table (side_by side)).count)
-        (λ q. let la = ltb-true a (length (F.table (side_by side)).kinds) p in
-        let lx = ltb-true x (F.table (side_by side)).count q in
-        let n = Z.declared (side_by side) in
-        let m = Z.many (side_by side) in
-        rw (p, q, side-kinds F side s, bit_mask 64 (kind_of (F.table (side_by side))) a (omega arith), column-known F side a x s (omega arith) (omega arith)) (last (iff (kind_of (F.table (side_by side)) a) set) (is_some ((F.table (side_by side)).value a x))))
-        (λ q. rw (p, q) refl)) (λ p. rw p refl))
-      where
-        last : (b k : Bool) → code_of (unless (b && not k) wrong_kind (accepted (with_value F (side_by side) a x v))) ≡ cond b (cond k 6 0) 6
-        last true true = refl
-        last true false = refl
-        last false k = refl
+  value-admitted : Sized F → (set : Bool) (side a x v : ℕ) → answer_of (value_admitted set side a x (record_so_far F)) ≡ passed (take_value F set side a x v)
+  unfolding take_value value_admitted record_so_far record_with
+  value-admitted Z set side a x v =
+      test (ltb side 2) there (λ h. rw h refl)
+    where
+      there : ltb side 2 ≡ true → answer_of (value_admitted set side a x (record_so_far F)) ≡ passed (take_value F set side a x v)
+      there h =
+          let s = ltb-true side 2 h in
+          rw (h, side-attributes F side s, side-count F side s)
+          (test (ltb a (length (F.table (side_by side)).kinds)) (λ p. test (ltb x (F.table (side_by side)).count)
+          (λ q. let la = ltb-true a (length (F.table (side_by side)).kinds) p in
+          let lx = ltb-true x (F.table (side_by side)).count q in
+          let n = Z.declared (side_by side) in
+          let m = Z.many (side_by side) in
+          rw (p, q, side-kinds F side s, bit_mask 64 (kind_of (F.table (side_by side))) a (omega arith), column-known F side a x s (omega arith) (omega arith)) (last (iff (kind_of (F.table (side_by side)) a) set) (is_some ((F.table (side_by side)).value a x))))
+          (λ q. rw (p, q) refl)) (λ p. rw p refl))
+        where
+          last : (b k : Bool) → answer_of (result_and (checked b WrongKind) (checked (not k) WrongKind)) ≡ passed (unless (b && not k) wrong_kind (accepted (with_value F (side_by side) a x v)))
+          last true true = refl
+          last true false = refl
+          last false k = refl
 
-two-code : (a b : Bool) (G : Policy) → code_of (unless (a && b) beyond (accepted G)) ≡ cond a (cond b 0 5) 5
-two-code true true G = refl
-two-code true false G = refl
-two-code false b G = refl
+  assignment-admitted : (k u : ℕ) → answer_of (result_and (below_of k (record_so_far F).roles) (below_of u (record_so_far F).users)) ≡ passed (take_assignment F k u)
+  unfolding take_assignment record_so_far record_with
+  assignment-admitted k u = two-tests (ltb k F.roles) (ltb u (F.table user).count) (with_assigned F k u)
 
-three-code : (a b c : Bool) (G : Policy) → code_of (unless (a && b && c) beyond (accepted G)) ≡ cond a (cond b (cond c 0 5) 5) 5
-three-code true true true G = refl
-three-code true true false G = refl
-three-code true false c G = refl
-three-code false b c G = refl
+  permission-admitted : (k r o : ℕ) → answer_of (result_and (below_of k (record_so_far F).roles) (result_and (below_of r (record_so_far F).resources) (below_of o (record_so_far F).operations))) ≡ passed (take_permission F k r o)
+  unfolding take_permission record_so_far record_with
+  permission-admitted k r o = three-tests (ltb k F.roles) (ltb r (F.table resource).count) (ltb o F.operations) (with_permitted F k r o)
 
--- ---- THE LAW: a command is admitted where it is obeyed, and refused by the same number
+  line-admitted : (j s : ℕ) → answer_of (result_and (below_of j (record_so_far F).roles) (below_of s (record_so_far F).roles)) ≡ passed (take_line F j s)
+  unfolding take_line record_so_far record_with
+  line-admitted j s = two-tests (ltb j F.roles) (ltb s F.roles) (with_line F j s)
 
-pub admit_means : (L : Loading) (c : Command) → Sized L.policy
-    → admit_of c (phase_code L.phase) (sizes_in L.policy) (attribute_table L.policy) (kind_table L.policy) (known_table L.policy) ≡ code_of (obey_role 2 L (meaning c))
-unfolding admit_of obey_role take_assignment take_permission take_line permission_code below_of
-admit_means L (Sizes u r o k) Z = sym (first-place L.phase declaring (take_sizes 2 u r o k) ∙ ap (first_of (phase_code L.phase)) (sizes-code u r o k))
-admit_means L (Declare side kind domain) Z = sym (declaring-place L.phase declaring (take_kind L.policy side kind domain) ∙ ap (declaring_of (phase_code L.phase)) (kind-code L.policy side kind domain))
-admit_means L (Give set side a x v) Z = sym (later-place L.phase telling (take_value L.policy set side a x v) ∙ ap (later_of (phase_code L.phase)) (value-code L.policy Z set side a x v))
-admit_means L (Assign k u) Z = sym (later-place L.phase telling (take_assignment L.policy k u) ∙ ap (later_of (phase_code L.phase)) (two-code (ltb k L.policy.roles) (ltb u (L.policy.table user).count) (with_assigned L.policy k u)))
-admit_means L (Permit k r o) Z = sym (later-place L.phase telling (take_permission L.policy k r o) ∙ ap (later_of (phase_code L.phase)) (three-code (ltb k L.policy.roles) (ltb r (L.policy.table resource).count) (ltb o L.policy.operations) (with_permitted L.policy k r o)))
-admit_means L (Line j s) Z = sym (later-place L.phase telling (take_line L.policy j s) ∙ ap (later_of (phase_code L.phase)) (two-code (ltb j L.policy.roles) (ltb s L.policy.roles) (with_line L.policy j s)))
-admit_means L End Z = sym (later-place L.phase telling (accepted L.policy))
+-- ---- THE LAW: a command is admitted where it is obeyed, and refused for the same cause
+
+pub admit_means : (L : Loading) (c : Command) → Sized L.policy → answer_of (admit_of c (phase_of L.phase) (record_so_far L.policy)) ≡ passed (obey_role 2 L (meaning c))
+unfolding admit_of operands_admitted obey_role
+admit_means L (Sizes u r o k) Z = first-place L.phase declaring _ (take_sizes 2 u r o k) (sizes-admitted u r o k)
+admit_means L (Declare side kind domain) Z = early-place L.phase declaring _ (take_kind L.policy side kind domain) (kind-admitted L.policy side kind domain)
+admit_means L (Give set side a x v) Z = later-place L.phase telling _ (take_value L.policy set side a x v) (value-admitted L.policy Z set side a x v)
+admit_means L (Assign k u) Z = later-place L.phase telling _ (take_assignment L.policy k u) (assignment-admitted L.policy k u)
+admit_means L (Permit k r o) Z = later-place L.phase telling _ (take_permission L.policy k r o) (permission-admitted L.policy k r o)
+admit_means L (Line j s) Z = later-place L.phase telling _ (take_line L.policy j s) (line-admitted L.policy j s)
+admit_means L End Z = later-place L.phase telling _ (accepted L.policy) refl

@@ -1,151 +1,94 @@
 // Whether a command of a role file may stand where it does and say what it says.
 #![tactic(auto)]
 
-ghost use Rattle.std.specs.Prelude.{◌≡◌, not, ◌+◌, ◌*◌, ◌≤◌, ◌<◌, get_or};
-ghost use Rattle.sets.specs.Tests.{iff};
-ghost use Rattle.role_admit.specs.Admit.{below_of, first_of, declaring_of, later_of, sizes_code, kind_code, size_of, value_code, permission_code, admit_of};
+ghost use Rattle.std.specs.Prelude.{◌≡◌};
+ghost use Rattle.role_record.specs.Record.{FewAttributes};
+ghost use Rattle.role_admit.specs.Admit.{checked, below_of, sizes_admitted, kind_admitted, size_of, value_admitted, may_stand, operands_admitted, admit_of};
 
-pub mod phase;
+mod phase;
 
-use files::refusal;
+use files::Refusal;
+pub use phase::Phase;
 use role_commands::Command;
-use role_record::{ByAttribute, BySide, CountBySide, RoleFile, Sizes};
+use role_record::{RoleFile, Sizes};
 
-// The verdict v where x is below the limit, else 5.
-pub fn below(x: usize, limit: usize, v: usize) -> usize
-    ensures { result ≡ below_of x limit v }
+// Refuses unless a test is passed.
+fn check(passed: bool, refusal: Refusal) -> Result<(), Refusal>
+    ensures { result ≡ checked passed refusal }
 {
-    if x < limit { v } else { refusal::BEYOND }
+    if passed { Ok(()) } else { Err(refusal) }
 }
 
-// The verdict v where nothing was read before, else 4.
-fn first(phase: usize, v: usize) -> usize
-    ensures { result ≡ first_of phase v }
+// Refuses a number that is not below a limit.
+pub fn below(x: usize, limit: usize) -> Result<(), Refusal>
+    ensures { result ≡ below_of x limit }
 {
-    if phase == phase::NOTHING {
-        v
-    } else {
-        refusal::OUT_OF_PLACE
-    }
+    check(x < limit, Refusal::Beyond)
 }
 
-// The verdict v where only 01 and 02 were read before, else 4.
-fn declaring(phase: usize, v: usize) -> usize
-    ensures { result ≡ declaring_of phase v }
+// Refuses a size beyond its limit.
+pub fn admit_sizes(sizes: Sizes) -> Result<(), Refusal>
+    ensures { result ≡ sizes_admitted sizes }
 {
-    if phase == phase::DECLARING {
-        v
-    } else {
-        refusal::OUT_OF_PLACE
-    }
+    below(sizes.users, RoleFile::USERS + 1)?;
+    below(sizes.resources, RoleFile::RESOURCES + 1)?;
+    below(sizes.operations, RoleFile::OPERATIONS + 1)?;
+    below(sizes.roles, RoleFile::ROLES + 1)
 }
 
-// The verdict v where 01 was read before, else 4.
-fn later(phase: usize, v: usize) -> usize
-    ensures { result ≡ later_of phase v }
+// Refuses an attribute that cannot be declared.
+fn admit_kind(side: usize, kind: usize, f: &RoleFile) -> Result<(), Refusal>
+    ensures { result ≡ kind_admitted side kind f.now }
 {
-    if phase == phase::NOTHING {
-        return refusal::OUT_OF_PLACE;
-    }
-    v
-}
-
-// 5 where a size is beyond its limit, else 0.
-pub fn admit_sizes(users: usize, resources: usize, operations: usize, roles: usize) -> usize
-    ensures { result ≡ sizes_code users resources operations roles }
-{
-    let v1 = below(roles, RoleFile::ROLES + 1, 0);
-    let v2 = below(operations, RoleFile::OPERATIONS + 1, v1);
-    let v3 = below(resources, RoleFile::RESOURCES + 1, v2);
-    below(users, RoleFile::USERS + 1, v3)
-}
-
-// 5 where an attribute cannot be declared, else 0.
-fn admit_kind(side: usize, kind: usize, attributes: &CountBySide) -> usize
-    ensures { result ≡ kind_code side kind attributes.now }
-{
-    if RoleFile::SIDES <= side {
-        return refusal::BEYOND;
-    }
-    if RoleFile::KINDS <= kind {
-        return refusal::BEYOND;
-    }
-    if RoleFile::ATTRIBUTES <= attributes[side] {
-        return refusal::BEYOND;
-    }
-    0
+    below(side, RoleFile::SIDES)?;
+    below(kind, RoleFile::KINDS)?;
+    below(f.attributes[side], RoleFile::ATTRIBUTES)
 }
 
 // The size of a side.
-fn size_of(side: usize, sizes: Sizes) -> usize
-    ensures { result ≡ size_of side sizes }
+fn size_of(side: usize, f: &RoleFile) -> usize
+    ensures { result ≡ size_of side f.now }
 {
-    if side == 0 {
-        sizes.users
-    } else {
-        sizes.resources
-    }
+    if side == 0 { f.users } else { f.resources }
 }
 
-fn differ(a: bool, b: bool) -> bool
-    ensures { result ≡ not (iff a b) }
-{
-    a != b
-}
-
-// 5 or 6 where a value cannot be given, else 0.
-fn admit_value<'a>(
+// Refuses a value that cannot be given.
+fn admit_value(
     set: bool,
     side: usize,
     attribute: usize,
     who: usize,
-    sizes: Sizes,
-    attributes: &'a CountBySide,
-    kinds: &'a BySide,
-    known: &'a ByAttribute,
-) -> usize
-    requires { (get_or attributes.now 0 0 ≤ 6) × (get_or attributes.now 1 0 ≤ 6) }
-    ensures { result
-        ≡ value_code set side attribute who sizes attributes.now kinds.now known.now }
+    f: &RoleFile,
+) -> Result<(), Refusal>
+    requires { FewAttributes f.now.attributes }
+    ensures { result ≡ value_admitted set side attribute who f.now }
 {
-    if RoleFile::SIDES <= side {
-        return refusal::BEYOND;
-    }
-    if attributes[side] <= attribute {
-        return refusal::BEYOND;
-    }
-    if size_of(side, sizes) <= who {
-        return refusal::BEYOND;
-    }
-    if differ(sets::has(kinds[side], attribute), set) {
-        return refusal::WRONG_KIND;
-    }
+    below(side, RoleFile::SIDES)?;
+    below(attribute, f.attributes[side])?;
+    below(who, size_of(side, f))?;
+    check(
+        sets::has(f.kinds[side], attribute) == set,
+        Refusal::WrongKind,
+    )?;
     let column = RoleFile::ATTRIBUTES * side + attribute;
-    if sets::has(known[column], who) {
-        return refusal::WRONG_KIND;
-    }
-    0
+    check(!sets::has(f.known[column], who), Refusal::WrongKind)
 }
 
-// 5 where a permission cannot be given, else 0.
-fn admit_permission(role: usize, resource: usize, operation: usize, sizes: Sizes) -> usize
-    ensures { result ≡ permission_code role resource operation sizes }
+// Whether a command may stand where so much was read before it.
+fn may_stand(c: Command, phase: Phase) -> bool
+    ensures { result ≡ may_stand c phase }
 {
-    let v = below(operation, sizes.operations, 0);
-    below(role, sizes.roles, below(resource, sizes.resources, v))
+    match c {
+        Command::Sizes { .. } => phase == Phase::Nothing,
+        Command::Declare { .. } => phase == Phase::Declaring,
+        _ => phase != Phase::Nothing,
+    }
 }
 
-// 0 where the command may stand here and says what it may; else the refusal.
-pub fn admit<'a>(
-    c: Command,
-    phase: usize,
-    sizes: Sizes,
-    attributes: &'a CountBySide,
-    kinds: &'a BySide,
-    known: &'a ByAttribute,
-) -> usize
-    requires { (get_or attributes.now 0 0 ≤ 6) × (get_or attributes.now 1 0 ≤ 6) }
-    ensures { result ≡ admit_of c phase sizes attributes.now kinds.now known.now }
+// Refuses a command that says what it may not.
+fn admit_operands(c: Command, f: &RoleFile) -> Result<(), Refusal>
+    requires { FewAttributes f.now.attributes }
+    ensures { result ≡ operands_admitted c f.now }
 {
     match c {
         Command::Sizes {
@@ -153,34 +96,50 @@ pub fn admit<'a>(
             resources,
             operations,
             roles,
-        } => first(phase, admit_sizes(users, resources, operations, roles)),
+        } => admit_sizes(Sizes {
+            users,
+            resources,
+            operations,
+            roles,
+        }),
         Command::Declare {
             side,
             kind,
             domain: _,
-        } => declaring(phase, admit_kind(side, kind, attributes)),
+        } => admit_kind(side, kind, f),
         Command::Give {
             set,
             side,
             attribute,
             who,
             value: _,
-        } => {
-            let v = admit_value(set, side, attribute, who, sizes, attributes, kinds, known);
-            later(phase, v)
-        }
+        } => admit_value(set, side, attribute, who, f),
         Command::Assign { role, user } => {
-            later(phase, below(role, sizes.roles, below(user, sizes.users, 0)))
+            below(role, f.roles)?;
+            below(user, f.users)
         }
         Command::Permit {
             role,
             resource,
             operation,
-        } => later(phase, admit_permission(role, resource, operation, sizes)),
-        Command::Line { junior, senior } => {
-            let v = below(senior, sizes.roles, 0);
-            later(phase, below(junior, sizes.roles, v))
+        } => {
+            below(role, f.roles)?;
+            below(resource, f.resources)?;
+            below(operation, f.operations)
         }
-        Command::End => later(phase, 0),
+        Command::Line { junior, senior } => {
+            below(junior, f.roles)?;
+            below(senior, f.roles)
+        }
+        Command::End => Ok(()),
     }
+}
+
+// Refuses a command where it may not stand, or that says what it may not.
+pub fn admit(c: Command, phase: Phase, f: &RoleFile) -> Result<(), Refusal>
+    requires { FewAttributes f.now.attributes }
+    ensures { result ≡ admit_of c phase f.now }
+{
+    check(may_stand(c, phase), Refusal::OutOfPlace)?;
+    admit_operands(c, f)
 }

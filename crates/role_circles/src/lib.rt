@@ -63,9 +63,9 @@ fn lead_by_one_more(lines: &ByRole, roles: usize, low: usize, back: u64) -> u64
     word
 }
 
-// Into a slice, since only a slice tells its length to a proof.
-fn fill_back(lines: &ByRole, roles: usize, low: usize, out: &mut [u64])
-    requires { (roles ≤ 32) × (low < 32) × (length out.old ≡ 32) }
+// For each number of roles between: the roles from which lines lead back to a role through so many above it, whatever the table held.
+fn back_words(lines: &ByRole, roles: usize, low: usize, out: &mut ByRole)
+    requires { (roles ≤ 32) × (low < 32) }
     ensures { out.new ≡ table_of 32 (back_word lines.now roles low) }
 {
     let mut word = lead_at_once(lines, roles, low);
@@ -73,14 +73,6 @@ fn fill_back(lines: &ByRole, roles: usize, low: usize, out: &mut [u64])
         out[m] = word;
         word = lead_by_one_more(lines, roles, low, word);
     }
-}
-
-// For each number of roles between: the roles from which lines lead back to a role through so many above it, whatever the table held.
-fn back_words(lines: &ByRole, roles: usize, low: usize, out: &mut ByRole)
-    requires { (roles ≤ 32) × (low < 32) }
-    ensures { out.new ≡ table_of 32 (back_word lines.now roles low) }
-{
-    fill_back(lines, roles, low, out);
 }
 
 // The fewest roles beside a role with which it leads back to itself, if these are fewer than so many; else so many.

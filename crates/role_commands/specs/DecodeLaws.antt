@@ -1,21 +1,23 @@
 -- What the code decodes by place is what the reader of commands takes from the front.
 -- Assumes nothing.
 use Prim.Native.Nat.{ℕ, zero, suc, ◌+◌, ◌*◌, ◌≤◌, ◌<◌}
-use Rattle.std.proofs.Common.{eqb-true, ne_eqb, ltb-true, ltb-false, leb-true, leb-false, drop_of_length-le, drop-cons, sym, ap₂, ◌∙◌, arith}
-use Rattle.std.proofs.lemmas.Bool.{eqb-false}
+use Rattle.std.proofs.Common.{ne_eqb, ltb-true, ltb-false, leb-true, leb-false, drop_of_length-le, drop-cons, sym, ap₂, ◌∙◌, subst, arith}
 use Rattle.std.proofs.Math.Dec.{eqb, ltb}
-use Rattle.std.specs.Prelude.{leb, length, get_or, drop, set, Bool, ◌≡◌}
+use Rattle.std.specs.Prelude.{leb, length, get_or, drop, set, Bool, ◌≡◌, Some, None, Result, Ok, Err}
+use Rattle.std.specs.Prelude.{Option as Width}
+use Rattle.std.specs.Result.{result_unwrap_or}
 use Rattle.std.proofs.Math.Bool.{true, false, cond}
 use mathlib.Core.List.{List, [], ◌∷◌}
 use Rattle.std.proofs.Math.Option.{Option, none, some, map}
 use Rattle.std.proofs.Math.Path.{refl, ap}
 use Rattle.file_bytes.specs.Numbers.{number_at, total_of, numbers_at}
-use Rattle.role_commands.specs.Decode.{width_of, command_by, decoded_of}
+use Rattle.role_commands.specs.Decode.{width_of, command_by, first_command, decoded_of}
 use Rattle.role_commands.specs.declared.Command.{Command}
 use Rattle.role_commands.specs.declared.Command.TheVariants.{Sizes, Declare, Give, Assign, Permit, Line, End}
-use Rattle.role_commands.specs.declared.Decoded.{Decoded}
-use Rattle.role_commands.specs.declared.Decoded.TheVariants.{Whole, Unknown, Short}
+use Rattle.files.specs.declared.refusal.Refusal.{Refusal}
+use Rattle.files.specs.declared.refusal.Refusal.TheVariants.{CutOff}
 use Rattle.files.specs.Answer.{Answer, and_then, cut_off, unknown_command, refused}
+use Rattle.files.specs.Cause.{cause}
 use Rattle.files.proofs.BytesLaws.{follow}
 use Rattle.files.specs.Bytes.{number, one_more, operands, turn, decode, read_on}
 use Rattle.files.specs.RoleFile.{RoleCommand, role_widths, role_command, Loading, is_end, obey_role, role_format, sizes, declare, give, assign, permit, line, end}
@@ -68,9 +70,9 @@ meaning (Line j s) = line j s
 meaning End = end
 
 -- the bytes of a known command
-abbrev span_of : Option (List ℕ) → ℕ
-span_of none = 0
-span_of (some ws) = suc (total_of ws)
+abbrev span_of : Option (List ℕ) → Width ℕ
+span_of none = None
+span_of (some ws) = Some (suc (total_of ws))
 
 span-width : (b : ℕ) → span_of (role_widths b) ≡ width_of b
 unfolding width_of
@@ -78,7 +80,7 @@ span-width b = go (eqb b 1) (eqb b 2) (eqb b 3) (eqb b 4) (eqb b 5) (eqb b 6) (e
   where
     go : (b1 b2 b3 b4 b5 b6 b7 b8 b15 : Bool)
         → span_of (cond b1 (some (1 ∷ 1 ∷ 1 ∷ 1 ∷ [])) (cond b2 (some (1 ∷ 1 ∷ [])) (cond b3 (some (1 ∷ 1 ∷ 1 ∷ 2 ∷ [])) (cond b4 (some (1 ∷ 1 ∷ 1 ∷ 8 ∷ [])) (cond b5 (some (1 ∷ 1 ∷ [])) (cond b6 (some (1 ∷ 1 ∷ 1 ∷ [])) (cond b7 (some (1 ∷ 1 ∷ [])) (cond b8 (some (1 ∷ 1 ∷ 1 ∷ [])) (cond b15 (some []) none)))))))))
-        ≡ cond b1 5 (cond b2 3 (cond b3 6 (cond b4 12 (cond b5 3 (cond b6 4 (cond b7 3 (cond b8 4 (cond b15 1 0))))))))
+        ≡ cond b1 (Some 5) (cond b2 (Some 3) (cond b3 (Some 6) (cond b4 (Some 12) (cond b5 (Some 3) (cond b6 (Some 4) (cond b7 (Some 3) (cond b8 (Some 4) (cond b15 (Some 1) None))))))))
     go true b2 b3 b4 b5 b6 b7 b8 b15 = refl
     go false true b3 b4 b5 b6 b7 b8 b15 = refl
     go false false true b4 b5 b6 b7 b8 b15 = refl
@@ -115,70 +117,47 @@ meaning-by b l = go (eqb b 1) (eqb b 2) (eqb b 3) (eqb b 4) (eqb b 5) (eqb b 6) 
 
 -- ---- what was decoded
 
-abbrev tag_of : Decoded → ℕ
-tag_of (Whole c w) = 2
-tag_of Unknown = 1
-tag_of Short = 0
-
 pub first_byte : (b : ℕ) (bs : List ℕ) → number_at 1 (b ∷ bs) 0 ≡ b
 first_byte b bs = omega arith
 
+-- what a width tells: it is the same one, and there is one
+same-width : {v w : ℕ} → Some v ≡ Some w → v ≡ w
+same-width e = cc
+
+no-width : {w : ℕ} → None ≡ Some w → ⊥
+no-width e = cc
+
+-- and what a decoded command tells, or a refusal
+pub same-decoded : {t u : Command × ℕ} → ◌≡◌ {A = Result (Command × ℕ) Refusal} (Ok t) (Ok u) → t ≡ u
+same-decoded {t} {u} h = ap (λ (r : Result (Command × ℕ) Refusal). result_unwrap_or r u) h
+
+pub same-refusal : {e d : Refusal} → ◌≡◌ {A = Result (Command × ℕ) Refusal} (Err e) (Err d) → e ≡ d
+same-refusal h = cc
+
+pub not-refused : {t : Command × ℕ} {e : Refusal} → ◌≡◌ {A = Result (Command × ℕ) Refusal} (Err e) (Ok t) → ⊥
+not-refused h = cc
+
+decoded-cons : (b : ℕ) (bs : List ℕ) → decoded_of (b ∷ bs) ≡ first_command (b ∷ bs) (width_of b)
+unfolding decoded_of
+decoded-cons b bs = rw (ne_eqb (suc (length bs)) 0 (omega arith), first_byte b bs) refl
+
 -- one turn of reading, by what was decoded at the front
 module _ (n : ℕ) (s : Loading) where
-  read-unknown : (b : ℕ) (bs : List ℕ) → width_of b ≡ 0 → read_on (role_format 2) (suc n) false s (b ∷ bs) ≡ refused unknown_command
+  read-unknown : (b : ℕ) (bs : List ℕ) → width_of b ≡ None → read_on (role_format 2) (suc n) false s (b ∷ bs) ≡ refused unknown_command
   unfolding role_format
   read-unknown b bs e = go (role_widths b) (span-width b ∙ e)
     where
-      go : (o : Option (List ℕ)) → span_of o ≡ 0 → decode (role_format 2) (read_on (role_format 2) n) s b bs o ≡ refused unknown_command
+      go : (o : Option (List ℕ)) → span_of o ≡ None → decode (role_format 2) (read_on (role_format 2) n) s b bs o ≡ refused unknown_command
       go none k = refl
-      go (some ws) k = absurd (omega arith)
+      go (some ws) k = absurd (no-width (sym k))
 
-  read_short : (b : ℕ) (bs : List ℕ) → (width_of b ≡ 0 → ⊥) → suc (length bs) < width_of b → read_on (role_format 2) (suc n) false s (b ∷ bs) ≡ refused cut_off
+  read_short : (b : ℕ) (bs : List ℕ) (w : ℕ) → width_of b ≡ Some w → suc (length bs) < w → read_on (role_format 2) (suc n) false s (b ∷ bs) ≡ refused cut_off
   unfolding role_format
-  read_short b bs e h = go (role_widths b) (span-width b)
+  read_short b bs w e h = go (role_widths b) (span-width b ∙ e)
     where
-      go : (o : Option (List ℕ)) → span_of o ≡ width_of b → decode (role_format 2) (read_on (role_format 2) n) s b bs o ≡ refused cut_off
-      go none k = absurd (e (sym k))
-      go (some ws) k = ap (turn (role_format 2) (read_on (role_format 2) n) s b) (operands_short ws 1 (b ∷ bs) (omega arith) (omega arith))
-
-  read_whole : (b : ℕ) (bs : List ℕ) → (width_of b ≡ 0 → ⊥) → width_of b ≤ suc (length bs)
-      → read_on (role_format 2) (suc n) false s (b ∷ bs) ≡ and_then (obey_role 2 s (meaning (command_by b (b ∷ bs)))) (follow (role_format 2) (is_end (meaning (command_by b (b ∷ bs)))) n (drop (width_of b) (b ∷ bs)))
-  unfolding role_format
-  read_whole b bs e h = go (role_widths b) (span-width b) (meaning-by b (b ∷ bs))
-    where
-      on : RoleCommand → List ℕ → Answer Loading
-      on c rest = and_then (obey_role 2 s c) (follow (role_format 2) (is_end c) n rest)
-
-      go : (o : Option (List ℕ)) → span_of o ≡ width_of b → role_command b (numbers_at (widths_or o) (b ∷ bs) 1) ≡ meaning (command_by b (b ∷ bs))
-          → decode (role_format 2) (read_on (role_format 2) n) s b bs o ≡ on (meaning (command_by b (b ∷ bs))) (drop (width_of b) (b ∷ bs))
-      go none k m = absurd (e (sym k))
-      go (some ws) k m =
-          ap (turn (role_format 2) (read_on (role_format 2) n) s b) (operands-at ws 1 (b ∷ bs) (omega arith))
-          ∙ ap₂ on m (let d : 1 + total_of ws ≡ width_of b = omega arith in ap (λ (x : ℕ). drop x (b ∷ bs)) d)
-
-  decoded-cons : (b : ℕ) (bs : List ℕ) → decoded_of (b ∷ bs) ≡ cond (eqb (width_of b) 0) Unknown (cond (ltb (suc (length bs)) (width_of b)) Short (Whole (command_by b (b ∷ bs)) (width_of b)))
-  unfolding decoded_of
-  decoded-cons b bs = rw (ne_eqb (suc (length bs)) 0 (omega arith), first_byte b bs) refl
-
-  pub turn-short : (l : List ℕ) → decoded_of l ≡ Short → read_on (role_format 2) (suc n) false s l ≡ refused cut_off
-  unfolding role_format
-  turn-short [] e = refl
-  turn-short (b ∷ bs) e = go (eqb (width_of b) 0) refl (ltb (suc (length bs)) (width_of b)) refl (sym (decoded-cons b bs) ∙ e)
-    where
-      go : (x : Bool) → eqb (width_of b) 0 ≡ x → (y : Bool) → ltb (suc (length bs)) (width_of b) ≡ y → cond x Unknown (cond y Short (Whole (command_by b (b ∷ bs)) (width_of b))) ≡ Short → read_on (role_format 2) (suc n) false s (b ∷ bs) ≡ refused cut_off
-      go true p y q k = let d = ap tag_of k in absurd (omega arith)
-      go false p true q k = read_short b bs (eqb-false (width_of b) 0 p) (ltb-true (suc (length bs)) (width_of b) q)
-      go false p false q k = let d = ap tag_of k in absurd (omega arith)
-
-  pub turn-unknown : (l : List ℕ) → decoded_of l ≡ Unknown → read_on (role_format 2) (suc n) false s l ≡ refused unknown_command
-  unfolding decoded_of
-  turn-unknown [] e = let d = ap tag_of e in absurd (omega arith)
-  turn-unknown (b ∷ bs) e = go (eqb (width_of b) 0) refl (ltb (suc (length bs)) (width_of b)) (sym (decoded-cons b bs) ∙ e)
-    where
-      go : (x : Bool) → eqb (width_of b) 0 ≡ x → (y : Bool) → cond x Unknown (cond y Short (Whole (command_by b (b ∷ bs)) (width_of b))) ≡ Unknown → read_on (role_format 2) (suc n) false s (b ∷ bs) ≡ refused unknown_command
-      go true p y k = read-unknown b bs (eqb-true (width_of b) 0 p)
-      go false p true k = let d = ap tag_of k in absurd (omega arith)
-      go false p false k = let d = ap tag_of k in absurd (omega arith)
+      go : (o : Option (List ℕ)) → span_of o ≡ Some w → decode (role_format 2) (read_on (role_format 2) n) s b bs o ≡ refused cut_off
+      go none k = absurd (no-width k)
+      go (some ws) k = let d = same-width k in ap (turn (role_format 2) (read_on (role_format 2) n) s b) (operands_short ws 1 (b ∷ bs) (omega arith) (omega arith))
 
   -- a whole command stands at the front
   pub record Front (l : List ℕ) (c : Command) (w : ℕ) : Type 0 where
@@ -186,21 +165,54 @@ module _ (n : ℕ) (s : Loading) where
     pub inside : w ≤ length l
     pub turned : read_on (role_format 2) (suc n) false s l ≡ and_then (obey_role 2 s (meaning c)) (follow (role_format 2) (is_end (meaning c)) n (drop w l))
 
-  pub turn-whole : (l : List ℕ) (c : Command) (w : ℕ) → decoded_of l ≡ Whole c w → Front l c w
-  unfolding decoded_of
-  turn-whole [] c w e = let d = ap tag_of e in absurd (omega arith)
-  turn-whole (b ∷ bs) c w e = go (eqb (width_of b) 0) refl (ltb (suc (length bs)) (width_of b)) refl (sym (decoded-cons b bs) ∙ e)
+  read_whole : (b : ℕ) (bs : List ℕ) (w : ℕ) → width_of b ≡ Some w → w ≤ suc (length bs) → Front (b ∷ bs) (command_by b (b ∷ bs)) w
+  unfolding role_format
+  read_whole b bs w e h = go (role_widths b) refl (span-width b ∙ e) (meaning-by b (b ∷ bs))
     where
-      found : (d : Command) (v : ℕ) → d ≡ c → v ≡ w → (0 < v) → v ≤ suc (length bs)
-          → read_on (role_format 2) (suc n) false s (b ∷ bs) ≡ and_then (obey_role 2 s (meaning d)) (follow (role_format 2) (is_end (meaning d)) n (drop v (b ∷ bs))) → Front (b ∷ bs) c w
-      found d v p q h k t = record { some_bytes = omega arith; inside = omega arith; turned = rw (← p, ← q) t }
+      on : RoleCommand → List ℕ → Answer Loading
+      on c rest = and_then (obey_role 2 s c) (follow (role_format 2) (is_end c) n rest)
 
-      go : (x : Bool) → eqb (width_of b) 0 ≡ x → (y : Bool) → ltb (suc (length bs)) (width_of b) ≡ y → cond x Unknown (cond y Short (Whole (command_by b (b ∷ bs)) (width_of b))) ≡ Whole c w → Front (b ∷ bs) c w
-      go true p y q k = let d = ap tag_of k in absurd (omega arith)
-      go false p true q k = let d = ap tag_of k in absurd (omega arith)
-      go false p false q k =
-          let nz = eqb-false (width_of b) 0 p in
-          let le = ltb-false (suc (length bs)) (width_of b) q in
-          let ec : command_by b (b ∷ bs) ≡ c = cc in
-          let ew : width_of b ≡ w = cc in
-          found (command_by b (b ∷ bs)) (width_of b) ec ew (omega arith) le (read_whole b bs nz le)
+      go : (o : Option (List ℕ)) → role_widths b ≡ o → span_of o ≡ Some w → role_command b (numbers_at (widths_or o) (b ∷ bs) 1) ≡ meaning (command_by b (b ∷ bs)) → Front (b ∷ bs) (command_by b (b ∷ bs)) w
+      go none q k m = absurd (no-width k)
+      go (some ws) q k m =
+          let d = same-width k in
+          let rest : 1 + total_of ws ≡ w = omega arith in
+          record {
+            some_bytes = omega arith;
+            inside = h;
+            turned = ap (decode (role_format 2) (read_on (role_format 2) n) s b bs) q
+                ∙ ap (turn (role_format 2) (read_on (role_format 2) n) s b) (operands-at ws 1 (b ∷ bs) (omega arith))
+                ∙ ap₂ on m (ap (λ (x : ℕ). drop x (b ∷ bs)) rest);
+          }
+
+  -- what refuses the bytes refuses the file
+  pub turn-refused : (l : List ℕ) (e : Refusal) → decoded_of l ≡ Err e → read_on (role_format 2) (suc n) false s l ≡ refused (cause e)
+  unfolding role_format decoded_of
+  turn-refused [] e h = ap (λ (d : Refusal). refused (cause d)) (same-refusal h)
+  turn-refused (b ∷ bs) e h = go (width_of b) refl (sym (decoded-cons b bs) ∙ h)
+    where
+      short : (w : ℕ) → width_of b ≡ Some w → (x : Bool) → ltb (suc (length bs)) w ≡ x → cond {A = Result (Command × ℕ) Refusal} x (Err CutOff) (Ok (command_by (number_at 1 (b ∷ bs) 0) (b ∷ bs), w)) ≡ Err e → read_on (role_format 2) (suc n) false s (b ∷ bs) ≡ refused (cause e)
+      short w p true q k = read_short b bs w p (ltb-true (suc (length bs)) w q) ∙ ap (λ (d : Refusal). refused (cause d)) (same-refusal k)
+      short w p false q k = absurd (not-refused (sym k))
+
+      go : (o : Width ℕ) → width_of b ≡ o → first_command (b ∷ bs) o ≡ Err e → read_on (role_format 2) (suc n) false s (b ∷ bs) ≡ refused (cause e)
+      go None p k = read-unknown b bs p ∙ ap (λ (d : Refusal). refused (cause d)) (same-refusal k)
+      go (Some w) p k = short w p (ltb (suc (length bs)) w) refl k
+
+  pub turn-whole : (l : List ℕ) (c : Command) (w : ℕ) → decoded_of l ≡ Ok (c, w) → Front l c w
+  unfolding decoded_of
+  turn-whole [] c w e = absurd (not-refused e)
+  turn-whole (b ∷ bs) c w e = go (width_of b) refl (sym (decoded-cons b bs) ∙ e)
+    where
+      found : (t : Command × ℕ) → t ≡ (c, w) → Front (b ∷ bs) t.0 t.1 → Front (b ∷ bs) c w
+      found t e f = subst (λ (u : Command × ℕ). Front (b ∷ bs) u.0 u.1) e f
+
+      long : (v : ℕ) → width_of b ≡ Some v → (x : Bool) → ltb (suc (length bs)) v ≡ x → cond {A = Result (Command × ℕ) Refusal} x (Err CutOff) (Ok (command_by (number_at 1 (b ∷ bs) 0) (b ∷ bs), v)) ≡ Ok (c, w) → Front (b ∷ bs) c w
+      long v p true q k = absurd (not-refused k)
+      long v p false q k =
+          found (command_by b (b ∷ bs), v) (same-decoded (ap (λ (x : ℕ). Ok (command_by x (b ∷ bs), v)) (sym (first_byte b bs)) ∙ k))
+          (read_whole b bs v p (ltb-false (suc (length bs)) v q))
+
+      go : (o : Width ℕ) → width_of b ≡ o → first_command (b ∷ bs) o ≡ Ok (c, w) → Front (b ∷ bs) c w
+      go None p k = absurd (not-refused k)
+      go (Some v) p k = long v p (ltb (suc (length bs)) v) refl k

@@ -4,7 +4,7 @@
 ghost use Rattle.std.specs.Prelude.{◌≡◌, ◌<◌};
 ghost use Rattle.role_commands.specs.Decode.{width_of, command_by, decoded_of};
 
-use files::role_byte;
+use files::{Refusal, role_byte};
 
 #[derive(Clone, Copy)]
 pub enum Command {
@@ -42,29 +42,21 @@ pub enum Command {
     End,
 }
 
-// What stands at the front of the bytes: a command and how many bytes it takes, an unknown command, or less than a command.
-#[derive(Clone, Copy)]
-pub enum Decoded {
-    Whole(Command, usize),
-    Unknown,
-    Short,
-}
-
-// The bytes that the command of this byte takes; 0 where there is no such command.
-pub fn width(b: usize) -> usize
+// The bytes that the command of this byte takes; none where there is no such command.
+pub fn width(b: usize) -> Option<usize>
     ensures { result ≡ width_of b }
 {
     match b {
-        role_byte::SIZES => 5,
-        role_byte::DECLARE => 3,
-        role_byte::GIVE_SINGLE => 6,
-        role_byte::GIVE_SET => 12,
-        role_byte::ASSIGN => 3,
-        role_byte::PERMIT => 4,
-        role_byte::LINE => 3,
-        role_byte::DECLARE_IN_DOMAIN => 4,
-        role_byte::END => 1,
-        _ => 0,
+        role_byte::SIZES => Some(5),
+        role_byte::DECLARE => Some(3),
+        role_byte::GIVE_SINGLE => Some(6),
+        role_byte::GIVE_SET => Some(12),
+        role_byte::ASSIGN => Some(3),
+        role_byte::PERMIT => Some(4),
+        role_byte::LINE => Some(3),
+        role_byte::DECLARE_IN_DOMAIN => Some(4),
+        role_byte::END => Some(1),
+        _ => None,
     }
 }
 
@@ -89,14 +81,14 @@ pub fn operands(s: &[u8], b: usize) -> Command
             side: file_bytes::byte_at(s, 1),
             attribute: file_bytes::byte_at(s, 2),
             who: file_bytes::byte_at(s, 3),
-            value: file_bytes::pair(s),
+            value: file_bytes::number::<2>(s, 4),
         },
         role_byte::GIVE_SET => Command::Give {
             set: true,
             side: file_bytes::byte_at(s, 1),
             attribute: file_bytes::byte_at(s, 2),
             who: file_bytes::byte_at(s, 3),
-            value: file_bytes::word(s),
+            value: file_bytes::number::<8>(s, 4),
         },
         role_byte::ASSIGN => Command::Assign {
             role: file_bytes::byte_at(s, 1),
@@ -120,20 +112,19 @@ pub fn operands(s: &[u8], b: usize) -> Command
     }
 }
 
-pub fn decode(s: &[u8]) -> Decoded
+// The command at the front of the bytes, and how many of them it takes; refused where it is unknown, or where there is less than a command.
+pub fn decode(s: &[u8]) -> Result<(Command, usize), Refusal>
     ensures { result ≡ decoded_of s.now }
 {
-    if s.len() == 0 {
-        return Decoded::Short;
+    if s.is_empty() {
+        return Err(Refusal::CutOff);
     }
     let b = file_bytes::byte_at(s, 0);
-    let w = width(b);
-    if w == 0 {
-        return Decoded::Unknown;
-    }
+    let Some(w) = width(b) else {
+        return Err(Refusal::UnknownCommand);
+    };
     if s.len() < w {
-        return Decoded::Short;
+        return Err(Refusal::CutOff);
     }
-    let c = operands(s, b);
-    Decoded::Whole(c, w)
+    Ok((operands(s, b), w))
 }

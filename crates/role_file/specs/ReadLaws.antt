@@ -11,7 +11,7 @@ use Rattle.std.proofs.Common.{inl, inr, sym, ◌∙◌}
 use Rattle.std.proofs.Math.Option.{some}
 use Rattle.std.proofs.Math.Path.{refl, ap, ap₂, subst}
 use native.Mathlib.Omega.{arith}
-use Rattle.role_admit.specs.AdmitLaws.{phase_code, side-attributes}
+use Rattle.role_admit.specs.AdmitLaws.{phase_of, side-attributes}
 use Rattle.role_record.specs.Cells.{most_operations}
 use Rattle.role_record.specs.Record.{Sized, known_table, value_table, assigned_table, line_table, permission_table, attribute_table, kind_table, domain_table, record_with, record_so_far, set_kinds, set_values, set_assigned, set_lines, set_permissions}
 use Rattle.role_commands.specs.DecodeLaws.{meaning}
@@ -19,11 +19,10 @@ use Rattle.files.specs.Answer.{Answer, unless, and_then, out_of_place, beyond, w
 use Rattle.files.proofs.BytesLaws.{Carries, unless_carries, then_carries}
 use Rattle.files.proofs.LineLaws.{same-side}
 use Rattle.files.specs.RoleFile.{Phase, Loading, blank, side_by, same_side, with_table, with_kind, with_value, with_assigned, with_permitted, with_line, is_nothing, is_declaring, enter, take_kind, take_value, take_assignment, take_permission, take_line, take_sizes, obey_role, nothing, declaring, telling, is_end}
-use Rattle.files.specs.RuleFile.{value}
 use Rattle.role_record.specs.RecordLaws.{assigned-marked, line_marked, permission_marked, known-marked, value-stored, kind_marked, attribute-counted, kind_values, domain-stored, value_domains}
 use Rattle.policy.specs.Policy.{Table, Policy, kind_of}
 use Rattle.policy.specs.Rules.{Which, by, user, resource}
-use Rattle.role_store.specs.Storing.{applied, phase_after, Bounded, stored_by}
+use Rattle.role_store.specs.Storing.{Bounded, phase_after, stored_by}
 use Rattle.sets.specs.ListLaws.{length_last}
 use Rattle.sets.specs.Tests.{Is, iff, is_some}
 use Rattle.sets.specs.TestLaws.{and_l, and_r, or_out, and_three}
@@ -34,25 +33,29 @@ use Rattle.role_commands.specs.declared.Command.TheVariants.{Sizes, Declare, Giv
 
 pub record After (L : Loading) (c : Command) (M : Loading) : Type 0 where
   pub bounded : Bounded (record_so_far L.policy).attributes c
-  pub shows : applied (record_so_far L.policy) c ≡ record_so_far M.policy
+  pub shows : stored_by (record_so_far L.policy) c ≡ record_so_far M.policy
   pub sized : Sized M.policy
-  pub phased : is_end (meaning c) ≡ false → phase_code M.phase ≡ phase_after c
+  pub phased : is_end (meaning c) ≡ false → phase_of M.phase ≡ phase_after c
   pub begun : M.phase ≡ nothing → ⊥
 
-entered : (L : Loading) (c : Command) (place : Bool) (ph : Phase) (r : Answer Policy) → (is_end (meaning c) ≡ false → phase_code ph ≡ phase_after c) → (phase_code ph ≡ 0 → ⊥)
-    → (Is place → Carries (λ F. (Bounded (record_so_far L.policy).attributes c) × (applied (record_so_far L.policy) c ≡ record_so_far F) × Sized F) r) → Carries (After L c) (enter place ph r)
+entered : (L : Loading) (c : Command) (place : Bool) (ph : Phase) (r : Answer Policy) → (is_end (meaning c) ≡ false → phase_of ph ≡ phase_after c) → (ph ≡ nothing → ⊥)
+    → (Is place → Carries (λ F. (Bounded (record_so_far L.policy).attributes c) × (stored_by (record_so_far L.policy) c ≡ record_so_far F) × Sized F) r) → Carries (After L c) (enter place ph r)
 entered L c place ph r e b h =
     unless_carries (After L c) place out_of_place (and_then r (λ F. accepted (record { phase = ph; policy = F }))) λ p.
-    then_carries (λ F. (Bounded (record_so_far L.policy).attributes c) × (applied (record_so_far L.policy) c ≡ record_so_far F) × Sized F) (After L c) r (λ F. accepted (record { phase = ph; policy = F })) (h p)
-    (λ F k. record { bounded = k.0; shows = k.1; sized = k.2; phased = e; begun = λ z. b (ap phase_code z) })
+    then_carries (λ F. (Bounded (record_so_far L.policy).attributes c) × (stored_by (record_so_far L.policy) c ≡ record_so_far F) × Sized F) (After L c) r (λ F. accepted (record { phase = ph; policy = F })) (h p)
+    (λ F k. record { bounded = k.0; shows = k.1; sized = k.2; phased = e; begun = b })
+
+-- phases after the first
+later : {ph : Phase} → is_nothing ph ≡ false → ph ≡ nothing → ⊥
+later h e = false≢true (sym h ∙ ap is_nothing e)
 
 nothing_yet : (ph : Phase) → Is (is_nothing ph) → ph ≡ nothing
 nothing_yet nothing h = refl
 nothing_yet declaring h = absurd (false≢true h)
 nothing_yet telling h = absurd (false≢true h)
 
-blank-shows : (u r o k : ℕ) → applied (record_so_far (blank 0 0 0 0)) (Sizes u r o k) ≡ record_so_far (blank u r o k)
-unfolding applied stored_by record_so_far record_with attribute_table kind_table domain_table known_table value_table assigned_table line_table permission_table blank
+blank-shows : (u r o k : ℕ) → stored_by (record_so_far (blank 0 0 0 0)) (Sizes u r o k) ≡ record_so_far (blank u r o k)
+unfolding stored_by record_so_far record_with attribute_table kind_table domain_table known_table value_table assigned_table line_table permission_table blank
 blank-shows u r o k = refl
 
 pub blank-sized : (u r o k : ℕ) → u ≤ 64 → r ≤ 64 → o ≤ 16 → k ≤ 32 → Sized (blank u r o k)
@@ -120,8 +123,8 @@ unfolding record_so_far record_with with_line attribute_table kind_table domain_
 line_else F j s = refl
 
 module _ (F : Policy) where
-  declare-shows : (side kind domain : ℕ) → side < 2 → get_or (attribute_table F) side 0 < 6 → applied (record_so_far F) (Declare side kind domain) ≡ record_so_far (with_kind F (side_by side) (eqb kind 1) domain)
-  unfolding applied stored_by record_so_far record_with
+  declare-shows : (side kind domain : ℕ) → side < 2 → get_or (attribute_table F) side 0 < 6 → stored_by (record_so_far F) (Declare side kind domain) ≡ record_so_far (with_kind F (side_by side) (eqb kind 1) domain)
+  unfolding stored_by record_so_far record_with
   declare-shows side kind domain h n =
       ap₂ (λ (a k : List ℕ). set_kinds (record_so_far F) a k (set (domain_table F) (6 * side + get_or (attribute_table F) side 0) domain)) (attribute-counted F side (eqb kind 1) domain h) (kind_marked F side (eqb kind 1) domain h)
       ∙ ap (λ (d : List ℕ). set_kinds (record_so_far F) (attribute_table (with_kind F (side_by side) (eqb kind 1) domain)) (kind_table (with_kind F (side_by side) (eqb kind 1) domain)) d) (domain-stored F side (eqb kind 1) domain h n)
@@ -129,33 +132,33 @@ module _ (F : Policy) where
       (sym (kind_values F side (eqb kind 1) domain).0) (sym (kind_values F side (eqb kind 1) domain).1)
       ∙ declared_else F side (eqb kind 1) domain h
 
-  give-shows : (kind : Bool) (side a x v : ℕ) → side < 2 → a < 6 → x < 64 → applied (record_so_far F) (Give kind side a x v) ≡ record_so_far (with_value F (side_by side) a x v)
-  unfolding applied stored_by record_so_far record_with
+  give-shows : (kind : Bool) (side a x v : ℕ) → side < 2 → a < 6 → x < 64 → stored_by (record_so_far F) (Give kind side a x v) ≡ record_so_far (with_value F (side_by side) a x v)
+  unfolding stored_by record_so_far record_with
   give-shows kind side a x v hs ha hx =
       ap₂ (λ (k w : List ℕ). set_values (record_so_far F) k w) (known-marked F side a x v hs ha) (value-stored F side a x v hs ha hx) ∙ given_else F side a x v hs
 
-  assign-shows : (k u : ℕ) → k < 32 → applied (record_so_far F) (Assign k u) ≡ record_so_far (with_assigned F k u)
-  unfolding applied stored_by record_so_far record_with
+  assign-shows : (k u : ℕ) → k < 32 → stored_by (record_so_far F) (Assign k u) ≡ record_so_far (with_assigned F k u)
+  unfolding stored_by record_so_far record_with
   assign-shows k u h = ap (λ (l : List ℕ). set_assigned (record_so_far F) l) (assigned-marked F k u h) ∙ assigned_else F k u
 
-  permit-shows : (k r o : ℕ) → k < 32 → o < most_operations → applied (record_so_far F) (Permit k r o) ≡ record_so_far (with_permitted F k r o)
-  unfolding applied stored_by record_so_far record_with
+  permit-shows : (k r o : ℕ) → k < 32 → o < most_operations → stored_by (record_so_far F) (Permit k r o) ≡ record_so_far (with_permitted F k r o)
+  unfolding stored_by record_so_far record_with
   permit-shows k r o h l = ap (λ (t : List ℕ). set_permissions (record_so_far F) t) (permission_marked F k r o h l) ∙ permitted_else F k r o
 
-  line-shows : (j s : ℕ) → j < 32 → applied (record_so_far F) (Line j s) ≡ record_so_far (with_line F j s)
-  unfolding applied stored_by record_so_far record_with
+  line-shows : (j s : ℕ) → j < 32 → stored_by (record_so_far F) (Line j s) ≡ record_so_far (with_line F j s)
+  unfolding stored_by record_so_far record_with
   line-shows j s h = ap (λ (l : List ℕ). set_lines (record_so_far F) l) (line_marked F j s h) ∙ line_else F j s
 
 -- what a command leaves of the policy F
 abbrev Leaves : Policy → Command → Policy → Type 0
-Leaves F c G = (Bounded (record_so_far F).attributes c) × (applied (record_so_far F) c ≡ record_so_far G) × Sized G
+Leaves F c G = (Bounded (record_so_far F).attributes c) × (stored_by (record_so_far F) c ≡ record_so_far G) × Sized G
 
 sizes_leave : (F : Policy) → F ≡ blank 0 0 0 0 → (u r o k : ℕ) → Carries (Leaves F (Sizes u r o k)) (take_sizes 2 u r o k)
 unfolding take_sizes Bounded
 sizes_leave F e u r o k =
     unless_carries (Leaves F (Sizes u r o k)) (leb u 64 && leb r 64 && leb o 16 && leb k 32) beyond (accepted (blank u r o k)) λ q.
     let a = and_three (leb u 64) (leb r 64) (leb o 16) (and_l (leb u 64 && leb r 64 && leb o 16) (leb k 32) q) in
-    (tt, ap (λ (G : Policy). applied (record_so_far G) (Sizes u r o k)) e ∙ blank-shows u r o k, blank-sized u r o k (leb-true u 64 a.0) (leb-true r 64 a.1) (leb-true o 16 a.2) (leb-true k 32 (and_r (leb u 64 && leb r 64 && leb o 16) (leb k 32) q)))
+    (tt, ap (λ (G : Policy). stored_by (record_so_far G) (Sizes u r o k)) e ∙ blank-shows u r o k, blank-sized u r o k (leb-true u 64 a.0) (leb-true r 64 a.1) (leb-true o 16 a.2) (leb-true k 32 (and_r (leb u 64 && leb r 64 && leb o 16) (leb k 32) q)))
 
 module _ (F : Policy) (Z : Sized F) where
   kind_leaves : (side kind domain : ℕ) → Carries (Leaves F (Declare side kind domain)) (take_kind F side kind domain)
@@ -243,11 +246,11 @@ module _ (F : Policy) (Z : Sized F) where
 
 -- an obeyed command: its operands, the record after it, the phase
 pub obeyed : (L : Loading) (c : Command) → Sized L.policy → (L.phase ≡ nothing → L.policy ≡ blank 0 0 0 0) → Carries (After L c) (obey_role 2 L (meaning c))
-unfolding obey_role Bounded applied record_so_far stored_by
-obeyed L (Sizes u r o k) Z f = entered L (Sizes u r o k) (is_nothing L.phase) declaring (take_sizes 2 u r o k) (λ q. refl) (λ z. omega arith) (λ p. sizes_leave L.policy (f (nothing_yet L.phase p)) u r o k)
-obeyed L (Declare side kind domain) Z f = entered L (Declare side kind domain) (is_declaring L.phase) declaring (take_kind L.policy side kind domain) (λ q. refl) (λ z. omega arith) (λ p. kind_leaves L.policy Z side kind domain)
-obeyed L (Give kind side a x v) Z f = entered L (Give kind side a x v) (not (is_nothing L.phase)) telling (take_value L.policy kind side a x v) (λ q. refl) (λ z. omega arith) (λ p. value_leaves L.policy Z kind side a x v)
-obeyed L (Assign k u) Z f = entered L (Assign k u) (not (is_nothing L.phase)) telling (take_assignment L.policy k u) (λ q. refl) (λ z. omega arith) (λ p. assignment_leaves L.policy Z k u)
-obeyed L (Permit k r o) Z f = entered L (Permit k r o) (not (is_nothing L.phase)) telling (take_permission L.policy k r o) (λ q. refl) (λ z. omega arith) (λ p. permission_leaves L.policy Z k r o)
-obeyed L (Line j s) Z f = entered L (Line j s) (not (is_nothing L.phase)) telling (take_line L.policy j s) (λ q. refl) (λ z. omega arith) (λ p. line_leaves L.policy Z j s)
-obeyed L End Z f = entered L End (not (is_nothing L.phase)) telling (accepted L.policy) (λ q. absurd (false≢true (sym q))) (λ z. omega arith) (λ p. (tt, refl, Z))
+unfolding obey_role Bounded record_so_far stored_by
+obeyed L (Sizes u r o k) Z f = entered L (Sizes u r o k) (is_nothing L.phase) declaring (take_sizes 2 u r o k) (λ q. refl) (later refl) (λ p. sizes_leave L.policy (f (nothing_yet L.phase p)) u r o k)
+obeyed L (Declare side kind domain) Z f = entered L (Declare side kind domain) (is_declaring L.phase) declaring (take_kind L.policy side kind domain) (λ q. refl) (later refl) (λ p. kind_leaves L.policy Z side kind domain)
+obeyed L (Give kind side a x v) Z f = entered L (Give kind side a x v) (not (is_nothing L.phase)) telling (take_value L.policy kind side a x v) (λ q. refl) (later refl) (λ p. value_leaves L.policy Z kind side a x v)
+obeyed L (Assign k u) Z f = entered L (Assign k u) (not (is_nothing L.phase)) telling (take_assignment L.policy k u) (λ q. refl) (later refl) (λ p. assignment_leaves L.policy Z k u)
+obeyed L (Permit k r o) Z f = entered L (Permit k r o) (not (is_nothing L.phase)) telling (take_permission L.policy k r o) (λ q. refl) (later refl) (λ p. permission_leaves L.policy Z k r o)
+obeyed L (Line j s) Z f = entered L (Line j s) (not (is_nothing L.phase)) telling (take_line L.policy j s) (λ q. refl) (later refl) (λ p. line_leaves L.policy Z j s)
+obeyed L End Z f = entered L End (not (is_nothing L.phase)) telling (accepted L.policy) (λ q. absurd (false≢true (sym q))) (later refl) (λ p. (tt, refl, Z))

@@ -1,16 +1,16 @@
 -- Closing seniority on the record's tables is closing it on the policy.
 -- Assumes nothing.
 use Rattle.std.specs.Prelude.{ℕ, get_or, Bool, ◌&&◌, ◌||◌, not, ◌≡◌}
-use Rattle.std.proofs.Math.Bool.{true, false, cond}
+use Rattle.std.proofs.Math.Bool.{true, false}
 use mathlib.Core.List.{List}
 use Rattle.std.proofs.Math.Path.{refl, sym, ap, ap₂}
 use Rattle.std.proofs.Common.{◌∙◌, arith}
 use Rattle.role_record.specs.Record.{Sized, table_of, assigned_table, line_table, record_with, record_so_far, record_of, set_derived}
-use Rattle.files.specs.Answer.{unless, own_senior, accepted}
+use Rattle.files.specs.Answer.{unless, map_answer, own_senior, refused, accepted}
 use Rattle.role_record.specs.RecordLaws.{table-bits}
 use Rattle.policy.specs.Policy.{Policy, reach, senior, circular, held}
 use Rattle.policy.specs.Rules.{user}
-use Rattle.role_file.specs.Reading.{refusal, loaded_of, settled_of}
+use Rattle.role_file.specs.Reading.{settled_of}
 use Rattle.role_seniority.specs.Closure.{among, closed, held_by, held_table}
 use Rattle.role_seniority.specs.ClosureLaws.{closed-bit, held-bit, senior-bit, circular-table, holder-bit}
 use Rattle.sets.specs.LoopLaws.{table_same}
@@ -40,22 +40,22 @@ module _ (F : Policy) (Z : Sized F) where
       (λ u m. sym (held-bit (assigned_table F) (closed (line_table F) F.roles) F.roles k u l m) ∙ holder-bit F Z.few (line_table F) lines-shown (assigned_table F) assigned-shown k u l m))
 
   -- THE LAW
-  pub settled : settled_of (record_so_far F) ≡ loaded_of (unless (not (circular F)) own_senior (accepted F))
-  unfolding settled_of record_so_far record_with loaded_of record_of
+  pub settled : settled_of (record_so_far F) ≡ map_answer record_of (unless (not (circular F)) own_senior (accepted F))
+  unfolding settled_of record_so_far record_with record_of
   settled =
-      ap (λ (b : Bool). cond b (refusal 7) (record { code = 0; file = set_derived (record_so_far F) (closed (line_table F) F.roles) (held_table (assigned_table F) (closed (line_table F) F.roles) F.roles) })) (circular-table F Z.few (line_table F) lines-shown)
-      ∙ ap₂ (λ (s h : List ℕ). cond (circular F) (refusal 7) (record { code = 0; file = set_derived (record_so_far F) s h })) seniors-shown holders-shown
+      ap (λ (b : Bool). unless (not b) own_senior (accepted (set_derived (record_so_far F) (closed (line_table F) F.roles) (held_table (assigned_table F) (closed (line_table F) F.roles) F.roles)))) (circular-table F Z.few (line_table F) lines-shown)
+      ∙ ap₂ (λ (s h : List ℕ). unless (not (circular F)) own_senior (accepted (set_derived (record_so_far F) s h))) seniors-shown holders-shown
       ∙ go (circular F)
     where
-      go : (b : Bool) → cond b (refusal 7) (record { code = 0; file = set_derived (record_so_far F) (table_of 32 (λ k. mask_of 64 (senior F k))) (table_of 32 (λ k. mask_of 64 (held F k))) }) ≡ loaded_of (unless (not b) own_senior (accepted F))
+      go : (b : Bool) → unless (not b) own_senior (accepted (set_derived (record_so_far F) (table_of 32 (λ k. mask_of 64 (senior F k))) (table_of 32 (λ k. mask_of 64 (held F k))))) ≡ map_answer record_of (unless (not b) own_senior (accepted F))
       go true = refl
       go false = refl
 
 -- what the code has worked out is what settling comes to
-pub settled-refused : (f : RoleFile) (l : List ℕ) → l ≡ closed f.lines f.roles → any (λ k. bit (get_or l k 0) k) (up_to f.roles) ≡ true → refusal 7 ≡ settled_of f
+pub settled-refused : (f : RoleFile) (l : List ℕ) → l ≡ closed f.lines f.roles → any (λ k. bit (get_or l k 0) k) (up_to f.roles) ≡ true → refused own_senior ≡ settled_of f
 unfolding settled_of
 settled-refused f l e h = rw (← e, h) refl
 
-pub settled-done : (f : RoleFile) (l h : List ℕ) → l ≡ closed f.lines f.roles → any (λ k. bit (get_or l k 0) k) (up_to f.roles) ≡ false → h ≡ held_table f.assigned l f.roles → record { code = 0; file = set_derived f l h } ≡ settled_of f
+pub settled-done : (f : RoleFile) (l h : List ℕ) → l ≡ closed f.lines f.roles → any (λ k. bit (get_or l k 0) k) (up_to f.roles) ≡ false → h ≡ held_table f.assigned l f.roles → accepted (set_derived f l h) ≡ settled_of f
 unfolding settled_of
 settled-done f l h e k q = rw (← e, k, ← q) refl

@@ -1,18 +1,18 @@
 -- What every accepted role file keeps to, whatever its bytes: the sizes that the record has room for.
 -- Assumes nothing.
 use Rattle.std.specs.Prelude.{ℕ, suc, leb, length, set, not, false, List, ◌≡◌, refl}
-use Rattle.std.proofs.Common.{sym, ap, ◌∙◌, subst, arith}
+use Rattle.std.proofs.Common.{◌∙◌, subst, arith}
 use Rattle.role_record.specs.Record.{Sized, record_of}
 use Rattle.role_commands.specs.DecodeLaws.{meaning}
-use Rattle.files.specs.Answer.{Answer, and_then, too_long, own_senior, refused, accepted}
+use Rattle.files.specs.Answer.{Answer, and_then, map_answer, too_long, own_senior, refused, accepted}
+use Rattle.files.proofs.AnswerLaws.{map-accepted}
 use Rattle.files.specs.Bytes.{read_on, read}
-use Rattle.files.proofs.BytesLaws.{Carries, unless_carries, then_carries, read_carries, number_positive}
+use Rattle.files.proofs.BytesLaws.{Carries, unless_carries, then_carries, read_carries}
 use Rattle.files.specs.RoleFile.{RoleCommand, Loading, blank, fresh, settle, obey_role, role_format, read_roles, sizes, declare, give, assign, permit, line, end, nothing}
 use Rattle.policy.specs.Policy.{circular, Policy}
 use Rattle.role_file.specs.ReadLaws.{After, blank-sized, obeyed}
-use Rattle.role_file.specs.Reading.{refusal, loaded_of}
 use Rattle.role_commands.specs.declared.Command.{Command}
-use Rattle.role_file.specs.declared.Loaded.{Loaded}
+use Rattle.role_record.specs.declared.RoleFile.{RoleFile}
 use Rattle.role_commands.specs.declared.Command.TheVariants.{Sizes, Declare, Give, Assign, Permit, Line, End}
 
 -- every command of the definitions is one of the code
@@ -63,10 +63,8 @@ accepted-sized bytes =
     begun = record { sized = blank-sized 0 0 0 0 (omega arith) (omega arith) (omega arith) (omega arith); unread = λ e. refl }
 
 -- a role file that was read: its policy, and the record of it
-pub loaded_policy : (file : List ℕ) (l : Loaded) → l ≡ loaded_of (read_roles 2 file) → l.code ≡ 0 → (F : Policy) × Sized F × (read_roles 2 file ≡ accepted F) × (l.file ≡ record_of F)
-unfolding loaded_of refusal
-loaded_policy file l e h = go (read_roles 2 file) refl (accepted-sized file) e
+pub read_policy : (file : List ℕ) (f : RoleFile) → accepted f ≡ map_answer record_of (read_roles 2 file) → (F : Policy) × Sized F × (read_roles 2 file ≡ accepted F) × (f ≡ record_of F)
+read_policy file f e = go (read_roles 2 file) refl (accepted-sized file) e
   where
-    go : (r : Answer Policy) → read_roles 2 file ≡ r → Carries Sized r → l ≡ loaded_of r → (F : Policy) × Sized F × (read_roles 2 file ≡ accepted F) × (l.file ≡ record_of F)
-    go (refused d) q z p = absurd (number_positive d (ap (λ (m : Loaded). m.code) (sym p) ∙ h))
-    go (accepted F) q z p = (F, z, q, ap (λ (m : Loaded). m.file) p)
+    go : (r : Answer Policy) → read_roles 2 file ≡ r → Carries Sized r → accepted f ≡ map_answer record_of r → (F : Policy) × Sized F × (read_roles 2 file ≡ accepted F) × (f ≡ record_of F)
+    go r q z p = let t = map-accepted record_of f r p in (t.value, subst (Carries Sized) t.is z, q ∙ t.is, t.made)

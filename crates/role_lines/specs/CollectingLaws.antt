@@ -1,12 +1,14 @@
 -- The state of the second pass, and what each turn makes of it.
 -- Assumes nothing.
-use Rattle.std.specs.Prelude.{ℕ, zero, suc, ◌≤◌, ◌<◌, ◌-◌, drop, take, get_or, set, Bool, ◌≡◌}
+use Rattle.std.specs.Prelude.{ℕ, zero, suc, ◌≤◌, ◌<◌, ◌-◌, drop, take, get_or, set, Bool, ◌≡◌, Ok, Err}
 use Rattle.std.proofs.Common.{lt-ltb, le-ltb, length-drop, sym, ◌∙◌, subst}
 use Rattle.std.proofs.Math.ListN.{length}
 use Rattle.std.proofs.Math.Bool.{true, false, false≢true}
+use Rattle.std.proofs.Math.Decide.{dec_lt}
 use mathlib.Core.List.{List, [], ◌∷◌}
 use Rattle.std.proofs.Math.Path.{refl, ap}
 use native.Mathlib.Omega.{arith}
+use Rattle.files.specs.declared.refusal.Refusal.{Refusal}
 use Rattle.files.specs.Answer.{Answer, and_then, refused, accepted}
 use Rattle.files.specs.Bytes.{read_on}
 use Rattle.files.proofs.BytesLaws.{follow, Carries}
@@ -14,17 +16,16 @@ use Rattle.files.proofs.CircleCallLaws.{commands_out}
 use Rattle.files.specs.RoleFile.{Loading, blank, is_end, fresh, obey_role, role_format, read_commands, nothing}
 use Rattle.policy.specs.Policy.{Policy}
 use Rattle.role_commands.specs.Decode.{decoded_of}
-use Rattle.role_commands.specs.DecodeLaws.{meaning, turn-short, turn-unknown, Front, turn-whole}
+use Rattle.role_commands.specs.DecodeLaws.{meaning, turn-refused, Front, turn-whole}
 use Rattle.role_commands.specs.declared.Command.{Command}
 use Rattle.role_commands.specs.declared.Command.TheVariants.{Sizes, Declare, Give, Assign, Permit, Line, End}
-use Rattle.role_commands.specs.declared.Decoded.TheVariants.{Whole, Unknown, Short}
 use Rattle.role_file.specs.ReadLaws.{After, obeyed}
 use Rattle.role_file.specs.RoleStateLaws.{begin, tail}
 use Rattle.role_lines.specs.Collecting.{roles_after, lines_after, Collected}
 use Rattle.role_record.specs.Record.{Sized, marked, empty_record, table_of, line_table, record_with, record_so_far}
 use Rattle.role_record.specs.RecordLaws.{table_none}
 use Rattle.role_record.specs.declared.RoleFile.{RoleFile}
-use Rattle.role_store.specs.Storing.{Bounded, applied, stored_by}
+use Rattle.role_store.specs.Storing.{Bounded, stored_by}
 
 -- a line as it is stored, and one that the table has no room for
 pub line-noted : (t : List ℕ) (j s v : ℕ) → j < 32 → v ≡ marked (get_or t j 0) s → set t j v ≡ lines_after (Line j s) t
@@ -34,8 +35,8 @@ pub line-passed : (t : List ℕ) (j s : ℕ) → 32 ≤ j → t ≡ lines_after 
 line-passed t j s h = rw (le-ltb j 32 h) refl
 
 -- a command keeps to what a record shows of lines
-pub roles-so : (f : RoleFile) (c : Command) → (applied f c).roles ≡ roles_after c f.roles
-unfolding applied stored_by
+pub roles-so : (f : RoleFile) (c : Command) → (stored_by f c).roles ≡ roles_after c f.roles
+unfolding stored_by
 roles-so f (Sizes u r o k) = refl
 roles-so f (Declare side kind domain) = refl
 roles-so f (Give s side a x v) = refl
@@ -44,8 +45,8 @@ roles-so f (Permit k r o) = refl
 roles-so f (Line j s) = refl
 roles-so f End = refl
 
-pub lines-so : (a : List ℕ) (f : RoleFile) (c : Command) → Bounded a c → (applied f c).lines ≡ lines_after c f.lines
-unfolding applied stored_by Bounded
+pub lines-so : (a : List ℕ) (f : RoleFile) (c : Command) → Bounded a c → (stored_by f c).lines ≡ lines_after c f.lines
+unfolding stored_by Bounded
 lines-so a f (Sizes u r o k) b = refl
 lines-so a f (Declare side kind domain) b = refl
 lines-so a f (Give s side c x v) b = refl
@@ -126,13 +127,10 @@ module _ (rest : List ℕ) (F : Policy) (roles : ℕ) (lines : List ℕ) (t : St
   going : 0 < length rest → read_on (role_format 2) (suc t.fuel) false t.loading rest ≡ accepted t.last
   going h = ap (λ (b : Bool). read_on (role_format 2) (suc t.fuel) b t.loading rest) (sym (none_over t.over refl h)) ∙ t.same
 
-  no_unknown : 0 < length rest → decoded_of rest ≡ Unknown → ⊥
-  no_unknown h e = false≢true (ap is_accepted (sym (turn-unknown t.fuel t.loading rest e) ∙ going h))
+  no_refusal : (e : Refusal) → 0 < length rest → decoded_of rest ≡ Err e → ⊥
+  no_refusal e h d = false≢true (ap is_accepted (sym (turn-refused t.fuel t.loading rest e d) ∙ going h))
 
-  no_short : 0 < length rest → decoded_of rest ≡ Short → ⊥
-  no_short h e = false≢true (ap is_accepted (sym (turn-short t.fuel t.loading rest e) ∙ going h))
-
-  one_more_lem : (c : Command) (w : ℕ) → decoded_of rest ≡ Whole c w → State (drop w rest) F (roles_after c roles) (lines_after c lines)
+  one_more_lem : (c : Command) (w : ℕ) → decoded_of rest ≡ Ok (c, w) → State (drop w rest) F (roles_after c roles) (lines_after c lines)
   one_more_lem c w e = go (obey_role 2 t.loading (meaning c)) (obeyed t.loading c t.sized t.unread) (sym front.turned ∙ going some)
     where
       front : Front t.fuel t.loading rest c w
@@ -182,22 +180,17 @@ module _ (rest : List ℕ) (F : Policy) (roles : ℕ) (lines : List ℕ) (t : St
 -- ---- as the loop has it
 
 module _ (file rest : List ℕ) (roles : ℕ) (lines : List ℕ) (t : Reached file rest roles lines) where
-  pub collect_unknown : (length rest ≡ 0 → ⊥) → decoded_of rest ≡ Unknown → Collected file roles lines
-  collect_unknown h e F k = absurd (no_unknown rest F roles lines (t F k) (omega arith) e)
-
-  pub collect_short : (length rest ≡ 0 → ⊥) → decoded_of rest ≡ Short → Collected file roles lines
-  collect_short h e F k = absurd (no_short rest F roles lines (t F k) (omega arith) e)
-
-  pub collect_on : (c : Command) (w : ℕ) → decoded_of rest ≡ Whole c w → (r : ℕ) (l : List ℕ) → r ≡ roles_after c roles → l ≡ lines_after c lines → Reached file (take (length rest - w) (drop w rest)) r l
+  pub collect_on : (c : Command) (w : ℕ) → decoded_of rest ≡ Ok (c, w) → (r : ℕ) (l : List ℕ) → r ≡ roles_after c roles → l ≡ lines_after c lines → Reached file (take (length rest - w) (drop w rest)) r l
   collect_on c w e r l p q F k =
       subst (λ (s : List ℕ). State s F r l) (sym (tail w rest)) (subst (λ (n : ℕ). State (drop w rest) F n l) (sym p) (subst (λ (s : List ℕ). State (drop w rest) F (roles_after c roles) s) (sym q) (one_more_lem rest F roles lines (t F k) c w e)))
 
-  pub collect_end : length rest ≡ 0 → Collected file roles lines
-  collect_end z F k = at-end rest F roles lines (t F k) z
+  -- no command is refused where bytes are left, so they are all read
+  pub collect_end : (e : Refusal) → decoded_of rest ≡ Err e → Collected file roles lines
+  collect_end e d F k = at-end rest F roles lines (t F k) (elim (dec_lt 0 (length rest)) [ yes p ↦ absurd (no_refusal rest F roles lines (t F k) e p d) | no q ↦ omega arith ])
 
 -- a whole command takes some bytes, and not more than there are
-pub whole-some : (rest : List ℕ) (c : Command) (w : ℕ) → decoded_of rest ≡ Whole c w → 0 < w
+pub whole-some : (rest : List ℕ) (c : Command) (w : ℕ) → decoded_of rest ≡ Ok (c, w) → 0 < w
 whole-some rest c w e = (turn-whole 0 fresh rest c w e).some_bytes
 
-pub whole-inside : (rest : List ℕ) (c : Command) (w : ℕ) → decoded_of rest ≡ Whole c w → w ≤ length rest
+pub whole-inside : (rest : List ℕ) (c : Command) (w : ℕ) → decoded_of rest ≡ Ok (c, w) → w ≤ length rest
 whole-inside rest c w e = (turn-whole 0 fresh rest c w e).inside

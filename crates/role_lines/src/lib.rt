@@ -1,64 +1,40 @@
 // The seniority lines of a role file that has a circle: reading refuses it by 7 and hands back no record, so a second pass collects them.
 #![tactic(auto)]
 
-ghost use Rattle.std.specs.Prelude.{length, ◌≡◌};
+ghost use Rattle.std.specs.Prelude.{◌≡◌};
 ghost use Rattle.role_lines.specs.Collecting.{roles_after, lines_after, Collected};
 
-use role_commands::{Command, Decoded};
+use role_commands::Command;
 use role_record::{ByRole, RoleFile};
 
 // What a command says of roles: 01 how many there are, 07 a line. A line that the table has no room for is passed over; files whose
 // commands are all obeyed have none.
-fn note(c: Command, roles: usize, lines: &mut [u64]) -> usize
-    requires { length lines.old ≡ 32 }
+fn note(c: Command, roles: usize, lines: &mut ByRole) -> usize
     ensures { (result ≡ roles_after c roles) × (lines.new ≡ lines_after c lines.old) }
 {
     match c {
-        Command::Sizes {
-            users: _,
-            resources: _,
-            operations: _,
-            roles: k,
-        } => k,
-        Command::Declare { .. } => roles,
-        Command::Give { .. } => roles,
-        Command::Assign { .. } => roles,
-        Command::Permit { .. } => roles,
+        Command::Sizes { roles: k, .. } => k,
         Command::Line { junior, senior } => {
             if junior < RoleFile::ROLES {
                 lines[junior] = sets::with(lines[junior], senior);
             }
             roles
         }
-        Command::End => roles,
+        _ => roles,
     }
 }
 
-// From command to command, for as long as there is a whole one: no command is tested again. Into a slice, since only a slice tells its
-// length to a proof.
-fn collect(file: &[u8], lines: &mut [u64]) -> usize
-    requires { length lines.old ≡ 32 }
+// How many roles a file has, and its lines, whatever the table held: of role j the roles that are its seniors by a line 07. From command to
+// command, for as long as there is a whole one: no command is tested again.
+pub fn lines(file: &[u8], lines: &mut ByRole) -> usize
     ensures { Collected file.now result lines.new }
 {
     role_record::clear(lines);
     let mut roles: usize = 0;
     let mut rest = file;
-    while rest.len() != 0 {
-        match role_commands::decode(rest) {
-            Decoded::Unknown => return roles,
-            Decoded::Short => return roles,
-            Decoded::Whole(c, w) => {
-                roles = note(c, roles, lines);
-                rest = &rest[w..];
-            }
-        }
+    while let Ok((c, w)) = role_commands::decode(rest) {
+        roles = note(c, roles, lines);
+        rest = &rest[w..];
     }
     roles
-}
-
-// How many roles a file has, and its lines, whatever the table held: of role j the roles that are its seniors by a line 07.
-pub fn lines(file: &[u8], out: &mut ByRole) -> usize
-    ensures { Collected file.now result out.new }
-{
-    collect(file, out)
 }

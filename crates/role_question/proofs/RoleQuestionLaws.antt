@@ -1,93 +1,72 @@
 -- What the record says of a question is what the policy says.
 -- Assumes nothing.
-use Rattle.std.specs.Prelude.{ℕ, ◌≤◌, eqb, ltb, get_or, true, false, cond, ◌&&◌, List, ◌∷◌, ◌≡◌}
-use Rattle.std.proofs.Common.{eq-eqb, ne_eqb, ltb-true, sym, ap, ◌∙◌, subst}
-use Rattle.std.proofs.Math.Bool.{Bool}
-use Rattle.std.proofs.Math.Path.{refl}
-use Rattle.role_record.specs.Cells.{permission_at}
-use Rattle.role_record.specs.Record.{Sized, record_with, record_of}
-use Rattle.role_admit.specs.RoleTableLaws.{record-grants}
-use Rattle.files.specs.Answer.{Refusal, number_of, Answer, told, unless, and_then, beyond, refused, accepted}
-use Rattle.files.proofs.BytesLaws.{Carries, number_positive}
-use Rattle.files.specs.Calls.{yes_no, is_triple, role_question}
+use Rattle.std.specs.Prelude.{ℕ, ◌≤◌, ◌<◌, get_or, Bool, true, false, ◌&&◌, List, ◌≡◌, refl}
+use Rattle.std.proofs.Common.{sym, ap, ◌∙◌, arith}
+use Rattle.files.specs.Answer.{Refusal, beyond, refused, accepted, map_answer}
+use Rattle.files.proofs.AnswerLaws.{map-refused}
+use Rattle.files.proofs.CallLaws.{triple-of}
+use Rattle.files.specs.Calls.{is_triple, role_question}
 use Rattle.files.specs.RoleFile.{read_roles}
 use Rattle.policy.specs.Policy.{Policy, side_of, setting_of, roles_in}
 use Rattle.policy.specs.Roles.{roles_grant}
-use Rattle.policy.specs.Rules.{user, resource}
-use Rattle.role_file.specs.Reading.{refusal, loaded_of}
-use Rattle.role_file.specs.SizedLaws.{accepted-sized}
-use Rattle.role_question.specs.Reply.{reply_numbers}
+use Rattle.role_admit.specs.RoleTableLaws.{record-grants}
+use Rattle.role_file.specs.SizedLaws.{read_policy}
+use Rattle.role_record.specs.Cells.{most_operations, permission_at}
+use Rattle.role_record.specs.Record.{Sized, sizes_of, in_sizes, record_with, record_of}
+use Rattle.role_record.specs.declared.RoleFile.{RoleFile}
 use Rattle.sets.specs.Sets.{bit}
-use Rattle.sets.specs.Tests.{any, up_to}
-use Rattle.role_file.specs.declared.Loaded.{Loaded}
-use Rattle.role_question.specs.declared.Reply.{Reply}
-use Rattle.role_question.specs.declared.Reply.TheVariants.{Yes, No, Refused}
+use Rattle.sets.specs.Tests.{Is, any, up_to}
 
--- the answer from what was loaded
-unfoldable pub asked : Loaded → ℕ → ℕ → ℕ → Reply
-asked l u r o =
-    cond (eqb l.code 0)
-    (cond (ltb u l.file.users)
-    (cond (ltb r l.file.resources)
-    (cond (ltb o l.file.operations)
-    (cond (any (λ k. bit (get_or l.file.holders k 0) u && bit (get_or l.file.permissions (permission_at k o) 0) r) (up_to l.file.roles)) Yes No)
-    (Refused 5)) (Refused 5)) (Refused 5)) (Refused l.code)
+-- by a record: some role that the user holds has the permission
+abbrev pub granted_in : RoleFile → ℕ → ℕ → ℕ → Bool
+granted_in f u r o = any (λ k. bit (get_or f.holders k 0) u && bit (get_or f.permissions (permission_at k o) 0) r) (up_to f.roles)
 
--- yes or no in numbers
-pub yes-no : (b : Bool) → reply_numbers (cond b Yes No) ≡ 0 ∷ yes_no b
-yes-no true = refl
-yes-no false = refl
+-- the record has a user, a resource and an operation where the policy has them
+triple-same : (F : Policy) (u r o : ℕ) → in_sizes (sizes_of (record_of F)) u r o ≡ is_triple (setting_of F) u r o
+unfolding in_sizes record_of record_with is_triple setting_of side_of
+triple-same F u r o = refl
 
-module _ (F : Policy) (Z : Sized F) where
-  answered : (u r o : ℕ) → reply_numbers (asked (record { code = 0; file = record_of F }) u r o) ≡ told yes_no (unless (is_triple (setting_of F) u r o) beyond (accepted (roles_grant (setting_of F) (roles_in F) u r o)))
-  unfolding asked is_triple record_of record_with setting_of side_of
-  answered u r o = go (ltb u (F.table user).count) refl (ltb r (F.table resource).count) refl (ltb o F.operations) refl
-    where
-      grants : Bool
-      grants = any (λ k. bit (get_or (record_of F).holders k 0) u && bit (get_or (record_of F).permissions (permission_at k o) 0) r) (up_to F.roles)
+roles-same : (F : Policy) → (record_of F).roles ≡ F.roles
+unfolding record_of record_with
+roles-same F = refl
 
-      inside : ltb u (F.table user).count ≡ true → ltb r (F.table resource).count ≡ true → ltb o F.operations ≡ true → grants ≡ roles_grant (setting_of F) (roles_in F) u r o
-      inside p q s = record-grants F Z u r o (record { user = ltb-true u (F.table user).count p; resource = ltb-true r (F.table resource).count q; op = ltb-true o F.operations s })
+slots-few : (F : Policy) → Sized F → (u r o : ℕ) → Is (is_triple (setting_of F) u r o) → o < most_operations
+unfolding setting_of
+slots-few F Z u r o t = let l = (triple-of (setting_of F) u r o t).op in let m = Z.operable in omega arith
 
-      go : (a : Bool) → ltb u (F.table user).count ≡ a → (b : Bool) → ltb r (F.table resource).count ≡ b → (c : Bool) → ltb o F.operations ≡ c
-          → reply_numbers (cond a (cond b (cond c (cond grants Yes No) (Refused 5)) (Refused 5)) (Refused 5)) ≡ told yes_no (unless (a && (b && c)) beyond (accepted (roles_grant (setting_of F) (roles_in F) u r o)))
-      go true p true q true s = yes-no grants ∙ ap (λ (x : Bool). 0 ∷ yes_no x) (inside p q s)
-      go true p true q false s = refl
-      go true p false q c s = refl
-      go false p b q c s = refl
+grants-same : (F : Policy) → Sized F → (u r o : ℕ) → Is (is_triple (setting_of F) u r o) → granted_in (record_of F) u r o ≡ roles_grant (setting_of F) (roles_in F) u r o
+unfolding record_of record_with
+grants-same F Z u r o t = record-grants F Z u r o (triple-of (setting_of F) u r o t)
 
--- THE LAW: what was loaded answers the question
-pub asked_means : (bytes : List ℕ) (u r o : ℕ) → reply_numbers (asked (loaded_of (read_roles 2 bytes)) u r o) ≡ told yes_no (role_question 2 bytes u r o)
-unfolding role_question asked loaded_of refusal
-asked_means bytes u r o = go (read_roles 2 bytes) (accepted-sized bytes)
-  where
-    go : (a : Answer Policy) → Carries Sized a → reply_numbers (asked (loaded_of a) u r o) ≡ told yes_no (and_then a (λ F. unless (is_triple (setting_of F) u r o) beyond (accepted (roles_grant (setting_of F) (roles_in F) u r o))))
-    go (refused e) z = refused-so e
-      where
-        refused-so : (e : Refusal) → reply_numbers (asked (loaded_of (refused e)) u r o) ≡ told yes_no (refused e)
-        refused-so e = rw (ne_eqb (number_of e) 0 (number_positive e)) refl
-    go (accepted F) z = answered F z u r o
+module _ (bytes : List ℕ) (u r o : ℕ) where
+  -- a refused file
+  pub file-refused : (e : Refusal) → refused e ≡ map_answer record_of (read_roles 2 bytes) → refused e ≡ role_question 2 bytes u r o
+  unfolding role_question
+  file-refused e h = rw (map-refused record_of e (read_roles 2 bytes) h) refl
 
--- ---- the answer, by the outcome of each test
+  module _ (f : RoleFile) (h : accepted f ≡ map_answer record_of (read_roles 2 bytes)) where
+    -- a number beyond the sizes
+    pub question-beyond : in_sizes (sizes_of f) u r o ≡ false → refused beyond ≡ role_question 2 bytes u r o
+    unfolding role_question
+    question-beyond b =
+        let p = read_policy bytes f h in
+        rw (p.2, sym (triple-same p.0 u r o) ∙ ap (λ (g : RoleFile). in_sizes (sizes_of g) u r o) (sym p.3) ∙ b) refl
 
-module _ (l : Loaded) (u r o : ℕ) where
-  pub asked-refused : (l.code ≡ 0 → ⊥) → Refused l.code ≡ asked l u r o
-  unfolding asked
-  asked-refused h = rw (ne_eqb l.code 0 h) refl
+    -- and others
+    module _ (b : in_sizes (sizes_of f) u r o ≡ true) where
+      inside : (F : Policy) → f ≡ record_of F → Is (is_triple (setting_of F) u r o)
+      inside F e = sym (triple-same F u r o) ∙ ap (λ (g : RoleFile). in_sizes (sizes_of g) u r o) (sym e) ∙ b
 
-  pub asked_by : (a b c d : Bool) → l.code ≡ 0 → ltb u l.file.users ≡ a → ltb r l.file.resources ≡ b → ltb o l.file.operations ≡ c
-      → any (λ k. bit (get_or l.file.holders k 0) u && bit (get_or l.file.permissions (permission_at k o) 0) r) (up_to l.file.roles) ≡ d
-      → asked l u r o ≡ cond a (cond b (cond c (cond d Yes No) (Refused 5)) (Refused 5)) (Refused 5)
-  unfolding asked
-  asked_by a b c d h p q s t = rw (eq-eqb l.code 0 h, p, q, s, t) refl
+      pub tables-long : (f.roles ≤ 32) × (o < most_operations)
+      tables-long =
+          let p = read_policy bytes f h in
+          let few = p.1.few in
+          let same = ap (λ (g : RoleFile). g.roles) p.3 ∙ roles-same p.0 in
+          (omega arith, slots-few p.0 p.1 u r o (inside p.0 p.3))
 
-pub loaded_sized : (bytes : List ℕ) (l : Loaded) → l ≡ loaded_of (read_roles 2 bytes) → l.code ≡ 0 → (l.file.roles ≤ 32) × (l.file.operations ≤ 16)
-unfolding loaded_of refusal record_of record_with
-loaded_sized bytes l e h = go (read_roles 2 bytes) (accepted-sized bytes) e
-  where
-    from-answer : (a : Answer Policy) → Carries Sized a → (loaded_of a).code ≡ 0 → ((loaded_of a).file.roles ≤ 32) × ((loaded_of a).file.operations ≤ 16)
-    from-answer (refused d) z k = absurd (number_positive d k)
-    from-answer (accepted F) z k = (z.few, z.operable)
-
-    go : (a : Answer Policy) → Carries Sized a → l ≡ loaded_of a → (l.file.roles ≤ 32) × (l.file.operations ≤ 16)
-    go a z q = subst (λ (x : Loaded). (x.file.roles ≤ 32) × (x.file.operations ≤ 16)) (sym q) (from-answer a z (ap (λ (x : Loaded). x.code) (sym q) ∙ h))
+      pub question-answered : accepted (granted_in f u r o) ≡ role_question 2 bytes u r o
+      unfolding role_question
+      question-answered =
+          let p = read_policy bytes f h in
+          let t = inside p.0 p.3 in
+          rw (p.2, t) (ap accepted (ap (λ (g : RoleFile). granted_in g u r o) p.3 ∙ grants-same p.0 p.1 u r o t))

@@ -2,22 +2,14 @@
 #![tactic(auto)]
 
 ghost use Rattle.std.specs.Prelude.{◌≡◌, ◌&&◌, ◌≤◌, ◌<◌, get_or};
-ghost use Rattle.files.specs.Answer.{told};
-ghost use Rattle.files.specs.Calls.{yes_no, role_question};
+ghost use Rattle.files.specs.Cause.{answer_of};
+ghost use Rattle.files.specs.Calls.{role_question};
 ghost use Rattle.role_record.specs.Cells.{most_operations, permission_at};
 ghost use Rattle.sets.specs.Sets.{bit};
 ghost use Rattle.sets.specs.Tests.{any, up_to};
-ghost use Rattle.role_question.specs.Reply.{reply_numbers};
 
-use files::refusal;
+use files::Refusal;
 use role_record::{ByRole, ByRoleOperation, RoleFile};
-
-#[derive(Clone, Copy)]
-pub enum Reply {
-    Yes,
-    No,
-    Refused(usize),
-}
 
 // Whether one number is in one set and another in another.
 fn in_both(a: u64, x: usize, b: u64, y: usize) -> bool
@@ -60,32 +52,19 @@ fn granted<'a>(
 }
 
 // Any numbers may be handed in: a number beyond the sizes is refused, after the file's own refusals.
-pub fn ask(file: &[u8], user: usize, resource: usize, operation: usize) -> Reply
-    ensures { reply_numbers result ≡ told yes_no (role_question 2 file.now user resource operation) }
+pub fn ask(file: &[u8], user: usize, resource: usize, operation: usize) -> Result<bool, Refusal>
+    ensures { answer_of result ≡ role_question 2 file.now user resource operation }
 {
-    let l = role_file::read(file);
-    if l.code != 0 {
-        return Reply::Refused(l.code);
+    let f = role_file::read(file)?;
+    if !f.sizes().has(user, resource, operation) {
+        return Err(Refusal::Beyond);
     }
-    let f = l.file;
-    if f.users <= user {
-        return Reply::Refused(refusal::BEYOND);
-    }
-    if f.resources <= resource {
-        return Reply::Refused(refusal::BEYOND);
-    }
-    if f.operations <= operation {
-        return Reply::Refused(refusal::BEYOND);
-    }
-    if granted(
+    Ok(granted(
         &f.holders,
         &f.permissions,
         f.roles,
         user,
         resource,
         operation,
-    ) {
-        return Reply::Yes;
-    }
-    Reply::No
+    ))
 }

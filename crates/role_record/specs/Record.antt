@@ -1,6 +1,6 @@
 -- What the record holds of a policy: each table as a list of masks.
 -- Assumes nothing.
-use Rattle.std.specs.Prelude.{ℕ, ◌+◌, ◌/◌, ◌%◌, ◌≤◌, ◌<◌, eqb, ltb, length, get_or, replicate, Bool, true, false, cond, ◌||◌, List, [], ◌∷◌, map}
+use Rattle.std.specs.Prelude.{ℕ, ◌+◌, ◌/◌, ◌%◌, ◌≤◌, ◌<◌, eqb, ltb, length, get_or, replicate, Bool, true, false, cond, ◌&&◌, ◌||◌, List, [], ◌∷◌, map}
 use Rattle.std.proofs.Math.Option.{Option, none, some}
 use Rattle.files.specs.RuleFile.{operations}
 use Rattle.role_record.specs.Cells.{most_operations, permission_role, permission_operation, permission_cells}
@@ -38,6 +38,14 @@ WithinLimits n = (n.users ≤ 64) × (n.resources ≤ 64) × (n.operations ≤ 1
 -- "at most 6 on a side": the attributes of both sides
 abbrev pub FewAttributes : List ℕ → Type 0
 FewAttributes attributes = (get_or attributes 0 0 ≤ 6) × (get_or attributes 1 0 ≤ 6)
+
+-- how many a record has of each
+abbrev pub sizes_of : RoleFile → Sizes
+sizes_of f = record { users = f.users; resources = f.resources; operations = f.operations; roles = f.roles }
+
+-- a user, a resource and an operation that there are
+unfoldable pub in_sizes : Sizes → ℕ → ℕ → ℕ → Bool
+in_sizes s u r o = ltb u s.users && (ltb r s.resources && ltb o s.operations)
 
 -- a table of n numbers
 unfoldable pub table_of : ℕ → (ℕ → ℕ) → List ℕ

@@ -2,7 +2,7 @@
 #![tactic(auto)]
 
 ghost use Rattle.std.specs.Prelude.{length, ◌≡◌, ◌<◌};
-ghost use Rattle.role_record.specs.Record.{table_of, empty_record, same_domain};
+ghost use Rattle.role_record.specs.Record.{table_of, empty_record, sizes_of, in_sizes, same_domain};
 
 // Its numbers stand one behind the other, as C has them: the record is handed over by value. Any numbers may stand there.
 #[repr(C)]
@@ -37,6 +37,15 @@ pub struct Sizes {
     pub resources: usize,
     pub operations: usize,
     pub roles: usize,
+}
+
+impl Sizes {
+    // Whether there are the user, the resource and the operation.
+    pub fn has(self, user: usize, resource: usize, operation: usize) -> bool
+        ensures { result ≡ in_sizes self user resource operation }
+    {
+        user < self.users && resource < self.resources && operation < self.operations
+    }
 }
 
 // Tables, each named by what its words belong to. Sides are 0 for users and 1 for resources; of two or more things the last goes
@@ -125,9 +134,20 @@ impl RoleFile {
             holders: [0u64; RoleFile::ROLES],
         }
     }
+
+    pub fn sizes(&self) -> Sizes
+        ensures { result ≡ sizes_of self.now }
+    {
+        Sizes {
+            users: self.users,
+            resources: self.resources,
+            operations: self.operations,
+            roles: self.roles,
+        }
+    }
 }
 
-// Makes every word of a table 0, whatever it held. Into a slice, since only a slice tells its length to a proof.
+// Makes every word of a table 0, whatever it held. Into a slice, as tables of any length are cleared.
 pub fn clear(out: &mut [u64])
     ensures { out.new ≡ table_of (length out.old) (λ i. 0) }
 {

@@ -22,8 +22,8 @@ fn through(own: u64, others: u64, n: usize) -> u64
 }
 
 // One round: role n may stand between two others too.
-fn pass(t: &mut [u64], n: usize)
-    requires { (n < 32) × (length t.old ≡ 32) }
+fn pass(t: &mut ByRole, n: usize)
+    requires { n < 32 }
     ensures { t.new ≡ passed t.old n }
 {
     let others = t[n];
@@ -32,9 +32,9 @@ fn pass(t: &mut [u64], n: usize)
     }
 }
 
-// Of a slice, since only a slice tells its length to a proof.
-fn close_all(t: &mut [u64], roles: usize)
-    requires { (roles ≤ 32) × (length t.old ≡ 32) }
+// All seniors from the direct ones: j is in t[i] where role j is a direct senior of role i, and afterwards where it is a senior.
+pub fn close(t: &mut ByRole, roles: usize)
+    requires { roles ≤ 32 }
     ensures { t.new ≡ closed t.old roles }
 {
     for n in 0..roles {
@@ -42,25 +42,12 @@ fn close_all(t: &mut [u64], roles: usize)
     }
 }
 
-// All seniors from the direct ones: j is in t[i] where role j is a direct senior of role i, and afterwards where it is a senior.
-pub fn close(t: &mut ByRole, roles: usize)
-    requires { roles ≤ 32 }
-    ensures { t.new ≡ closed t.old roles }
-{
-    close_all(t, roles);
-}
-
 // Whether a role is its own senior.
 pub fn circular(t: &ByRole, roles: usize) -> bool
     requires { roles ≤ 32 }
     ensures { result ≡ any (λ k. bit (get_or t.now k 0) k) (up_to roles) }
 {
-    for k in 0..roles {
-        if sets::has(t[k], k) {
-            return true;
-        }
-    }
-    false
+    (0..roles).any(|k| sets::has(t[k], k))
 }
 
 // The users assigned to a role, and those assigned to its seniors.
@@ -77,20 +64,12 @@ fn held(assigned: &ByRole, own: u64, seniors: u64, roles: usize) -> u64
     users
 }
 
-// Into a slice, since only a slice tells its length to a proof.
-fn hold<'a>(assigned: &'a ByRole, seniors: &'a ByRole, roles: usize, out: &mut [u64])
-    requires { (roles ≤ 32) × (length out.old ≡ 32) }
-    ensures { out.new ≡ held_table assigned.now seniors.now roles }
-{
-    for k in 0..RoleFile::ROLES {
-        out[k] = held(assigned, assigned[k], seniors[k], roles);
-    }
-}
-
 // The holders of each role, the users assigned to it or to a senior, whatever the table held.
 pub fn holders<'a>(assigned: &'a ByRole, seniors: &'a ByRole, roles: usize, out: &mut ByRole)
     requires { roles ≤ 32 }
     ensures { out.new ≡ held_table assigned.now seniors.now roles }
 {
-    hold(assigned, seniors, roles, out);
+    for k in 0..RoleFile::ROLES {
+        out[k] = held(assigned, assigned[k], seniors[k], roles);
+    }
 }

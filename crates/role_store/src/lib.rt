@@ -1,44 +1,19 @@
 // Commands of a role file stored where they belong.
 #![tactic(auto)]
 
-ghost use Rattle.std.specs.Prelude.{◌≡◌, ◌+◌, ◌*◌, ◌<◌, eqb, get_or, length, set};
+ghost use Rattle.std.specs.Prelude.{◌≡◌, ◌<◌, eqb, get_or, length};
 ghost use Rattle.role_record.specs.Record.{marked_if};
-ghost use Rattle.role_store.specs.Storing.{Bounded, added, phase_after, stored_by, tabled};
+ghost use Rattle.role_store.specs.Storing.{Bounded, added, declared_by, given_by, phase_after, stored_by};
 
-use role_admit::phase;
+use role_admit::Phase;
 use role_commands::Command;
-use role_record::{
-    ByAttribute, ByRole, ByRoleOperation, BySide, CountBySide, RoleFile, Sizes, Values,
-};
+use role_record::RoleFile;
 
 // The set with x in it too, if the kind is that of sets.
 fn mark(m: u64, x: usize, kind: usize) -> u64
     ensures { result ≡ marked_if (eqb kind 1) m x }
 {
     if kind == 1 { sets::with(m, x) } else { m }
-}
-
-// One attribute more of a side, of this kind and in this domain.
-fn declare(
-    side: usize,
-    kind: usize,
-    domain: usize,
-    attributes: &mut CountBySide,
-    kinds: &mut BySide,
-    domains: &mut ByAttribute,
-)
-    requires { (side < 2) × (get_or attributes.old side 0 < 6) }
-    ensures { (attributes.new ≡ set attributes.old side (get_or attributes.old side 0 + 1))
-        × (kinds.new
-        ≡ set kinds.old side
-        (marked_if (eqb kind 1) (get_or kinds.old side 0) (get_or attributes.old side 0)))
-        × (domains.new
-        ≡ set domains.old (6 * side + get_or attributes.old side 0) domain) }
-{
-    let n = attributes[side];
-    kinds[side] = mark(kinds[side], n, kind);
-    domains[RoleFile::ATTRIBUTES * side + n] = domain as u64;
-    attributes[side] = n + 1;
 }
 
 // One element more in set i of a table.
@@ -49,51 +24,48 @@ fn add(t: &mut [u64], i: usize, x: usize)
     t[i] = sets::with(t[i], x);
 }
 
-// A value more, and that it is known.
-fn give(
-    side: usize,
-    attribute: usize,
-    who: usize,
-    value: u64,
-    known: &mut ByAttribute,
-    values: &mut Values,
-)
-    requires { (side < 2) × (attribute < 6) × (who < 64) }
-    ensures { (known.new ≡ added known.old (6 * side + attribute) who)
-        × (values.new ≡ set values.old (64 * (6 * side + attribute) + who) value) }
+// One attribute more of a side, of this kind and in this domain.
+fn declare(f: &mut RoleFile, side: usize, kind: usize, domain: usize)
+    requires { (side < 2) × (get_or f.old.attributes side 0 < 6) }
+    ensures { f.new ≡ declared_by f.old side kind domain }
 {
-    let column = RoleFile::ATTRIBUTES * side + attribute;
-    add(known, column, who);
-    values[RoleFile::MEMBERS * column + who] = value;
+    let attribute = f.attributes[side];
+    f.kinds[side] = mark(f.kinds[side], attribute, kind);
+    f.domains[RoleFile::ATTRIBUTES * side + attribute] = domain as u64;
+    f.attributes[side] = attribute + 1;
 }
 
-// Stores what an admitted command says in the table where it belongs; the phase after it.
-pub fn store(
-    c: Command,
-    attributes: &mut CountBySide,
-    kinds: &mut BySide,
-    domains: &mut ByAttribute,
-    known: &mut ByAttribute,
-    values: &mut Values,
-    assigned: &mut ByRole,
-    lines: &mut ByRole,
-    permissions: &mut ByRoleOperation,
-) -> usize
-    requires { Bounded attributes.old c }
-    ensures { (result ≡ phase_after c)
-        × (tabled attributes.new kinds.new domains.new known.new
-        values.new
-        assigned.new lines.new permissions.new
-        ≡ stored_by
-        (tabled attributes.old kinds.old domains.old known.old
-        values.old
-        assigned.old lines.old permissions.old) c) }
+// A value more, and that it is known.
+fn give(f: &mut RoleFile, side: usize, attribute: usize, who: usize, value: u64)
+    requires { (side < 2) × (attribute < 6) × (who < 64) }
+    ensures { f.new ≡ given_by f.old side attribute who value }
+{
+    let column = RoleFile::ATTRIBUTES * side + attribute;
+    add(&mut f.known, column, who);
+    f.values[RoleFile::MEMBERS * column + who] = value;
+}
+
+// Stores what an admitted command says where it belongs; the phase after it.
+pub fn store(c: Command, f: &mut RoleFile) -> Phase
+    requires { Bounded f.old.attributes c }
+    ensures { (result ≡ phase_after c) × (f.new ≡ stored_by f.old c) }
 {
     match c {
-        Command::Sizes { .. } => phase::DECLARING,
+        Command::Sizes {
+            users,
+            resources,
+            operations,
+            roles,
+        } => {
+            f.users = users;
+            f.resources = resources;
+            f.operations = operations;
+            f.roles = roles;
+            Phase::Declaring
+        }
         Command::Declare { side, kind, domain } => {
-            declare(side, kind, domain, attributes, kinds, domains);
-            phase::DECLARING
+            declare(f, side, kind, domain);
+            Phase::Declaring
         }
         Command::Give {
             set: _,
@@ -102,26 +74,26 @@ pub fn store(
             who,
             value,
         } => {
-            give(side, attribute, who, value, known, values);
-            phase::TELLING
+            give(f, side, attribute, who, value);
+            Phase::Telling
         }
         Command::Assign { role, user } => {
-            add(assigned, role, user);
-            phase::TELLING
+            add(&mut f.assigned, role, user);
+            Phase::Telling
         }
         Command::Permit {
             role,
             resource,
             operation,
         } => {
-            let i = RoleFile::ROLES * operation + role;
-            add(permissions, i, resource);
-            phase::TELLING
+            let cell = RoleFile::ROLES * operation + role;
+            add(&mut f.permissions, cell, resource);
+            Phase::Telling
         }
         Command::Line { junior, senior } => {
-            add(lines, junior, senior);
-            phase::TELLING
+            add(&mut f.lines, junior, senior);
+            Phase::Telling
         }
-        Command::End => phase::ENDED,
+        Command::End => Phase::Ended,
     }
 }

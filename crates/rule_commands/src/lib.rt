@@ -1,11 +1,10 @@
 // The commands of a rule file, taken from the front of its bytes.
 #![tactic(auto)]
 
-ghost use Rattle.std.specs.Prelude.{◌≡◌, [], ◌∷◌};
-ghost use Rattle.file_bytes.specs.Numbers.{number_at};
+ghost use Rattle.std.specs.Prelude.{◌≡◌, ◌≤◌, [], ◌∷◌};
 ghost use Rattle.rule_commands.specs.Raw.{taken_by, raw_of, raw_before};
 
-use files::rule_byte;
+use files::{Refusal, rule_byte};
 
 // An atom by the kinds of its two attributes: the user attribute, the resource attribute.
 #[derive(Clone, Copy)]
@@ -35,148 +34,66 @@ pub enum RuleCommand {
     Ends,
 }
 
-// What stands at the front of the bytes: a command byte, its first and its second operand (0 where there is none) and how
-// many bytes they take; an unknown command; or less than a command. The command itself is not made here: which atom a 27
-// is depends on the kinds of its attributes, and the order of commands is that of these numbers.
-#[derive(Clone, Copy)]
-pub enum Raw {
-    Whole(usize, u64, u64, usize),
-    Unknown,
-    Short,
+// A line as it stands in the file: its command byte and its first and second operand, 0 where there is none. The command itself is not made
+// here: which atom a 27 is depends on the kinds of its attributes, and the order of lines is that of these numbers.
+#[derive(Clone, Copy, PartialEq, Eq, PartialOrd, Ord)]
+pub struct Raw {
+    pub byte: usize,
+    pub first: u64,
+    pub second: u64,
 }
 
-// The operands are read by the total `byte_at`. Each caller tests the length first, so that no test is left at a single byte.
-
-// Two bytes from place 1 on, low byte first.
-fn pair_at_1(s: &[u8]) -> u64
-    ensures { result ≡ number_at 2 s.now 1 }
+// The line of this byte with two operands of so many bytes, behind which stand further ones that are not looked at; and how many bytes it
+// takes.
+fn taken<const FIRST: usize, const SECOND: usize>(
+    s: &[u8],
+    byte: usize,
+    further: usize,
+) -> Result<(Raw, usize), Refusal>
+    requires { (FIRST ≤ 7) × (SECOND ≤ 8) × (further ≤ 4) }
+    ensures { result ≡ taken_by (FIRST ∷ SECOND ∷ further ∷ []) byte s.now }
 {
-    (file_bytes::byte_at(s, 1) + 256 * file_bytes::byte_at(s, 2)) as u64
-}
-
-// Two bytes from place 2 on, low byte first.
-fn pair_at_2(s: &[u8]) -> u64
-    ensures { result ≡ number_at 2 s.now 2 }
-{
-    (file_bytes::byte_at(s, 2) + 256 * file_bytes::byte_at(s, 3)) as u64
-}
-
-// Eight bytes from place 2 on, low byte first.
-fn word_at_2(s: &[u8]) -> u64
-    ensures { result ≡ number_at 8 s.now 2 }
-{
-    let b0 = file_bytes::byte_at(s, 2) as u64;
-    let b1 = file_bytes::byte_at(s, 3) as u64;
-    let b2 = file_bytes::byte_at(s, 4) as u64;
-    let b3 = file_bytes::byte_at(s, 5) as u64;
-    let b4 = file_bytes::byte_at(s, 6) as u64;
-    let b5 = file_bytes::byte_at(s, 7) as u64;
-    let b6 = file_bytes::byte_at(s, 8) as u64;
-    let b7 = file_bytes::byte_at(s, 9) as u64;
-    b0 + 256 * (b1 + 256 * (b2 + 256 * (b3 + 256 * (b4 + 256 * (b5 + 256 * (b6 + 256 * b7))))))
-}
-
-// A command of two operands of one byte each.
-fn two_bytes(s: &[u8], b: usize) -> Raw
-    ensures { result ≡ taken_by (1 ∷ 1 ∷ []) b s.now }
-{
-    if s.len() < 3 {
-        return Raw::Short;
+    let width = 1 + FIRST + SECOND + further;
+    if s.len() < width {
+        return Err(Refusal::RulesCutOff);
     }
-    let x = file_bytes::byte_at(s, 1) as u64;
-    let y = file_bytes::byte_at(s, 2) as u64;
-    Raw::Whole(b, x, y, 3)
+    let first = file_bytes::number::<FIRST>(s, 1);
+    let second = file_bytes::number::<SECOND>(s, 1 + FIRST);
+    Ok((
+        Raw {
+            byte,
+            first,
+            second,
+        },
+        width,
+    ))
 }
 
-// A command of one operand of two bytes.
-fn one_pair(s: &[u8], b: usize) -> Raw
-    ensures { result ≡ taken_by (2 ∷ []) b s.now }
-{
-    if s.len() < 3 {
-        return Raw::Short;
-    }
-    let x = pair_at_1(s);
-    Raw::Whole(b, x, 0, 3)
-}
-
-// A command of one operand of one byte.
-fn one_byte(s: &[u8], b: usize) -> Raw
-    ensures { result ≡ taken_by (1 ∷ []) b s.now }
-{
-    if s.len() < 2 {
-        return Raw::Short;
-    }
-    let x = file_bytes::byte_at(s, 1) as u64;
-    Raw::Whole(b, x, 0, 2)
-}
-
-// A command of an operand of one byte and one of two bytes.
-fn byte_and_pair(s: &[u8], b: usize) -> Raw
-    ensures { result ≡ taken_by (1 ∷ 2 ∷ []) b s.now }
-{
-    if s.len() < 4 {
-        return Raw::Short;
-    }
-    let x = file_bytes::byte_at(s, 1) as u64;
-    let y = pair_at_2(s);
-    Raw::Whole(b, x, y, 4)
-}
-
-// A command of an operand of one byte and one of eight bytes.
-fn byte_and_word(s: &[u8], b: usize) -> Raw
-    ensures { result ≡ taken_by (1 ∷ 8 ∷ []) b s.now }
-{
-    if s.len() < 10 {
-        return Raw::Short;
-    }
-    let x = file_bytes::byte_at(s, 1) as u64;
-    let y = word_at_2(s);
-    Raw::Whole(b, x, y, 10)
-}
-
-// A command of six operands of one byte each, of which the first two are handed on.
-fn six_bytes(s: &[u8], b: usize) -> Raw
-    ensures { result ≡ taken_by (1 ∷ 1 ∷ 1 ∷ 1 ∷ 1 ∷ 1 ∷ []) b s.now }
-{
-    if s.len() < 7 {
-        return Raw::Short;
-    }
-    let x = file_bytes::byte_at(s, 1) as u64;
-    let y = file_bytes::byte_at(s, 2) as u64;
-    Raw::Whole(b, x, y, 7)
-}
-
-// The next command.
-pub fn next(s: &[u8]) -> Raw
+// The line at the front of the bytes, and how many of them it takes; refused where its command is unknown, or where there is less than one.
+pub fn next(s: &[u8]) -> Result<(Raw, usize), Refusal>
     ensures { result ≡ raw_of s.now }
 {
-    if s.len() == 0 {
-        return Raw::Short;
+    if s.is_empty() {
+        return Err(Refusal::RulesCutOff);
     }
     let b = file_bytes::byte_at(s, 0);
     match b {
-        rule_byte::OPENS | rule_byte::ENDS => Raw::Whole(b, 0, 0, 1),
-        rule_byte::USER_SINGLE | rule_byte::RESOURCE_SINGLE | rule_byte::PART => byte_and_pair(
-            s, b,
+        rule_byte::OPENS | rule_byte::ENDS => taken::<0, 0>(s, b, 0),
+        rule_byte::USER_SINGLE | rule_byte::RESOURCE_SINGLE | rule_byte::PART => taken::<1, 2>(
+            s, b, 0,
         ),
-        rule_byte::USER_SET | rule_byte::RESOURCE_SET => byte_and_word(s, b),
-        rule_byte::OPERATIONS => one_pair(s, b),
-        rule_byte::LINK => two_bytes(s, b),
-        rule_byte::SHAPE => six_bytes(s, b),
-        rule_byte::LEVEL => one_byte(s, b),
-        _ => Raw::Unknown,
+        rule_byte::USER_SET | rule_byte::RESOURCE_SET => taken::<1, 8>(s, b, 0),
+        rule_byte::OPERATIONS => taken::<2, 0>(s, b, 0),
+        rule_byte::LINK => taken::<1, 1>(s, b, 0),
+        rule_byte::SHAPE => taken::<1, 1>(s, b, 4),
+        rule_byte::LEVEL => taken::<1, 0>(s, b, 0),
+        _ => Err(Refusal::RulesUnknown),
     }
 }
 
-// Whether the command b with operands x, y stands before the command c with operands z, w: the first number that differs decides.
-pub fn before(b: usize, x: u64, y: u64, c: usize, z: u64, w: u64) -> bool
-    ensures { result ≡ raw_before b x y c z w }
+// Whether one line stands before another: the first number that differs decides.
+pub fn before(a: Raw, b: Raw) -> bool
+    ensures { result ≡ raw_before a b }
 {
-    if b != c {
-        return b < c;
-    }
-    if x != z {
-        return x < z;
-    }
-    y < w
+    a < b
 }

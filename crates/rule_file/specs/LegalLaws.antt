@@ -1,23 +1,25 @@
 -- What holds of two files that were accepted: the sizes are within the limits, and every line is legal.
 -- Assumes nothing.
-use Rattle.std.specs.Prelude.{ℕ, suc, ◌≤◌, length, true, ◌≡◌}
+use Rattle.std.specs.Prelude.{ℕ, suc, length, true, ◌≡◌}
 use Rattle.std.proofs.Math.Bool.{false}
 use mathlib.Core.List.Memᴰ
 use mathlib.Core.List.{List, [], ◌∷◌, ◌++◌}
-use Rattle.std.proofs.Common.{⊎_elim, sym, ap, ◌∙◌, subst}
+use Rattle.std.proofs.Common.{⊎_elim, sym, ap, subst}
 use Rattle.std.proofs.Math.Option.{Option, none, some}
-use Rattle.role_record.specs.Record.{Sized, record_with, record_of, attribute_table, FewAttributes}
+use Rattle.role_record.specs.Record.{Sized, record_with, record_of, sizes_of, attribute_table, WithinLimits, FewAttributes}
+use Rattle.role_record.specs.declared.RoleFile.{RoleFile}
 use Rattle.files.specs.Beside.{Beside, beside_of}
-use Rattle.files.specs.Answer.{Answer, and_then, unless, rules_order, rules_operand, wrong_level, accepted, refused}
+use Rattle.files.specs.Answer.{Answer, and_then, map_answer, unless, rules_order, rules_operand, wrong_level, accepted, refused}
+use Rattle.files.proofs.AnswerLaws.{From, map-accepted}
 use Rattle.files.specs.Bytes.{read}
-use Rattle.files.proofs.BytesLaws.{Carries, unless_carries, then_carries, any-carried, number_positive, read_carries}
+use Rattle.files.proofs.BytesLaws.{Carries, unless_carries, then_carries, any-carried, read_carries}
 use Rattle.files.specs.Calls.{read_both}
 use Rattle.files.specs.RoleFile.{read_roles}
 use Rattle.files.specs.RuleFile.{RuleCommand as Line, Lines, Reading, whole, finished, follows, legal, levelled, add_line, obey_rule, rule_format, opened, read_body, read_rules, reshapes, opens, value, operations, link, part, level, ends}
 use Rattle.policy.specs.Policy.{Policy}
 use Rattle.policy.specs.Rules.{user, resource}
 use Rattle.role_file.specs.SizedLaws.{accepted-sized}
-use Rattle.rule_reading.specs.BothFiles.{nothing_read, both_of}
+use Rattle.rule_reading.specs.BothFiles.{both_of}
 use Rattle.rule_reading.proofs.RuleStateLaws.{open_lines, start}
 use Rattle.rule_satisfaction.specs.Satisfaction.{Legal}
 use Rattle.sets.specs.Tests.{Is, ◌is_in◌}
@@ -100,20 +102,23 @@ both-sound file rules =
     pair : Policy → List Lines → Answer (Policy × List Lines)
     pair F ls = accepted (F, ls)
 
--- the record of an accepted file has its sizes within the limits
-both-limits : (file rules : List ℕ) (b : BothFiles) → b ≡ both_of (read_both 2 file rules) → b.code ≡ 0 → ((b.file.users ≤ 64) × (b.file.resources ≤ 64) × (b.file.operations ≤ 16) × (b.file.roles ≤ 32)) × FewAttributes b.file.attributes
-unfolding both_of nothing_read record_of record_with attribute_table
-both-limits file rules b e h = go (read_both 2 file rules) (both-sound file rules) e
-  where
-    from-answer : (a : Answer (Policy × List Lines)) → Carries Sound a → (both_of a).code ≡ 0 → (((both_of a).file.users ≤ 64) × ((both_of a).file.resources ≤ 64) × ((both_of a).file.operations ≤ 16) × ((both_of a).file.roles ≤ 32)) × FewAttributes (both_of a).file.attributes
-    from-answer (refused d) z k = absurd (number_positive d k)
-    from-answer (accepted p) z k = ((z.sized.many user, z.sized.many resource, z.sized.operable, z.sized.few), (z.sized.declared user, z.sized.declared resource))
+-- what was made of two files that were accepted: the policy and the rules that it was made of, and what its record keeps to
+pub record Accepted (file rules : List ℕ) (b : BothFiles) : Type 0 where
+  pub from : From both_of b (read_both 2 file rules)
+  pub sound : Sound from.value
+  pub sizes : WithinLimits (sizes_of b.file)
+  pub attributes : FewAttributes b.file.attributes
 
-    go : (a : Answer (Policy × List Lines)) → Carries Sound a → b ≡ both_of a → ((b.file.users ≤ 64) × (b.file.resources ≤ 64) × (b.file.operations ≤ 16) × (b.file.roles ≤ 32)) × FewAttributes b.file.attributes
-    go a z q = subst (λ (x : BothFiles). ((x.file.users ≤ 64) × (x.file.resources ≤ 64) × (x.file.operations ≤ 16) × (x.file.roles ≤ 32)) × FewAttributes x.file.attributes) (sym q) (from-answer a z (ap (λ (x : BothFiles). x.code) (sym q) ∙ h))
-
-pub both-sizes : (file rules : List ℕ) (b : BothFiles) → b ≡ both_of (read_both 2 file rules) → b.code ≡ 0 → (b.file.users ≤ 64) × (b.file.resources ≤ 64) × (b.file.operations ≤ 16) × (b.file.roles ≤ 32)
-both-sizes file rules b e h = (both-limits file rules b e h).0
-
-pub both-attributes : (file rules : List ℕ) (b : BothFiles) → b ≡ both_of (read_both 2 file rules) → b.code ≡ 0 → FewAttributes b.file.attributes
-both-attributes file rules b e h = (both-limits file rules b e h).1
+-- THE LAW
+pub both-accepted : (file rules : List ℕ) (b : BothFiles) → accepted b ≡ map_answer both_of (read_both 2 file rules) → Accepted file rules b
+unfolding both_of record_of record_with attribute_table
+both-accepted file rules b e =
+    let t = map-accepted both_of b (read_both 2 file rules) e in
+    let z : Sound t.value = subst (Carries Sound) t.is (both-sound file rules) in
+    let f = ap (λ (c : BothFiles). c.file) (sym t.made) in
+    record {
+      from = t;
+      sound = z;
+      sizes = subst (λ (g : RoleFile). WithinLimits (sizes_of g)) f (z.sized.many user, z.sized.many resource, z.sized.operable, z.sized.few);
+      attributes = subst (λ (g : RoleFile). FewAttributes g.attributes) f (z.sized.declared user, z.sized.declared resource);
+    }

@@ -2,34 +2,59 @@
 -- Assumes nothing.
 use Rattle.std.specs.Prelude.{ℕ, ◌-◌, ◌≤◌, length, take, drop, List, ◌++◌, ◌≡◌}
 use Rattle.std.proofs.Common.{take_at, length-take-le, sym, ◌∙◌, subst, arith}
-use Rattle.std.proofs.Math.Path.{refl, ap}
-use Rattle.files.specs.Answer.{Answer, and_then, refused, accepted}
+use Rattle.std.proofs.Math.Path.{ap}
+use Rattle.files.specs.Answer.{Refusal as Cause, Answer, and_then, map_answer, refused, accepted}
+use Rattle.files.proofs.AnswerLaws.{map-refused, map-accepted}
 use Rattle.files.specs.Beside.{shape_of, beside_of}
 use Rattle.files.specs.Calls.{read_both}
 use Rattle.files.specs.RoleFile.{read_roles}
 use Rattle.files.specs.RuleFile.{Lines, opened, read_body, read_rules}
 use Rattle.grant_grids.specs.Grid.{grid_of}
 use Rattle.grant_grids.proofs.GridLaws.{grid_long}
+use Rattle.grant_grids.specs.Links.{link_table}
 use Rattle.policy.specs.Policy.{Policy}
-use Rattle.policy.specs.Rules.{Block}
+use Rattle.policy.specs.Rules.{Block, resource}
 use Rattle.role_record.specs.Cells.{grid_cells}
-use Rattle.role_record.specs.Record.{record_with, record_of}
+use Rattle.role_record.specs.Record.{Sized, record_with, record_of, sizes_of}
 use Rattle.role_record.specs.declared.RoleFile.{RoleFile}
-use Rattle.rule_opening.specs.Opening.{shape_in, code_of}
+use Rattle.rule_opening.specs.Opening.{shape_in, opening_of}
 use Rattle.rule_opening.specs.OpeningLaws.{shape-so, opened-rest}
-use Rattle.rule_reading.specs.BothFiles.{nothing_read, both_of, GridShown}
-use Rattle.rule_reading.specs.Turns.{sizes_of, read_beside}
-use Rattle.rule_reading.specs.declared.BothFiles.{BothFiles}
+use Rattle.rule_reading.specs.BothFiles.{both_of, GridShown, GridLent}
+use Rattle.rule_reading.specs.Turns.{Tabled, read_beside}
 use Rattle.rule_steps.specs.Shows.{granted_within}
 
-module _ (file rules : List ℕ) (F : Policy) (stated : read_roles 2 file ≡ accepted F) (f : RoleFile) (shown : f ≡ record_of F) (n : ℕ)
-    (q : n ≡ code_of (opened 2 (shape_in (sizes_of f) f.attributes) rules)) where
-  -- the number is that of the first command beside the policy's shape
-  code-so : n ≡ code_of (opened 2 (shape_of F) rules)
-  code-so =
+-- ---- the role file
+
+-- it was refused
+pub roles-refused : (file rules : List ℕ) (e : Cause) → refused e ≡ map_answer record_of (read_roles 2 file) → refused e ≡ read_both 2 file rules
+unfolding read_both
+roles-refused file rules e h =
+    ap (λ (r : Answer Policy). and_then r (λ F. and_then (read_rules 2 (beside_of F) rules) (λ ls. accepted (F, ls)))) (sym (map-refused record_of e (read_roles 2 file) h))
+
+-- a refusal makes nothing, and lends no grid
+pub nothing-made : (file rules : List ℕ) (e : Cause) (grid : List ℕ) → refused e ≡ read_both 2 file rules → (refused e ≡ map_answer both_of (read_both 2 file rules)) × GridLent (read_both 2 file rules) grid
+unfolding GridLent
+nothing-made file rules e grid q = (ap (map_answer both_of) q, subst (λ (a : Answer (Policy × List Lines)). GridLent a grid) q tt)
+
+-- it was accepted: its record keeps to the limits, and the links are those of the policy that it states
+module _ (F : Policy) (Z : Sized F) (f : RoleFile) (shown : f ≡ record_of F) where
+  pub record-bounds : (f.resources ≤ 64) × (f.operations ≤ 16) × (f.roles ≤ 32)
+  unfolding record_of record_with
+  record-bounds = subst (λ (g : RoleFile). (g.resources ≤ 64) × (g.operations ≤ 16) × (g.roles ≤ 32)) (sym shown) (Z.many resource, Z.operable, Z.few)
+
+  pub roles-tabled : (links : List ℕ) → links ≡ link_table f.known f.values f.kinds f.domains f.resources → Tabled F f links
+  roles-tabled links q = record { sized = Z; shown = shown; linked = q ∙ ap (λ (g : RoleFile). link_table g.known g.values g.kinds g.domains g.resources) shown }
+
+-- ---- the first command
+
+module _ (file rules : List ℕ) (F : Policy) (stated : read_roles 2 file ≡ accepted F) (f : RoleFile) (shown : f ≡ record_of F) (r : Answer (Unit {0}))
+    (q : r ≡ opening_of (shape_in (sizes_of f) f.attributes) rules) where
+  -- the answer is that of the first command beside the policy's shape
+  opening-so : r ≡ map_answer (λ rest. tt) (opened 2 (shape_of F) rules)
+  opening-so =
       q
-      ∙ ap (λ (r : RoleFile). code_of (opened 2 (shape_in (sizes_of r) r.attributes) rules)) shown
-      ∙ ap (λ (s : List ℕ). code_of (opened 2 s rules)) (shape-so F)
+      ∙ ap (λ (g : RoleFile). opening_of (shape_in (sizes_of g) g.attributes) rules) shown
+      ∙ ap (λ (s : List ℕ). opening_of s rules) (shape-so F)
 
   -- reading both files is reading the rule file beside that policy
   both_so : (a : Answer (List ℕ)) → opened 2 (shape_of F) rules ≡ a
@@ -40,20 +65,16 @@ module _ (file rules : List ℕ) (F : Policy) (stated : read_roles 2 file ≡ ac
       ∙ ap (λ (r : Answer Policy). and_then r (λ G. and_then (read_rules 2 (beside_of G) rules) (λ ls. accepted (G, ls)))) (sym stated)
 
   -- THE LAWS: the first command is refused
-  pub rules_unopened : (n ≡ 0 → ⊥) → nothing_read n ≡ both_of (read_both 2 file rules)
-  unfolding code_of both_of
-  rules_unopened z = go (opened 2 (shape_of F) rules) refl code-so
-    where
-      go : (a : Answer (List ℕ)) → opened 2 (shape_of F) rules ≡ a → n ≡ code_of a → nothing_read n ≡ both_of (read_both 2 file rules)
-      go (refused d) o k = ap nothing_read k ∙ ap both_of (both_so (refused d) o)
-      go (accepted r) o k = absurd (z k)
+  pub rules_unopened : (e : Cause) → r ≡ refused e → refused e ≡ read_both 2 file rules
+  rules_unopened e h = both_so (refused e) (map-refused (λ rest. tt) e (opened 2 (shape_of F) rules) (sym h ∙ opening-so))
 
   -- or it is passed, and what stands behind it is read
-  pub rules-opened : n ≡ 0 → (7 ≤ length rules) × (read_beside F (drop 7 rules) ≡ read_both 2 file rules)
+  pub rules-opened : r ≡ accepted tt → (7 ≤ length rules) × (read_beside F (drop 7 rules) ≡ read_both 2 file rules)
   unfolding read_beside
-  rules-opened z =
-      let r = opened-rest (shape_of F) rules (sym code-so ∙ z) in
-      (r.0, both_so (accepted (drop 7 rules)) r.1)
+  rules-opened h =
+      let t = map-accepted (λ rest. tt) tt (opened 2 (shape_of F) rules) (sym h ∙ opening-so) in
+      let o = opened-rest (shape_of F) rules t.value t.is in
+      (o.0, both_so (accepted (drop 7 rules)) o.1)
 
 -- ---- tables that are lent
 
@@ -69,17 +90,10 @@ pub grid_first : (n : ℕ) (G : Block) (part rest : List ℕ) → part ≡ grid_
 grid_first n G part rest e = take_at part rest (grid_cells n) (ap length e ∙ grid_long n G) ∙ e
 
 -- so the words of the operations declared are the grid that was read
-pub grid_left : (F : Policy) (rules : List ℕ) (r : BothFiles) (part rest : List ℕ) (a : Answer (Policy × List Lines)) → read_beside F rules ≡ a → r ≡ both_of (read_beside F rules)
-    → GridShown (read_beside F rules) part
-    → GridShown a (take (grid_cells r.file.operations) (part ++ rest))
-unfolding read_beside both_of GridShown record_of record_with
-grid_left F rules r part rest a s q g = subst (λ b. GridShown b (take (grid_cells r.file.operations) (part ++ rest))) s (go (read_body 2 (beside_of F) rules) q g)
+pub grid_left : (part rest : List ℕ) (a b : Answer (Policy × List Lines)) → a ≡ b → GridShown a part → GridLent b (part ++ rest)
+unfolding GridShown GridLent
+grid_left part rest a b e g = subst (λ (c : Answer (Policy × List Lines)). GridLent c (part ++ rest)) e (go a g)
   where
-    pair : List Lines → Answer (Policy × List Lines)
-    pair ls = accepted (F, ls)
-
-    go : (b : Answer (List Lines)) → r ≡ both_of (and_then b pair) → GridShown (and_then b pair) part → GridShown (and_then b pair) (take (grid_cells r.file.operations) (part ++ rest))
-    go (refused d) q g = tt
-    go (accepted ls) q g =
-        ap (λ (n : ℕ). take (grid_cells n) (part ++ rest)) (ap (λ (b : BothFiles). b.file.operations) q)
-        ∙ grid_first F.operations (granted_within F ls) part rest g
+    go : (c : Answer (Policy × List Lines)) → GridShown c part → GridLent c (part ++ rest)
+    go (refused d) g = tt
+    go (accepted p) g = grid_first p.0.operations (granted_within p.0 p.1) part rest g

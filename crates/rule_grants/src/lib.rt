@@ -2,22 +2,10 @@
 // operations, say what it grants.
 #![tactic(auto)]
 
-ghost use Rattle.std.specs.Prelude.{◌≡◌, ◌≤◌, length};
-ghost use Rattle.role_record.specs.Record.{table_of};
-ghost use Rattle.grant_links.specs.Linked.{row_of};
+ghost use Rattle.std.specs.Prelude.{◌≡◌, ◌≤◌};
 ghost use Rattle.rule_grants.specs.RuleRows.{rule_rows};
 
 use role_record::{ByMember, ByPlace, BySide, Links, RoleFile};
-
-// Into a slice, since only a slice tells its length to a proof.
-fn fill_rows<'a>(links: &'a Links, atoms: u64, users: u64, resources: u64, out: &mut [u64])
-    requires { length out.old ≡ 64 }
-    ensures { out.new ≡ table_of 64 (row_of links.now atoms users resources) }
-{
-    for u in 0..RoleFile::MEMBERS {
-        out[u] = grant_links::row(links, atoms, users, resources, u);
-    }
-}
 
 // The rows of a rule, whatever the table held.
 pub fn rule_rows<'a>(
@@ -35,5 +23,7 @@ pub fn rule_rows<'a>(
 {
     let who = rule_satisfaction::satisfying(met, asked, kinds, 0, users);
     let what = rule_satisfaction::satisfying(met, asked, kinds, 1, resources);
-    fill_rows(links, atoms, who, what, out);
+    for u in 0..RoleFile::MEMBERS {
+        out[u] = grant_links::row(links, atoms, who, what, u);
+    }
 }

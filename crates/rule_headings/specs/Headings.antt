@@ -1,6 +1,6 @@
 -- What the heading of a rule says of it: its operations and its level.
 -- Assumes nothing.
-use Rattle.std.specs.Prelude.{ℕ, zero, suc, eqb, length, drop, Bool, false, cond, List, [], ◌≡◌}
+use Rattle.std.specs.Prelude.{ℕ, zero, suc, eqb, length, drop, Bool, false, cond, List, [], ◌≡◌, Ok, Err}
 use Rattle.std.proofs.Math.Option.{some}
 use Rattle.files.specs.Beside.{beside_of}
 use Rattle.files.specs.Answer.{and_then, accepted}
@@ -10,34 +10,20 @@ use Rattle.policy.specs.Policy.{Policy}
 use Rattle.rule_commands.specs.Raw.{raw_of}
 use Rattle.rule_commands.specs.declared.Raw.{Raw}
 use Rattle.rule_headings.specs.declared.Heading.{Heading}
-use Rattle.rule_headings.specs.declared.Line.{Line}
 use Rattle.digits.specs.Digits.{is_within}
-use Rattle.rule_commands.specs.declared.Raw.TheVariants.{Whole, Unknown, Short}
-
-abbrev pub no_line : Line
-no_line = record { byte = 0; first = 0; second = 0; width = 0 }
-
-abbrev pub as_line : Raw → Line
-as_line (Whole b x y w) = record { byte = b; first = x; second = y; width = w }
-as_line Unknown = no_line
-as_line Short = no_line
-
--- the command in front
-unfoldable pub line_of : List ℕ → Line
-line_of s = as_line (raw_of s)
 
 -- the commands 22 to 29
 abbrev pub in_rule : ℕ → Bool
 in_rule b = is_within b 0x22 0x29
 
 -- one line more: a 26 says the operations, a 29 the level
-unfoldable pub noted : Heading → ℕ → ℕ → Heading
-noted h b x = cond (eqb b 0x26) (record { operations = x; level = h.level }) (cond (eqb b 0x29) (record { operations = h.operations; level = x }) h)
+unfoldable pub noted : Heading → Raw → Heading
+noted h a = cond (eqb a.byte 0x26) (record { operations = a.first; level = h.level }) (cond (eqb a.byte 0x29) (record { operations = h.operations; level = a.first }) h)
 
 -- all lines up to the next command that does not stand inside a rule; n is more than there can be
 abbrev pub heading_on : ℕ → Heading → List ℕ → Heading
 heading_on zero h s = h
-heading_on (suc n) h s = let r = heading_on n (noted h (line_of s).byte (line_of s).first) (drop (line_of s).width s) in cond (in_rule (line_of s).byte) r h
+heading_on (suc n) h s = elim (raw_of s) [ Err e ↦ h | Ok p ↦ let r = heading_on n (noted h p.0) (drop p.1 s) in cond (in_rule p.0.byte) r h ]
 
 -- the heading of the rule whose lines stand in front
 unfoldable pub heading_of : List ℕ → Heading

@@ -1,7 +1,7 @@
 -- The level in a rule's heading is the rule's level: what is noted of the lines in front is what the reader reads there.
 -- Assumes nothing.
 use Prim.Native.Nat.{ℕ, zero, suc, ◌≤◌, ◌<◌}
-use Rattle.std.specs.Prelude.{length, drop, Bool, ◌⊎◌}
+use Rattle.std.specs.Prelude.{length, drop, Bool, ◌⊎◌, Result, Ok, Err}
 use Rattle.std.proofs.Math.ListN.{get_or, get_or-append}
 use Rattle.std.proofs.Common.{length-drop, inl, inr, ap, ◌∙◌, arith}
 use Rattle.std.proofs.Math.Seq.{get_or-append_seam}
@@ -11,6 +11,7 @@ use Rattle.std.proofs.Math.Option.{Option, none, some}
 use Rattle.std.proofs.Math.Path.{◌≡◌, refl, sym, subst}
 use Rattle.files.specs.Answer.{Refusal, Answer, and_then, unless, rules_order, rules_operand, wrong_level, refused, accepted}
 use Rattle.files.specs.Beside.{beside_of}
+use Rattle.files.specs.declared.refusal.Refusal.{Refusal as CodeRefusal}
 use Rattle.files.specs.Bytes.{read_on}
 use Rattle.files.proofs.BytesLaws.{read_behind, follow, Carries, unless_carries, then_carries, read_carries}
 use Rattle.files.proofs.LevelLineLaws.{told_by, told-kept, told-first, Tells, tells_more, tells-whole}
@@ -18,18 +19,17 @@ use Rattle.files.specs.RuleFile.{RuleCommand, Lines, levels_in, rule_in, Reading
 use Rattle.policy.specs.Policy.{Policy, setting_of}
 use Rattle.policy.specs.Rules.{rule_level}
 use Rattle.rule_commands.specs.Raw.{raw_of, command_of, Shape, shape-opens, shape_user_single, shape_user_set, shape_resource_single, shape_resource_set, shape-operations, shape-link, shape-part, shape-level, shape-ends}
-use Rattle.rule_commands.specs.RawLaws.{RawFront, raw_short, raw_unknown, raw_whole, accepted-shape}
-use Rattle.rule_headings.specs.Headings.{line_of, in_rule, noted, heading_on, heading_of, RuleAt}
+use Rattle.rule_commands.specs.RawLaws.{RawFront, raw_refused, raw_whole, accepted-shape}
+use Rattle.rule_headings.specs.Headings.{in_rule, noted, heading_on, heading_of, RuleAt}
 use Rattle.sets.specs.ListLaws.{length_last}
 use Rattle.sets.specs.Tests.{Is}
 use Rattle.rule_commands.specs.declared.Raw.{Raw}
-use Rattle.rule_commands.specs.declared.Raw.TheVariants.{Whole, Unknown, Short}
 use Rattle.rule_headings.specs.declared.Heading.{Heading}
 
 -- ---- one line more
 
 -- a line that tells no level leaves the one noted, and a 29 tells its own
-line-noted : (h : Heading) {b x y : ℕ} → Shape b x y → ((told_by (command_of b x y) ≡ []) × ((noted h b x).level ≡ h.level)) ⊎ ((command_of b x y ≡ level x) × ((noted h b x).level ≡ x))
+line-noted : (h : Heading) {a : Raw} → Shape a → ((told_by (command_of a) ≡ []) × ((noted h a).level ≡ h.level)) ⊎ ((command_of a ≡ level a.first) × ((noted h a).level ≡ a.first))
 unfolding command_of noted
 line-noted h shape-opens = inl (refl, refl)
 line-noted h (shape_user_single a v) = inl (refl, refl)
@@ -48,17 +48,16 @@ module _ (F : Policy) where
     tells : Tells (beside_of F) ls
     heard : (l : ℕ) → levels_in ls ≡ l ∷ [] → h.level ≡ l
 
-  agrees_more : (h : Heading) (ls : Lines) (b x y : ℕ) → Shape b x y → Is (follows ls (command_of b x y)) → Is (levelled (beside_of F) ls (command_of b x y)) → Agrees h ls
-      → Agrees (noted h b x) (ls ++ (command_of b x y ∷ []))
-  agrees_more h ls b x y p f v n = record {
-    tells = tells_more (beside_of F) ls (command_of b x y) f v n.tells;
+  agrees_more : (h : Heading) (ls : Lines) (a : Raw) → Shape a → Is (follows ls (command_of a)) → Is (levelled (beside_of F) ls (command_of a)) → Agrees h ls → Agrees (noted h a) (ls ++ (command_of a ∷ []))
+  agrees_more h ls a p f v n = record {
+    tells = tells_more (beside_of F) ls (command_of a) f v n.tells;
     heard = go (line-noted h p);
   }
     where
-      go : ((told_by (command_of b x y) ≡ []) × ((noted h b x).level ≡ h.level)) ⊎ ((command_of b x y ≡ level x) × ((noted h b x).level ≡ x)) → (l : ℕ) → levels_in (ls ++ (command_of b x y ∷ [])) ≡ l ∷ [] → (noted h b x).level ≡ l
-      go (inl q) l k = q.1 ∙ n.heard l (sym (told-kept ls (command_of b x y) q.0) ∙ k)
+      go : ((told_by (command_of a) ≡ []) × ((noted h a).level ≡ h.level)) ⊎ ((command_of a ≡ level a.first) × ((noted h a).level ≡ a.first)) → (l : ℕ) → levels_in (ls ++ (command_of a ∷ [])) ≡ l ∷ [] → (noted h a).level ≡ l
+      go (inl q) l k = q.1 ∙ n.heard l (sym (told-kept ls (command_of a) q.0) ∙ k)
       go (inr q) l k =
-          let e = told-first ls x (rw q.0 at f) in
+          let e = told-first ls a.first (rw q.0 at f) in
           q.1 ∙ ap (λ (t : List ℕ). get_or t 0 0) (sym e ∙ ap (λ (c : RuleCommand). levels_in (ls ++ (c ∷ []))) (sym q.0) ∙ k)
 
   -- of a rule that may be closed it is the level
@@ -192,42 +191,41 @@ module _ (F : Policy) where
       Noting n m = (ls : Lines) (h : Heading) (s : List ℕ) → length s < m → Agrees h ls → comes_to n (opened ls) s ≡ accepted rules → Told (heading_on m h s)
 
       read_notes : (n m : ℕ) → Noting n m
-      unfolding line_of command_of obey_rule
+      unfolding command_of obey_rule
       read_notes zero m ls h s l g q = refuted q
       read_notes (suc n) zero ls h s l g q = absurd (omega arith)
       read_notes (suc n) (suc m) ls h s l g q = go (read_notes n m) (raw_of s) refl
         where
-          stops : (b x y w : ℕ) → raw_of s ≡ Whole b x y w → in_rule b ≡ false → Told h → Told (heading_on (suc m) h s)
-          stops b x y w e k t = subst Told {x = h} {y = heading_on (suc m) h s} (sym (rw (e, k) refl)) t
+          stops : (a : Raw) (w : ℕ) → raw_of s ≡ Ok (a, w) → in_rule a.byte ≡ false → Told h → Told (heading_on (suc m) h s)
+          stops a w e k t = subst Told {x = h} {y = heading_on (suc m) h s} (sym (rw (heading_on, e, k) refl)) t
 
-          goes : (b x y w : ℕ) → raw_of s ≡ Whole b x y w → in_rule b ≡ true → Told (heading_on m (noted h b x) (drop w s)) → Told (heading_on (suc m) h s)
-          goes b x y w e k t = subst Told {x = heading_on m (noted h b x) (drop w s)} {y = heading_on (suc m) h s} (sym (rw (e, k) refl)) t
+          goes : (a : Raw) (w : ℕ) → raw_of s ≡ Ok (a, w) → in_rule a.byte ≡ true → Told (heading_on m (noted h a) (drop w s)) → Told (heading_on (suc m) h s)
+          goes a w e k t = subst Told {x = heading_on m (noted h a) (drop w s)} {y = heading_on (suc m) h s} (sym (rw (heading_on, e, k) refl)) t
 
-          inside : Noting n m → (b x y w : ℕ) → raw_of s ≡ Whole b x y w → RawFront (beside_of F) n (opened ls) s b x y w → Shape b x y → in_rule b ≡ true → ends_file (command_of b x y) ≡ false
-              → obey_rule (beside_of F) (opened ls) (command_of b x y) ≡ add_line (beside_of F) (opened ls) (command_of b x y) → Told (heading_on (suc m) h s)
-          inside again b x y w e f p k d o =
-              let r = lining n ls (command_of b x y) (drop w s) d (sym (ap (on_from n (command_of b x y) (drop w s)) o) ∙ sym (ap (λ (a : Answer Reading). and_then a (λ u. accepted u.complete)) f.turned) ∙ q) in
-              let a = f.some_bytes in
+          inside : Noting n m → (a : Raw) (w : ℕ) → raw_of s ≡ Ok (a, w) → RawFront (beside_of F) n (opened ls) s a w → Shape a → in_rule a.byte ≡ true → ends_file (command_of a) ≡ false
+              → obey_rule (beside_of F) (opened ls) (command_of a) ≡ add_line (beside_of F) (opened ls) (command_of a) → Told (heading_on (suc m) h s)
+          inside again a w e f p k d o =
+              let r = lining n ls (command_of a) (drop w s) d (sym (ap (on_from n (command_of a) (drop w s)) o) ∙ sym (ap (λ (t : Answer Reading). and_then t (λ u. accepted u.complete)) f.turned) ∙ q) in
+              let b = f.some_bytes in
               let i = f.inside in
               let z = length-drop w s in
-              goes b x y w e k (again (ls ++ (command_of b x y ∷ [])) (noted h b x) (drop w s) (omega arith) (agrees_more h ls b x y p r.0 r.1 g) r.2)
+              goes a w e k (again (ls ++ (command_of a ∷ [])) (noted h a) (drop w s) (omega arith) (agrees_more h ls a p r.0 r.1 g) r.2)
 
-          by_shape : Noting n m → {b x y : ℕ} → Shape b x y → (w : ℕ) → raw_of s ≡ Whole b x y w → RawFront (beside_of F) n (opened ls) s b x y w → Told (heading_on (suc m) h s)
-          by_shape again shape-opens w e f = stops _ _ _ w e refl (opening n ls h (drop w s) g (sym (ap (λ (a : Answer Reading). and_then a (λ u. accepted u.complete)) f.turned) ∙ q))
-          by_shape again shape-ends w e f = stops _ _ _ w e refl (ending n ls h (drop w s) g (sym (ap (λ (a : Answer Reading). and_then a (λ u. accepted u.complete)) f.turned) ∙ q))
-          by_shape again (shape_user_single a v) w e f = inside again _ _ _ w e f (shape_user_single a v) refl refl refl
-          by_shape again (shape_user_set a v) w e f = inside again _ _ _ w e f (shape_user_set a v) refl refl refl
-          by_shape again (shape_resource_single a v) w e f = inside again _ _ _ w e f (shape_resource_single a v) refl refl refl
-          by_shape again (shape_resource_set a v) w e f = inside again _ _ _ w e f (shape_resource_set a v) refl refl refl
-          by_shape again (shape-operations k) w e f = inside again _ _ _ w e f (shape-operations k) refl refl refl
-          by_shape again (shape-link a b) w e f = inside again _ _ _ w e f (shape-link a b) refl refl refl
-          by_shape again (shape-part k o) w e f = inside again _ _ _ w e f (shape-part k o) refl refl refl
-          by_shape again (shape-level l) w e f = inside again _ _ _ w e f (shape-level l) refl refl refl
+          by_shape : Noting n m → {a : Raw} → Shape a → (w : ℕ) → raw_of s ≡ Ok (a, w) → RawFront (beside_of F) n (opened ls) s a w → Told (heading_on (suc m) h s)
+          by_shape again shape-opens w e f = stops _ w e refl (opening n ls h (drop w s) g (sym (ap (λ (t : Answer Reading). and_then t (λ u. accepted u.complete)) f.turned) ∙ q))
+          by_shape again shape-ends w e f = stops _ w e refl (ending n ls h (drop w s) g (sym (ap (λ (t : Answer Reading). and_then t (λ u. accepted u.complete)) f.turned) ∙ q))
+          by_shape again (shape_user_single a v) w e f = inside again _ w e f (shape_user_single a v) refl refl refl
+          by_shape again (shape_user_set a v) w e f = inside again _ w e f (shape_user_set a v) refl refl refl
+          by_shape again (shape_resource_single a v) w e f = inside again _ w e f (shape_resource_single a v) refl refl refl
+          by_shape again (shape_resource_set a v) w e f = inside again _ w e f (shape_resource_set a v) refl refl refl
+          by_shape again (shape-operations k) w e f = inside again _ w e f (shape-operations k) refl refl refl
+          by_shape again (shape-link a b) w e f = inside again _ w e f (shape-link a b) refl refl refl
+          by_shape again (shape-part k o) w e f = inside again _ w e f (shape-part k o) refl refl refl
+          by_shape again (shape-level l) w e f = inside again _ w e f (shape-level l) refl refl refl
 
-          go : Noting n m → (r : Raw) → raw_of s ≡ r → Told (heading_on (suc m) h s)
-          go again Short e = refuted (sym (ap (λ (a : Answer Reading). and_then a (λ u. accepted u.complete)) (raw_short (beside_of F) n (opened ls) s e)) ∙ q)
-          go again Unknown e = refuted (sym (ap (λ (a : Answer Reading). and_then a (λ u. accepted u.complete)) (raw_unknown (beside_of F) n (opened ls) s e)) ∙ q)
-          go again (Whole b x y w) e = let f = raw_whole (beside_of F) n (opened ls) s b x y w e in by_shape again (accepted-shape (beside_of F) n (opened ls) s b x y w f (λ u. accepted u.complete) rules q) w e f
+          go : Noting n m → (r : Result (Raw × ℕ) CodeRefusal) → raw_of s ≡ r → Told (heading_on (suc m) h s)
+          go again (Err d) e = refuted (sym (ap (λ (t : Answer Reading). and_then t (λ u. accepted u.complete)) (raw_refused (beside_of F) n (opened ls) s d e)) ∙ q)
+          go again (Ok p) e = let f = raw_whole (beside_of F) n (opened ls) s p.0 p.1 e in by_shape again (accepted-shape (beside_of F) n (opened ls) s p.0 p.1 f (λ u. accepted u.complete) rules q) p.1 e f
 
 -- THE LAW: the level in the heading is that of the rule
 pub heading_level : (s : List ℕ) (h : Heading) → h ≡ heading_of s → (F : Policy) (rules : List Lines) (n : ℕ) → RuleAt F rules n s → h.level ≡ rule_level (setting_of F) (rule_in (setting_of F) (get_or rules n []))

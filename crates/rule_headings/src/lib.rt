@@ -1,55 +1,20 @@
-// The lines of a rule file, one after the other, and what a rule's heading says of them.
+// What a rule's heading says of its lines, which stand one after the other in a rule file.
 #![tactic(auto)]
 
-ghost use Rattle.std.specs.Prelude.{List, [], ◌≡◌, ℕ, ◌≤◌, length, get_or};
+ghost use Rattle.std.specs.Prelude.{List, [], ◌≡◌, ℕ, get_or};
 ghost use Rattle.files.specs.RuleFile.{Lines, rule_in};
 ghost use Rattle.policy.specs.Policy.{Policy, setting_of};
 ghost use Rattle.policy.specs.Rules.{rule_level};
-ghost use Rattle.rule_headings.specs.Headings.{line_of, in_rule, noted, heading_of, RuleAt};
+ghost use Rattle.rule_headings.specs.Headings.{in_rule, noted, heading_of, RuleAt};
 
 use files::rule_byte;
 use rule_commands::Raw;
-
-// A command as numbers, and how many bytes it takes: 0 where there is none.
-#[derive(Clone, Copy)]
-pub struct Line {
-    pub byte: usize,
-    pub first: u64,
-    pub second: u64,
-    pub width: usize,
-}
 
 // What the heading of a rule says of it.
 #[derive(Clone, Copy)]
 pub struct Heading {
     pub operations: u64,
     pub level: u64,
-}
-
-// The command in front.
-pub fn front(s: &[u8]) -> Line
-    ensures { (result ≡ line_of s.now) × (result.width ≤ length s.now) }
-{
-    match rule_commands::next(s) {
-        Raw::Whole(byte, first, second, width) => Line {
-            byte: byte,
-            first: first,
-            second: second,
-            width: width,
-        },
-        Raw::Unknown => Line {
-            byte: 0,
-            first: 0,
-            second: 0,
-            width: 0,
-        },
-        Raw::Short => Line {
-            byte: 0,
-            first: 0,
-            second: 0,
-            width: 0,
-        },
-    }
 }
 
 // Whether a command stands inside a rule.
@@ -60,19 +25,19 @@ fn in_rule(byte: usize) -> bool
 }
 
 // The heading with one line more: a 26 says the operations, a 29 the level.
-fn note(h: Heading, byte: usize, first: u64) -> Heading
-    ensures { result ≡ noted h byte first }
+fn note(h: Heading, line: Raw) -> Heading
+    ensures { result ≡ noted h line }
 {
-    if byte == rule_byte::OPERATIONS {
+    if line.byte == rule_byte::OPERATIONS {
         return Heading {
-            operations: first,
-            level: h.level,
+            operations: line.first,
+            ..h
         };
     }
-    if byte == rule_byte::LEVEL {
+    if line.byte == rule_byte::LEVEL {
         return Heading {
-            operations: h.operations,
-            level: first,
+            level: line.first,
+            ..h
         };
     }
     h
@@ -89,13 +54,13 @@ pub fn heading_of(s: &[u8]) -> Heading
         operations: 0,
         level: 0,
     };
-    let mut at: usize = 0;
-    loop {
-        let l = front(&s[at..]);
-        if !in_rule(l.byte) {
-            return h;
+    let mut rest = s;
+    while let Ok((line, w)) = rule_commands::next(rest) {
+        if !in_rule(line.byte) {
+            break;
         }
-        h = note(h, l.byte, l.first);
-        at = at + l.width;
+        h = note(h, line);
+        rest = &rest[w..];
     }
+    h
 }

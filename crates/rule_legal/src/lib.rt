@@ -1,13 +1,12 @@
 // Whether the operands of a rule file's line may stand there.
 #![tactic(auto)]
 
-ghost use Rattle.std.specs.Prelude.{◌≡◌, ◌&&◌, ◌+◌, ◌*◌, ◌^◌, ◌≤◌, ◌<◌, ltb};
-ghost use Rattle.sets.specs.Tests.{iff};
-ghost use Rattle.role_record.specs.Record.{WithinLimits, FewAttributes};
+ghost use Rattle.std.specs.Prelude.{◌≡◌, ◌&&◌, ◌^◌, ◌≤◌, ◌<◌, ltb};
+ghost use Rattle.role_record.specs.Record.{WithinLimits, FewAttributes, sizes_of};
 ghost use Rattle.rule_legal.specs.Operands.{own_legal, value_legal, link_legal, part_legal};
 
 use files::rule_byte;
-use role_record::{ByAttribute, ByRole, ByRoleOperation, BySide, CountBySide, RoleFile, Sizes};
+use role_record::RoleFile;
 use rule_commands::ListedValue;
 
 // Whether all elements of a set are below n.
@@ -35,32 +34,17 @@ fn own_legal(side: usize, set: bool, v: u64, roles: usize, resources: usize) -> 
     v < resources as u64
 }
 
-fn same(a: bool, b: bool) -> bool
-    ensures { result ≡ iff a b }
-{
-    a == b
-}
-
 // Commands 22 to 25: a declared attribute of the right kind, or a 255 where it may stand.
-pub fn value_legal<'a>(
-    v: ListedValue,
-    sizes: Sizes,
-    attributes: &'a CountBySide,
-    kinds: &'a BySide,
-) -> bool
-    requires { (v.side < 2) × WithinLimits sizes }
+pub fn value_legal(v: ListedValue, f: &RoleFile) -> bool
+    requires { (v.side < 2) × WithinLimits (sizes_of f.now) }
     ensures { result
-        ≡ value_legal v.side v.set v.attribute v.value sizes.roles sizes.resources
-        attributes.now kinds.now }
+        ≡ value_legal v.side v.set v.attribute v.value f.now.roles f.now.resources
+        f.now.attributes f.now.kinds }
 {
     if v.attribute == rule_byte::OWN {
-        return own_legal(v.side, v.set, v.value, sizes.roles, sizes.resources);
+        return own_legal(v.side, v.set, v.value, f.roles, f.resources);
     }
-    let side = v.side;
-    if v.attribute < attributes[side] {
-        return same(sets::has(kinds[side], v.attribute), v.set);
-    }
-    false
+    v.attribute < f.attributes[v.side] && sets::has(f.kinds[v.side], v.attribute) == v.set
 }
 
 // Command 26: operations that are declared, and not none.
@@ -75,56 +59,43 @@ pub fn operations_legal(m: u64, operations: usize) -> bool
 }
 
 // Command 27: declared attributes that one of the three forms joins.
-pub fn link_legal<'a>(
-    a: u64,
-    b: u64,
-    attributes: &'a CountBySide,
-    kinds: &'a BySide,
-    domains: &'a ByAttribute,
-) -> bool
-    requires { FewAttributes attributes.now }
-    ensures { result ≡ link_legal a b attributes.now kinds.now domains.now }
+pub fn link_legal(a: u64, b: u64, f: &RoleFile) -> bool
+    requires { FewAttributes f.now.attributes }
+    ensures { result ≡ link_legal a b f.now.attributes f.now.kinds f.now.domains }
 {
-    if attributes[0] as u64 <= a {
+    if f.attributes[0] as u64 <= a {
         return false;
     }
-    if attributes[1] as u64 <= b {
+    if f.attributes[1] as u64 <= b {
         return false;
     }
-    if !role_record::same_domain(domains, a as usize, b as usize) {
+    if !role_record::same_domain(&f.domains, a as usize, b as usize) {
         return false;
     }
-    if sets::has(kinds[0], a as usize) {
+    if sets::has(f.kinds[0], a as usize) {
         return true;
     }
-    !sets::has(kinds[1], b as usize)
+    !sets::has(f.kinds[1], b as usize)
 }
 
 // Command 28: a role and exactly the class of one of its parts.
-pub fn part_legal<'a>(
-    role: u64,
-    m: u64,
-    roles: usize,
-    operations: usize,
-    holders: &'a ByRole,
-    permissions: &'a ByRoleOperation,
-) -> bool
-    requires { (roles ≤ 32) × (operations ≤ 16) }
-    ensures { result ≡ part_legal role m roles operations holders.now permissions.now }
+pub fn part_legal(role: u64, m: u64, f: &RoleFile) -> bool
+    requires { WithinLimits (sizes_of f.now) }
+    ensures { result ≡ part_legal role m f.now.roles f.now.operations f.now.holders f.now.permissions }
 {
-    if roles as u64 <= role {
+    if f.roles as u64 <= role {
         return false;
     }
     let k = role as usize;
-    if holders[k] == 0 {
+    if f.holders[k] == 0 {
         return false;
     }
     let o = sets::least(m);
-    if operations <= o {
+    if f.operations <= o {
         return false;
     }
-    if permissions[RoleFile::ROLES * o + k] == 0 {
+    if f.permissions[RoleFile::ROLES * o + k] == 0 {
         return false;
     }
-    grant_parts::class_of(permissions, k, operations, o) == m
+    grant_parts::class_of(&f.permissions, k, f.operations, o) == m
 }

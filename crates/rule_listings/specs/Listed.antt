@@ -1,6 +1,6 @@
 -- Which parts are listed, as tables of the lowest operations of their classes by role; and the first part not listed exactly once.
 -- Assumes nothing.
-use Rattle.std.specs.Prelude.{ℕ, suc, eqb, ltb, length, get_or, set, Bool, false, cond, ◌&&◌, List, [], ◌∷◌}
+use Rattle.std.specs.Prelude.{ℕ, suc, eqb, ltb, length, get_or, set, Bool, false, cond, ◌&&◌, List, [], ◌∷◌, Some, None, Option as Found}
 use Rattle.std.proofs.Math.Option.{Option, none, some}
 use Rattle.files.specs.RuleFile.{RuleCommand, Lines, reshapes, opens, value, operations, link, part, level, ends}
 use Rattle.grant_parts.specs.Parts.{is_part_in}
@@ -9,8 +9,6 @@ use Rattle.role_record.specs.Record.{table_of, marked}
 use Rattle.sets.specs.Lowest.{lowest_from}
 use Rattle.sets.specs.Sets.{bit, mask_of}
 use Rattle.sets.specs.Tests.{keep, up_to, sum}
-use Rattle.rule_listings.specs.declared.StrayPart.{StrayPart}
-use Rattle.rule_listings.specs.declared.StrayPart.TheVariants.{NoneStray, At}
 
 -- the lowest operation of a class
 abbrev pub lead_of : ℕ → ℕ
@@ -55,17 +53,17 @@ unfoldable pub once_in : List ℕ → List ℕ → ℕ → ℕ → Bool
 once_in seen again k o = cond (bit (get_or again k 0) o) false (bit (get_or seen k 0) o)
 
 -- of the words that are parts, numbered from n on, the first that is not listed once
-abbrev pub stray_from : (ℕ → Bool) → (ℕ → Bool) → ℕ → List ℕ → StrayPart
-stray_from is_one listed_once n [] = NoneStray
+abbrev pub stray_from : (ℕ → Bool) → (ℕ → Bool) → ℕ → List ℕ → Found ℕ
+stray_from is_one listed_once n [] = None
 stray_from is_one listed_once n (w ∷ ws) =
-    let behind = stray_from is_one listed_once (suc n) ws in let on = stray_from is_one listed_once n ws in cond (is_one w) (cond (listed_once w) behind (At n)) on
+    let behind = stray_from is_one listed_once (suc n) ws in let on = stray_from is_one listed_once n ws in cond (is_one w) (cond (listed_once w) behind (Some n)) on
 
 -- in the cell of its role and lowest operation
-unfoldable pub stray_of : List ℕ → List ℕ → ℕ → ℕ → List ℕ → List ℕ → StrayPart
+unfoldable pub stray_of : List ℕ → List ℕ → ℕ → ℕ → List ℕ → List ℕ → Found ℕ
 stray_of holders permissions roles ops seen again =
     stray_from (λ w. is_part_in holders permissions ops (cell_row w) (cell_operation w)) (λ w. once_in seen again (cell_row w) (cell_operation w)) 0 (up_to (row_start roles))
 
 -- the answer as code gives it
-unfoldable pub stray_part_of : Option ℕ → StrayPart
-stray_part_of none = NoneStray
-stray_part_of (some p) = At p
+unfoldable pub stray_part_of : Option ℕ → Found ℕ
+stray_part_of none = None
+stray_part_of (some p) = Some p

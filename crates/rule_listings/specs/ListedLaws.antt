@@ -1,6 +1,6 @@
 -- The tables of listed parts are kept line by line, and the first word astray is the first part astray.
 -- Assumes nothing.
-use Rattle.std.specs.Prelude.{ℕ, zero, suc, ◌+◌, ◌-◌, ◌≤◌, ◌<◌, ltb, get_or, set, replicate, true, false, cond, ◌&&◌, ◌||◌, List, [], ◌∷◌, ◌++◌, ◌≡◌, refl}
+use Rattle.std.specs.Prelude.{ℕ, zero, suc, ◌+◌, ◌-◌, ◌≤◌, ◌<◌, ltb, get_or, set, replicate, true, false, cond, ◌&&◌, ◌||◌, List, [], ◌∷◌, ◌++◌, Some, None, Option as Found, ◌≡◌, refl}
 use borrow.Author.Tests.{eqb-true, eq-eqb, ne_eqb, ltb-true, ltb-false, lt-ltb, le-ltb}
 use Rattle.std.proofs.Math.Dec.{eqb}
 use Rattle.std.proofs.Math.ListN.{length}
@@ -30,27 +30,25 @@ use Rattle.sets.specs.Sets.{bit, mask_of}
 use Rattle.sets.specs.SetLaws.{bit_mask}
 use Rattle.sets.specs.Tests.{Is, ◌is_in◌, keep, each, only, from, up_to, sum}
 use Rattle.sets.specs.TestLaws.{and_in, and_l, and_r, or_l, never, test, same, any_out}
-use Rattle.rule_listings.specs.declared.StrayPart.{StrayPart}
-use Rattle.rule_listings.specs.declared.StrayPart.TheVariants.{NoneStray, At}
 
 -- ---- the loop over the words: what is left to look at gives the answer
 
-stray_step : (f g : ℕ → Bool) (m w n : ℕ) (x : StrayPart) (a b : Bool) → w < n → stray_from f g m (from w (n - w)) ≡ x → f w ≡ a → g w ≡ b
-    → cond a (cond b (stray_from f g (m + 1) (from (w + 1) (n - (w + 1)))) (At m)) (stray_from f g m (from (w + 1) (n - (w + 1)))) ≡ x
+stray_step : (f g : ℕ → Bool) (m w n : ℕ) (x : Found ℕ) (a b : Bool) → w < n → stray_from f g m (from w (n - w)) ≡ x → f w ≡ a → g w ≡ b
+    → cond a (cond b (stray_from f g (m + 1) (from (w + 1) (n - (w + 1)))) (Some m)) (stray_from f g m (from (w + 1) (n - (w + 1)))) ≡ x
 stray_step f g m w n x a b h e p q =
-    rw (← p, ← q) (let d : m + 1 ≡ suc m = omega arith in ap (λ (k : ℕ). cond (f w) (cond (g w) (stray_from f g k (from (w + 1) (n - (w + 1)))) (At m)) (stray_from f g m (from (w + 1) (n - (w + 1))))) d)
+    rw (← p, ← q) (let d : m + 1 ≡ suc m = omega arith in ap (λ (k : ℕ). cond (f w) (cond (g w) (stray_from f g k (from (w + 1) (n - (w + 1)))) (Some m)) (stray_from f g m (from (w + 1) (n - (w + 1))))) d)
     ∙ ap (stray_from f g m) (sym (from_next w n h)) ∙ e
 
-pub stray_skip : (f g : ℕ → Bool) (m w n : ℕ) (x : StrayPart) → w < n → stray_from f g m (from w (n - w)) ≡ x → f w ≡ false → stray_from f g m (from (w + 1) (n - (w + 1))) ≡ x
+pub stray_skip : (f g : ℕ → Bool) (m w n : ℕ) (x : Found ℕ) → w < n → stray_from f g m (from w (n - w)) ≡ x → f w ≡ false → stray_from f g m (from (w + 1) (n - (w + 1))) ≡ x
 stray_skip f g m w n x h e p = stray_step f g m w n x false (g w) h e p refl
 
-pub stray_next : (f g : ℕ → Bool) (m w n : ℕ) (x : StrayPart) → w < n → stray_from f g m (from w (n - w)) ≡ x → f w ≡ true → g w ≡ true → stray_from f g (m + 1) (from (w + 1) (n - (w + 1))) ≡ x
+pub stray_next : (f g : ℕ → Bool) (m w n : ℕ) (x : Found ℕ) → w < n → stray_from f g m (from w (n - w)) ≡ x → f w ≡ true → g w ≡ true → stray_from f g (m + 1) (from (w + 1) (n - (w + 1))) ≡ x
 stray_next f g m w n x h e p q = stray_step f g m w n x true true h e p q
 
-pub stray_found : (f g : ℕ → Bool) (m w n : ℕ) (x : StrayPart) → w < n → stray_from f g m (from w (n - w)) ≡ x → f w ≡ true → g w ≡ false → At m ≡ x
+pub stray_found : (f g : ℕ → Bool) (m w n : ℕ) (x : Found ℕ) → w < n → stray_from f g m (from w (n - w)) ≡ x → f w ≡ true → g w ≡ false → Some m ≡ x
 stray_found f g m w n x h e p q = stray_step f g m w n x true false h e p q
 
-pub stray_end : (f g : ℕ → Bool) (m w n : ℕ) (x : StrayPart) → n ≤ w → stray_from f g m (from w (n - w)) ≡ x → NoneStray ≡ x
+pub stray_end : (f g : ℕ → Bool) (m w n : ℕ) (x : Found ℕ) → n ≤ w → stray_from f g m (from w (n - w)) ≡ x → None ≡ x
 stray_end f g m w n x h e = let d : n - w ≡ 0 = omega arith in ap (λ (k : ℕ). stray_from f g m (from w k)) (sym d) ∙ e
 
 pub stray_begin : (holders permissions : List ℕ) (roles ops : ℕ) (seen again : List ℕ)
@@ -192,9 +190,9 @@ no-rules = (by 0, by 1)
 -- ---- the numbers of the parts, and the words
 
 -- one part after the other, numbered from n on: the first that passes
-abbrev first_from : {A : Type 0} → (A → Bool) → ℕ → List A → StrayPart
-first_from f n [] = NoneStray
-first_from f n (x ∷ xs) = cond (f x) (At n) (first_from f (suc n) xs)
+abbrev first_from : {A : Type 0} → (A → Bool) → ℕ → List A → Found ℕ
+first_from f n [] = None
+first_from f n (x ∷ xs) = cond (f x) (Some n) (first_from f (suc n) xs)
 
 -- the first word astray is the first of the things that words stand for
 words-first : {A : Type 0} (is_one listed_once : ℕ → Bool) (thing : ℕ → A) (astray : A → Bool) (n : ℕ) (ws : List ℕ) → ((w : ℕ) → astray (thing w) ≡ not (listed_once w))
@@ -205,9 +203,9 @@ words-first is_one listed_once thing astray n (w ∷ ws) h = go (is_one w) (list
     go : (a b : Bool) → astray (thing w) ≡ not b
         → stray_from is_one listed_once (suc n) ws ≡ first_from astray (suc n) (each (λ w. only (is_one w) (thing w)) ws)
         → stray_from is_one listed_once n ws ≡ first_from astray n (each (λ w. only (is_one w) (thing w)) ws)
-        → cond a (cond b (stray_from is_one listed_once (suc n) ws) (At n)) (stray_from is_one listed_once n ws) ≡ first_from astray n (only a (thing w) ++ each (λ w. only (is_one w) (thing w)) ws)
-    go true true e p q = p ∙ sym (ap (λ (b : Bool). cond b (At n) (first_from astray (suc n) (each (λ w. only (is_one w) (thing w)) ws))) e)
-    go true false e p q = sym (ap (λ (b : Bool). cond b (At n) (first_from astray (suc n) (each (λ w. only (is_one w) (thing w)) ws))) e)
+        → cond a (cond b (stray_from is_one listed_once (suc n) ws) (Some n)) (stray_from is_one listed_once n ws) ≡ first_from astray n (only a (thing w) ++ each (λ w. only (is_one w) (thing w)) ws)
+    go true true e p q = p ∙ sym (ap (λ (b : Bool). cond b (Some n) (first_from astray (suc n) (each (λ w. only (is_one w) (thing w)) ws))) e)
+    go true false e p q = sym (ap (λ (b : Bool). cond b (Some n) (first_from astray (suc n) (each (λ w. only (is_one w) (thing w)) ws))) e)
     go false b e p q = q
 
 -- the first member, as the first place
@@ -216,7 +214,7 @@ unfolding stray_part_of
 places_first f g d k [] h = refl
 places_first f g d k (x ∷ xs) h = go (f x) (g k) (h 0 (omega arith) ∙ ap g (add-zero k)) (places_first f g d (suc k) xs (λ i l. h (suc i) (omega arith) ∙ ap g (add-suc k i ∙ sym (suc-add k i))))
   where
-    go : (a b : Bool) → a ≡ b → first_from f (suc k) xs ≡ stray_part_of (first g (from (suc k) (length xs))) → cond a (At k) (first_from f (suc k) xs) ≡ stray_part_of (cond b (some k) (first g (from (suc k) (length xs))))
+    go : (a b : Bool) → a ≡ b → first_from f (suc k) xs ≡ stray_part_of (first g (from (suc k) (length xs))) → cond a (Some k) (first_from f (suc k) xs) ≡ stray_part_of (cond b (some k) (first g (from (suc k) (length xs))))
     go true true e r = refl
     go true false e r = absurd (false≢true (sym e))
     go false true e r = absurd (false≢true e)

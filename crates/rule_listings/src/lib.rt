@@ -5,14 +5,7 @@
 ghost use Rattle.std.specs.Prelude.{◌≡◌, ◌≤◌, ◌<◌};
 ghost use Rattle.rule_listings.specs.Listed.{seen_after, again_after, once_in, stray_of};
 
-use role_record::{ByRole, ByRoleOperation, RoleFile};
-
-#[derive(Clone, Copy)]
-pub enum StrayPart {
-    NoneStray,
-    // The part's number.
-    At(usize),
-}
+use role_record::{ByRole, RoleFile};
 
 // Notes that a line lists the part of a role with this class.
 pub fn list<'a>(seen: &'a mut ByRole, again: &'a mut ByRole, role: usize, class: u64)
@@ -38,41 +31,25 @@ fn once<'a>(seen: &'a ByRole, again: &'a ByRole, role: usize, o: usize) -> bool
     sets::has(seen[role], o)
 }
 
-// The first part, by number, that is not listed exactly once.
-pub fn first_stray<'a>(
-    holders: &'a ByRole,
-    permissions: &'a ByRoleOperation,
-    roles: usize,
-    operations: usize,
-    seen: &'a ByRole,
-    again: &'a ByRole,
-) -> StrayPart
-    requires { (roles ≤ 32) × (operations ≤ 16) }
+// The number of the first part that is not listed exactly once.
+pub fn first_stray<'a>(f: &'a RoleFile, seen: &'a ByRole, again: &'a ByRole) -> Option<usize>
+    requires { (f.now.roles ≤ 32) × (f.now.operations ≤ 16) }
     ensures { result
-        ≡ stray_of holders.now permissions.now roles operations seen.now
+        ≡ stray_of f.now.holders f.now.permissions f.now.roles f.now.operations seen.now
         again.now }
 {
     let mut number: usize = 0;
     // Role and operation in one loop, since parts are numbered by role, then lowest operation.
-    for w in 0..RoleFile::OPERATIONS * roles {
-        if !grant_parts::is_part(
-            holders,
-            permissions,
-            operations,
-            w / RoleFile::OPERATIONS,
-            w % RoleFile::OPERATIONS,
-        ) {
+    for w in 0..RoleFile::OPERATIONS * f.roles {
+        let role = w / RoleFile::OPERATIONS;
+        let o = w % RoleFile::OPERATIONS;
+        if !grant_parts::is_part(&f.holders, &f.permissions, f.operations, role, o) {
             continue;
         }
-        if !once(
-            seen,
-            again,
-            w / RoleFile::OPERATIONS,
-            w % RoleFile::OPERATIONS,
-        ) {
-            return StrayPart::At(number);
+        if !once(seen, again, role, o) {
+            return Some(number);
         }
         number += 1;
     }
-    StrayPart::NoneStray
+    None
 }

@@ -4,9 +4,11 @@
 ghost use Rattle.std.specs.Prelude.{◌≡◌, ◌+◌, ◌*◌, ◌≤◌, ◌<◌, get_or};
 ghost use Rattle.sets.specs.Sets.{mask_of};
 ghost use Rattle.rule_meeting.specs.Meeting.{order, meets_at, holds_all, meeting_of, count_by};
-ghost use Rattle.role_record.specs.Record.{WithinLimits};
+ghost use Rattle.role_record.specs.Record.{WithinLimits, sizes_of};
 
-use role_record::{ByAttribute, ByRole, RoleFile, Sizes, Values};
+use role_record::{ByRole, RoleFile, Values};
+use role_scan::{Containing, Equal};
+use rule_commands::ListedValue;
 
 // Whose values in a column, known or not, pass for the listed one: by containment, or by equality.
 fn passing(values: &Values, column: usize, v: u64, contained: bool) -> u64
@@ -14,9 +16,9 @@ fn passing(values: &Values, column: usize, v: u64, contained: bool) -> u64
     ensures { result ≡ mask_of 64 (λ x. order contained v (get_or values.now (64 * column + x) 0)) }
 {
     if contained {
-        return role_scan::containing(values, column, v);
+        return role_scan::passing(values, column, &Containing(v));
     }
-    role_scan::equal(values, column, v)
+    role_scan::passing(values, column, &Equal(v))
 }
 
 // Who meets a listed value of the attribute in a column.
@@ -50,30 +52,28 @@ fn holding_all(holders: &ByRole, users: usize, roles: usize, v: u64) -> u64
 }
 
 // Who meets a listed value of an attribute: of side 0 users, of side 1 resources; 255 is the roles held, or the number itself.
-pub fn meeting<'a>(
-    side: usize,
-    set: bool,
-    attribute: usize,
-    v: u64,
-    sizes: Sizes,
-    known: &'a ByAttribute,
-    values: &'a Values,
-    holders: &'a ByRole,
-) -> u64
-    requires { (side < 2) × WithinLimits sizes }
+pub fn meeting(v: ListedValue, f: &RoleFile) -> u64
+    requires { (v.side < 2) × WithinLimits (sizes_of f.now) }
     ensures { result
-        ≡ meeting_of side set attribute v (count_by side sizes.users sizes.resources) sizes.roles
-        known.now values.now holders.now }
+        ≡ meeting_of v.side v.set v.attribute v.value (count_by v.side f.now.users f.now.resources) f.now.roles
+        f.now.known f.now.values f.now.holders }
 {
-    if attribute < RoleFile::ATTRIBUTES {
-        let column = RoleFile::ATTRIBUTES * side + attribute;
-        if side == 0 {
-            return in_column(known[column], values, column, sizes.users, v, set);
+    if v.attribute < RoleFile::ATTRIBUTES {
+        let column = RoleFile::ATTRIBUTES * v.side + v.attribute;
+        if v.side == 0 {
+            return in_column(f.known[column], &f.values, column, f.users, v.value, v.set);
         }
-        return in_column(known[column], values, column, sizes.resources, v, false);
+        return in_column(
+            f.known[column],
+            &f.values,
+            column,
+            f.resources,
+            v.value,
+            false,
+        );
     }
-    if side == 0 {
-        return holding_all(holders, sizes.users, sizes.roles, v);
+    if v.side == 0 {
+        return holding_all(&f.holders, f.users, f.roles, v.value);
     }
-    sets::with(0, v as usize)
+    sets::with(0, v.value as usize)
 }

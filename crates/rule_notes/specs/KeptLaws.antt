@@ -9,24 +9,16 @@ use Rattle.role_record.specs.Record.{marked}
 use Rattle.grant_blocks.specs.Rows.{added_rows, same_rows}
 use Rattle.rule_commands.specs.Raw.{raw_before}
 use Rattle.rule_levels.specs.Levels.{level_for}
-use Rattle.rule_notes.specs.Tally.{tallied, counted_with, open_rows, closed_with, finished_with, finished_grid, may_close, is_second, follows_with, levelled_with}
-use Rattle.rule_notes.specs.LineSteps.{place_by, pair_number, tally_with, noted_with, met_more}
+use Rattle.rule_notes.specs.Tally.{counted_with, open_rows, closed_with, finished_with, finished_grid, may_close, is_second, follows_with, levelled_with}
+use Rattle.rule_notes.specs.LineSteps.{place_by, pair_number, tally_with, noted_with, met_more, met_after, listed_after, seen_by, again_by}
 use Rattle.sets.specs.Sets.{bit, mask_of}
 use Rattle.sets.specs.TestLaws.{test}
+use Rattle.rule_commands.specs.declared.Atom.{Atom}
+use Rattle.rule_commands.specs.declared.Raw.{Raw}
 use Rattle.rule_commands.specs.declared.RuleCommand.{RuleCommand}
+use Rattle.rule_commands.specs.declared.RuleCommand.TheVariants.{Opens, Value, Operations, Link, Part, Level, Ends}
+use Rattle.rule_commands.specs.declared.ListedValue.{ListedValue}
 use Rattle.rule_notes.specs.declared.Tally.{Tally}
-
-pub counted_same : (k : Tally) (b : Bool) → b ≡ true → tallied k k.strays k.stray ≡ counted_with k b
-unfolding counted_with
-counted_same k b e = rw e refl
-
-pub counted-late : (k : Tally) (b : Bool) → b ≡ false → k.strays ≡ true → tallied k k.strays k.stray ≡ counted_with k b
-unfolding counted_with
-counted-late k b e f = rw e (rw f refl)
-
-pub counted-first : (k : Tally) (b : Bool) → b ≡ false → k.strays ≡ false → tallied k true k.rules ≡ counted_with k b
-unfolding counted_with
-counted-first k b e f = rw e (rw f refl)
 
 -- the same of rows that are the rule's
 pub closed-by : (k : Tally) (met listed links : List ℕ) (users resources n : ℕ) (rows : List ℕ) (b : Bool) (r : Tally) → rows ≡ open_rows k met links users resources
@@ -62,18 +54,18 @@ module _ (k : Tally) where
     unfolding finished_with finished_grid
     finish-outside e = (rw e refl, rw e refl)
 
-  module _ (b x y : ℕ) where
-    pub follow-outside : k.inside ≡ false → false ≡ follows_with k b x y
+  module _ (a : Raw) where
+    pub follow-outside : k.inside ≡ false → false ≡ follows_with k a
     unfolding follows_with
     follow-outside e = rw e refl
 
-    pub follow-second : k.inside ≡ true → is_second k b ≡ true → false ≡ follows_with k b x y
+    pub follow-second : k.inside ≡ true → is_second k a.byte ≡ true → false ≡ follows_with k a
     unfolding follows_with
-    follow-second e s = sym (ap₂ (λ (p q : Bool). p && (not q && raw_before k.last k.x k.y b x y)) e s)
+    follow-second e s = sym (ap₂ (λ (p q : Bool). p && (not q && raw_before k.last a)) e s)
 
-    pub follow-inside : k.inside ≡ true → is_second k b ≡ false → raw_before k.last k.x k.y b x y ≡ follows_with k b x y
+    pub follow-inside : k.inside ≡ true → is_second k a.byte ≡ false → raw_before k.last a ≡ follows_with k a
     unfolding follows_with
-    follow-inside e s = sym (ap₂ (λ (p q : Bool). p && (not q && raw_before k.last k.x k.y b x y)) e s)
+    follow-inside e s = sym (ap₂ (λ (p q : Bool). p && (not q && raw_before k.last a)) e s)
 
 -- ---- places and numbers
 
@@ -103,12 +95,24 @@ pair-none a b h = rw (le-ltb a 6 h) refl
 
 -- ---- the numbers after a line
 
-module _ (k : Tally) (c : RuleCommand) (b x y i p m : ℕ) where
-  pub noted-value : p ≡ i → m ≡ marked k.asked p → noted_with k c b x y ≡ tally_with k (marked k.asked i) k.atoms k.operations k.listing k.telling b x y → tally_with k m k.atoms k.operations k.listing k.telling b x y ≡ noted_with k c b x y
-  noted-value e f g = ap (λ t. tally_with k t k.atoms k.operations k.listing k.telling b x y) (f ∙ ap (marked k.asked) e) ∙ sym g
+module _ (k : Tally) (c : RuleCommand) (line : Raw) (i p m : ℕ) where
+  pub noted-value : p ≡ i → m ≡ marked k.asked p → noted_with k c line ≡ tally_with k (marked k.asked i) k.atoms k.operations k.listing k.telling line → tally_with k m k.atoms k.operations k.listing k.telling line ≡ noted_with k c line
+  noted-value e f g = ap (λ t. tally_with k t k.atoms k.operations k.listing k.telling line) (f ∙ ap (marked k.asked) e) ∙ sym g
 
-  pub noted-link : p ≡ i → m ≡ marked k.atoms p → noted_with k c b x y ≡ tally_with k k.asked (marked k.atoms i) k.operations k.listing k.telling b x y → tally_with k k.asked m k.operations k.listing k.telling b x y ≡ noted_with k c b x y
-  noted-link e f g = ap (λ t. tally_with k k.asked t k.operations k.listing k.telling b x y) (f ∙ ap (marked k.atoms) e) ∙ sym g
+  pub noted-link : p ≡ i → m ≡ marked k.atoms p → noted_with k c line ≡ tally_with k k.asked (marked k.atoms i) k.operations k.listing k.telling line → tally_with k k.asked m k.operations k.listing k.telling line ≡ noted_with k c line
+  noted-link e f g = ap (λ t. tally_with k k.asked t k.operations k.listing k.telling line) (f ∙ ap (marked k.atoms) e) ∙ sym g
+
+-- a line that is only the last one
+pub noted-other : (k : Tally) (line : Raw) (c : RuleCommand) → ((v : ListedValue) → c ≡ Value v → ⊥) → ((m : ℕ) → c ≡ Operations m → ⊥) → ((t : Atom) → c ≡ Link t → ⊥) → ((j m : ℕ) → c ≡ Part j m → ⊥) → ((l : ℕ) → c ≡ Level l → ⊥)
+    → tally_with k k.asked k.atoms k.operations k.listing k.telling line ≡ noted_with k c line
+unfolding noted_with
+noted-other k line Opens nv nm nl np nt = refl
+noted-other k line (Value v) nv nm nl np nt = absurd (nv v refl)
+noted-other k line (Operations m) nv nm nl np nt = absurd (nm m refl)
+noted-other k line (Link t) nv nm nl np nt = absurd (nl t refl)
+noted-other k line (Part j m) nv nm nl np nt = absurd (np j m refl)
+noted-other k line (Level l) nv nm nl np nt = absurd (nt l refl)
+noted-other k line Ends nv nm nl np nt = refl
 
 module _ (k : Tally) (b : ℕ) where
   pub second-operations : b ≡ 0x26 → not (eqb k.operations 0) ≡ is_second k b
@@ -123,17 +127,62 @@ module _ (k : Tally) (b : ℕ) where
   unfolding is_second
   second_none e f = rw (ne_eqb b 0x26 e, ne_eqb b 0x29 f) refl
 
-  -- ---- the level that a 29 tells
+-- ---- the level that a 29 tells
 
-  pub levelled-other : (x : ℕ) → (b ≡ 0x29 → ⊥) → true ≡ levelled_with k b x
+module _ (k : Tally) (a : Raw) where
+  pub levelled-other : (a.byte ≡ 0x29 → ⊥) → true ≡ levelled_with k a
   unfolding levelled_with
-  levelled-other x e = rw (ne_eqb b 0x29 e) refl
+  levelled-other e = rw (ne_eqb a.byte 0x29 e) refl
 
-  pub levelled-29 : (x l : ℕ) (roles numbers : Bool) → b ≡ 0x29 → roles ≡ bit k.asked 6 → numbers ≡ bit k.asked 13 → l ≡ level_for roles numbers → eqb x l ≡ levelled_with k b x
+  pub levelled-29 : (l : ℕ) (roles numbers : Bool) → a.byte ≡ 0x29 → roles ≡ bit k.asked 6 → numbers ≡ bit k.asked 13 → l ≡ level_for roles numbers → eqb a.first l ≡ levelled_with k a
   unfolding levelled_with
-  levelled-29 x l roles numbers e p q f = rw (e, f, p, q) refl
+  levelled-29 l roles numbers e p q f = rw (e, f, p, q) refl
 
 -- the table of who meets which attribute's values, with one word stored
 pub met-stored : (met : List ℕ) (at who v i j : ℕ) → at ≡ i → who ≡ j → v ≡ mask_of 64 (λ k. bit (get_or met at 0) k || bit who k) → set met at v ≡ met_more met i j
 unfolding met_more
 met-stored met at who v i j e f g = ap (set met at) g ∙ ap₂ (λ (p q : ℕ). set met p (mask_of 64 (λ k. bit (get_or met p 0) k || bit q k))) e f
+
+-- ---- lines that leave a table as it was
+
+module _ (users resources roles : ℕ) (known values holders met : List ℕ) where
+  pub met-other : (c : RuleCommand) → ((v : ListedValue) → c ≡ Value v → ⊥) → met ≡ met_after users resources roles known values holders met c
+  unfolding met_after
+  met-other Opens h = refl
+  met-other (Value v) h = absurd (h v refl)
+  met-other (Operations m) h = refl
+  met-other (Link t) h = refl
+  met-other (Part k m) h = refl
+  met-other (Level l) h = refl
+  met-other Ends h = refl
+
+module _ (n : ℕ) (holders permissions listed : List ℕ) where
+  pub listed-other : (c : RuleCommand) → ((k m : ℕ) → c ≡ Part k m → ⊥) → listed ≡ listed_after n holders permissions listed c
+  unfolding listed_after
+  listed-other Opens h = refl
+  listed-other (Value v) h = refl
+  listed-other (Operations m) h = refl
+  listed-other (Link t) h = refl
+  listed-other (Part k m) h = absurd (h k m refl)
+  listed-other (Level l) h = refl
+  listed-other Ends h = refl
+
+pub seen-other : (seen : List ℕ) (c : RuleCommand) → ((k m : ℕ) → c ≡ Part k m → ⊥) → seen ≡ seen_by seen c
+unfolding seen_by
+seen-other seen Opens h = refl
+seen-other seen (Value v) h = refl
+seen-other seen (Operations m) h = refl
+seen-other seen (Link t) h = refl
+seen-other seen (Part k m) h = absurd (h k m refl)
+seen-other seen (Level l) h = refl
+seen-other seen Ends h = refl
+
+pub again-other : (seen again : List ℕ) (c : RuleCommand) → ((k m : ℕ) → c ≡ Part k m → ⊥) → again ≡ again_by seen again c
+unfolding again_by
+again-other seen again Opens h = refl
+again-other seen again (Value v) h = refl
+again-other seen again (Operations m) h = refl
+again-other seen again (Link t) h = refl
+again-other seen again (Part k m) h = absurd (h k m refl)
+again-other seen again (Level l) h = refl
+again-other seen again Ends h = refl

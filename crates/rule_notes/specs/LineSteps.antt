@@ -7,6 +7,7 @@ use Rattle.rule_meeting.specs.Meeting.{meeting_of, count_by}
 use Rattle.grant_grids.specs.Updates.{added_part}
 use Rattle.sets.specs.Sets.{bit, mask_of}
 use Rattle.rule_commands.specs.declared.Atom.{Atom}
+use Rattle.rule_commands.specs.declared.Raw.{Raw}
 use Rattle.rule_commands.specs.declared.RuleCommand.{RuleCommand}
 use Rattle.rule_notes.specs.declared.Tally.{Tally}
 use Rattle.rule_commands.specs.declared.ListedValue.{ListedValue}
@@ -28,17 +29,17 @@ atom_number (SingleEqualsSingle a b) = pair_number a b
 
 -- ---- the numbers
 
-abbrev pub tally_with : Tally → ℕ → ℕ → ℕ → Bool → Bool → ℕ → ℕ → ℕ → Tally
-tally_with k asked atoms acts lists tells b x y = record { inside = k.inside; asked = asked; atoms = atoms; operations = acts; listing = lists; telling = tells; last = b; x = x; y = y; rules = k.rules; strays = k.strays; stray = k.stray }
+abbrev pub tally_with : Tally → ℕ → ℕ → ℕ → Bool → Bool → Raw → Tally
+tally_with k asked atoms acts lists tells line = record { inside = k.inside; asked = asked; atoms = atoms; operations = acts; listing = lists; telling = tells; last = line; rules = k.rules; stray = k.stray }
 
-unfoldable pub noted_with : Tally → RuleCommand → ℕ → ℕ → ℕ → Tally
-noted_with k Opens b x y = tally_with k k.asked k.atoms k.operations k.listing k.telling b x y
-noted_with k (Value v) b x y = tally_with k (marked k.asked (place_by v.side v.attribute)) k.atoms k.operations k.listing k.telling b x y
-noted_with k (Operations m) b x y = tally_with k k.asked k.atoms m k.listing k.telling b x y
-noted_with k (Link t) b x y = tally_with k k.asked (marked k.atoms (atom_number t)) k.operations k.listing k.telling b x y
-noted_with k (Part j m) b x y = tally_with k k.asked k.atoms k.operations true k.telling b x y
-noted_with k (Level l) b x y = tally_with k k.asked k.atoms k.operations k.listing true b x y
-noted_with k Ends b x y = tally_with k k.asked k.atoms k.operations k.listing k.telling b x y
+unfoldable pub noted_with : Tally → RuleCommand → Raw → Tally
+noted_with k Opens line = tally_with k k.asked k.atoms k.operations k.listing k.telling line
+noted_with k (Value v) line = tally_with k (marked k.asked (place_by v.side v.attribute)) k.atoms k.operations k.listing k.telling line
+noted_with k (Operations m) line = tally_with k k.asked k.atoms m k.listing k.telling line
+noted_with k (Link t) line = tally_with k k.asked (marked k.atoms (atom_number t)) k.operations k.listing k.telling line
+noted_with k (Part j m) line = tally_with k k.asked k.atoms k.operations true k.telling line
+noted_with k (Level l) line = tally_with k k.asked k.atoms k.operations k.listing true line
+noted_with k Ends line = tally_with k k.asked k.atoms k.operations k.listing k.telling line
 
 -- ---- the tables
 

@@ -1,27 +1,28 @@
 -- The numbers that the reader of rule files keeps, and what its steps make of them.
 -- Assumes nothing.
-use Rattle.std.specs.Prelude.{ℕ, ◌+◌, eqb, Bool, true, false, cond, ◌&&◌, ◌||◌, not, List}
+use Rattle.std.specs.Prelude.{ℕ, ◌+◌, eqb, Bool, true, false, cond, ◌&&◌, ◌||◌, not, List, Option, Some, None, is_none}
 use Rattle.grant_blocks.specs.Rows.{added_rows, same_rows}
-use Rattle.rule_commands.specs.Raw.{raw_before}
+use Rattle.rule_commands.specs.Raw.{line, raw_before}
+use Rattle.rule_commands.specs.declared.Raw.{Raw}
 use Rattle.rule_grants.specs.RuleRows.{rule_rows}
 use Rattle.rule_levels.specs.Levels.{level_for}
 use Rattle.sets.specs.Sets.{bit}
 use Rattle.rule_notes.specs.declared.Tally.{Tally}
 
 unfoldable pub begun_with : Tally
-begun_with = record { inside = false; asked = 0; atoms = 0; operations = 0; listing = false; telling = false; last = 0x21; x = 0; y = 0; rules = 0; strays = false; stray = 0 }
+begun_with = record { inside = false; asked = 0; atoms = 0; operations = 0; listing = false; telling = false; last = line 0x21 0 0; rules = 0; stray = None }
 
 -- behind a 21
 unfoldable pub opened_with : Tally → Tally
-opened_with k = record { inside = true; asked = 0; atoms = 0; operations = 0; listing = false; telling = false; last = 0x21; x = 0; y = 0; rules = k.rules; strays = k.strays; stray = k.stray }
+opened_with k = record { inside = true; asked = 0; atoms = 0; operations = 0; listing = false; telling = false; last = line 0x21 0 0; rules = k.rules; stray = k.stray }
 
-abbrev pub tallied : Tally → Bool → ℕ → Tally
-tallied k b n = record { inside = k.inside; asked = k.asked; atoms = k.atoms; operations = k.operations; listing = k.listing; telling = k.telling; last = k.last; x = k.x; y = k.y; rules = k.rules + 1; strays = b; stray = n }
+-- one more rule; which was the first stray one
+abbrev pub tallied : Tally → Option ℕ → Tally
+tallied k stray = record { inside = k.inside; asked = k.asked; atoms = k.atoms; operations = k.operations; listing = k.listing; telling = k.telling; last = k.last; rules = k.rules + 1; stray = stray }
 
 -- one more rule, stray unless it grants the same as its parts
 unfoldable pub counted_with : Tally → Bool → Tally
-counted_with k true = tallied k k.strays k.stray
-counted_with k false = cond k.strays (tallied k k.strays k.stray) (tallied k true k.rules)
+counted_with k same = tallied k (cond (not same && is_none k.stray) (Some k.rules) k.stray)
 
 -- the rows of the open rule, from its summary
 unfoldable pub open_rows : Tally → List ℕ → List ℕ → ℕ → ℕ → List ℕ
@@ -50,9 +51,9 @@ unfoldable pub is_second : Tally → ℕ → Bool
 is_second k b = (eqb b 0x26 && not (eqb k.operations 0)) || (eqb b 0x29 && k.telling)
 
 -- another: in an open rule, behind its last command, and no second 26 or 29
-unfoldable pub follows_with : Tally → ℕ → ℕ → ℕ → Bool
-follows_with k b x y = k.inside && (not (is_second k b) && raw_before k.last k.x k.y b x y)
+unfoldable pub follows_with : Tally → Raw → Bool
+follows_with k a = k.inside && (not (is_second k a.byte) && raw_before k.last a)
 
 -- a 29 tells the level of the rule: places 6 and 13 are those of the 255s
-unfoldable pub levelled_with : Tally → ℕ → ℕ → Bool
-levelled_with k b x = not (eqb b 0x29) || eqb x (level_for (bit k.asked 6) (bit k.asked 13))
+unfoldable pub levelled_with : Tally → Raw → Bool
+levelled_with k a = not (eqb a.byte 0x29) || eqb a.first (level_for (bit k.asked 6) (bit k.asked 13))

@@ -2,55 +2,40 @@
 #![tactic(auto)]
 
 ghost use Rattle.std.specs.Prelude.{◌≡◌, ◌≤◌, ◌<◌};
-ghost use Rattle.role_record.specs.Record.{WithinLimits, FewAttributes};
+ghost use Rattle.role_record.specs.Record.{WithinLimits, FewAttributes, sizes_of};
 ghost use Rattle.rule_operands.specs.Checked.{atom_of, checked_value, checked_operations, checked_link, checked_part, checked_of};
 
 use files::rule_byte;
-use role_record::{ByAttribute, ByRole, ByRoleOperation, BySide, CountBySide, Sizes};
-use rule_commands::{Atom, ListedValue, RuleCommand};
-
-// A command whose operands are legal, or word that they are not.
-#[derive(Clone, Copy)]
-pub enum Checked {
-    Legal(RuleCommand),
-    Illegal,
-}
+use role_record::{BySide, RoleFile};
+use rule_commands::{Atom, ListedValue, Raw, RuleCommand};
 
 // Commands 22 to 25: which of the four follows from the side and the kind.
-fn check_value<'a>(
-    side: usize,
-    set: bool,
-    x: u64,
-    y: u64,
-    sizes: Sizes,
-    attributes: &'a CountBySide,
-    kinds: &'a BySide,
-) -> Checked
-    requires { (side < 2) × WithinLimits sizes }
+fn check_value(side: usize, set: bool, line: Raw, f: &RoleFile) -> Option<RuleCommand>
+    requires { (side < 2) × WithinLimits (sizes_of f.now) }
     ensures { result
-        ≡ checked_value side set x y sizes.roles sizes.resources attributes.now kinds.now }
+        ≡ checked_value side set line.first line.second f.now.roles f.now.resources f.now.attributes f.now.kinds }
 {
     let v = ListedValue {
-        side: side,
-        set: set,
-        attribute: x as usize,
-        value: y,
+        side,
+        set,
+        attribute: line.first as usize,
+        value: line.second,
     };
-    if rule_legal::value_legal(v, sizes, attributes, kinds) {
-        return Checked::Legal(RuleCommand::Value(v));
+    if rule_legal::value_legal(v, f) {
+        return Some(RuleCommand::Value(v));
     }
-    Checked::Illegal
+    None
 }
 
 // Command 26.
-fn check_operations(x: u64, operations: usize) -> Checked
+fn check_operations(line: Raw, operations: usize) -> Option<RuleCommand>
     requires { operations ≤ 16 }
-    ensures { result ≡ checked_operations x operations }
+    ensures { result ≡ checked_operations line.first operations }
 {
-    if rule_legal::operations_legal(x, operations) {
-        return Checked::Legal(RuleCommand::Operations(x));
+    if rule_legal::operations_legal(line.first, operations) {
+        return Some(RuleCommand::Operations(line.first));
     }
-    Checked::Illegal
+    None
 }
 
 // The atom of two attributes of a legal line: its form follows from their kinds.
@@ -67,71 +52,51 @@ fn atom_of(a: usize, b: usize, kinds: &BySide) -> Atom
 }
 
 // Command 27.
-fn check_link<'a>(
-    x: u64,
-    y: u64,
-    attributes: &'a CountBySide,
-    kinds: &'a BySide,
-    domains: &'a ByAttribute,
-) -> Checked
-    requires { FewAttributes attributes.now }
-    ensures { result ≡ checked_link x y attributes.now kinds.now domains.now }
+fn check_link(line: Raw, f: &RoleFile) -> Option<RuleCommand>
+    requires { FewAttributes f.now.attributes }
+    ensures { result ≡ checked_link line.first line.second f.now.attributes f.now.kinds f.now.domains }
 {
-    if rule_legal::link_legal(x, y, attributes, kinds, domains) {
-        return Checked::Legal(RuleCommand::Link(atom_of(x as usize, y as usize, kinds)));
+    if rule_legal::link_legal(line.first, line.second, f) {
+        return Some(RuleCommand::Link(atom_of(
+            line.first as usize,
+            line.second as usize,
+            &f.kinds,
+        )));
     }
-    Checked::Illegal
+    None
 }
 
 // Command 28.
-fn check_part<'a>(
-    x: u64,
-    y: u64,
-    sizes: Sizes,
-    holders: &'a ByRole,
-    permissions: &'a ByRoleOperation,
-) -> Checked
-    requires { WithinLimits sizes }
+fn check_part(line: Raw, f: &RoleFile) -> Option<RuleCommand>
+    requires { WithinLimits (sizes_of f.now) }
     ensures { result
-        ≡ checked_part x y sizes.roles sizes.operations holders.now permissions.now }
+        ≡ checked_part line.first line.second f.now.roles f.now.operations f.now.holders f.now.permissions }
 {
-    if rule_legal::part_legal(x, y, sizes.roles, sizes.operations, holders, permissions) {
-        return Checked::Legal(RuleCommand::Part {
-            role: x as usize,
-            operations: y,
+    if rule_legal::part_legal(line.first, line.second, f) {
+        return Some(RuleCommand::Part {
+            role: line.first as usize,
+            operations: line.second,
         });
     }
-    Checked::Illegal
+    None
 }
 
-// The command of byte b with operands x and y, as `rule_commands::Raw` has them. 21 and 2F have none that could be illegal, and that of a 29
-// is tested against the rule, not against the role file.
-pub fn check<'a>(
-    b: usize,
-    x: u64,
-    y: u64,
-    sizes: Sizes,
-    attributes: &'a CountBySide,
-    kinds: &'a BySide,
-    domains: &'a ByAttribute,
-    holders: &'a ByRole,
-    permissions: &'a ByRoleOperation,
-) -> Checked
-    requires { WithinLimits sizes × FewAttributes attributes.now }
-    ensures { result
-        ≡ checked_of b x y sizes.resources sizes.operations sizes.roles attributes.now
-        kinds.now domains.now holders.now permissions.now }
+// The command of a line, if its operands are legal. 21 and 2F have none that could be illegal, and that of a 29 is tested against the rule,
+// not against the role file.
+pub fn check(line: Raw, f: &RoleFile) -> Option<RuleCommand>
+    requires { WithinLimits (sizes_of f.now) × FewAttributes f.now.attributes }
+    ensures { result ≡ checked_of line f.now }
 {
-    match b {
-        rule_byte::OPENS => Checked::Legal(RuleCommand::Opens),
-        rule_byte::USER_SINGLE => check_value(0, false, x, y, sizes, attributes, kinds),
-        rule_byte::USER_SET => check_value(0, true, x, y, sizes, attributes, kinds),
-        rule_byte::RESOURCE_SINGLE => check_value(1, false, x, y, sizes, attributes, kinds),
-        rule_byte::RESOURCE_SET => check_value(1, true, x, y, sizes, attributes, kinds),
-        rule_byte::OPERATIONS => check_operations(x, sizes.operations),
-        rule_byte::LINK => check_link(x, y, attributes, kinds, domains),
-        rule_byte::PART => check_part(x, y, sizes, holders, permissions),
-        rule_byte::LEVEL => Checked::Legal(RuleCommand::Level(x)),
-        _ => Checked::Legal(RuleCommand::Ends),
+    match line.byte {
+        rule_byte::OPENS => Some(RuleCommand::Opens),
+        rule_byte::USER_SINGLE => check_value(0, false, line, f),
+        rule_byte::USER_SET => check_value(0, true, line, f),
+        rule_byte::RESOURCE_SINGLE => check_value(1, false, line, f),
+        rule_byte::RESOURCE_SET => check_value(1, true, line, f),
+        rule_byte::OPERATIONS => check_operations(line, f.operations),
+        rule_byte::LINK => check_link(line, f),
+        rule_byte::PART => check_part(line, f),
+        rule_byte::LEVEL => Some(RuleCommand::Level(line.first)),
+        _ => Some(RuleCommand::Ends),
     }
 }

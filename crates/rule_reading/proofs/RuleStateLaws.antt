@@ -1,6 +1,6 @@
 -- The state of the reader's loop, and what each turn makes of it.
 -- Assumes nothing.
-use Rattle.std.specs.Prelude.{ℕ, zero, suc, ◌+◌, ◌≤◌, ◌<◌, ◌-◌, eqb, replicate, Bool, false, ◌&&◌, ◌||◌, not, ◌≡◌}
+use Rattle.std.specs.Prelude.{ℕ, zero, suc, ◌+◌, ◌≤◌, ◌<◌, ◌-◌, eqb, replicate, Bool, false, ◌&&◌, ◌||◌, not, ◌≡◌, Some, None, Ok, Err}
 use borrow.Author.Tests.{eqb-true, eqb-false, eq-eqb, ne_eqb, le-ltb}
 use Rattle.std.proofs.Math.Dec.{ltb}
 use Rattle.std.proofs.Math.ListN.{length, drop, length-drop}
@@ -11,21 +11,23 @@ use Rattle.std.proofs.Math.Option.{Option, none, some}
 use Rattle.std.proofs.Math.Path.{refl, ap, subst}
 use Rattle.role_record.specs.Record.{Sized, known_table, value_table, permission_table, record_of}
 use Rattle.files.specs.Beside.{Beside, beside_of}
-use Rattle.files.specs.Answer.{Answer, unless, and_then, rules_order, rules_operand, wrong_level, refused, accepted}
+use Rattle.files.specs.Answer.{Answer, unless, and_then, map_answer, rules_order, rules_operand, wrong_level, refused, accepted}
+use Rattle.files.specs.Cause.{cause}
+use Rattle.files.specs.declared.refusal.Refusal.{Refusal}
 use Rattle.files.proofs.BytesLaws.{read_behind, follow}
 use Rattle.files.specs.Bytes.{behind, read_on, read}
 use Rattle.files.specs.RuleFile.{RuleCommand as Line, Lines, is_operations, is_level, precedes, Reading, ends_file, whole, finished, no_second, follows, legal, levelled, add_line, obey_rule, rule_format, read_body, opens, ends}
 use Rattle.grant_grids.specs.Grid.{grid_of}
 use Rattle.role_record.specs.RecordLaws.{table_none}
-use Rattle.rule_operands.specs.Checked.{checked_beside}
+use Rattle.rule_operands.specs.Checked.{checked_of}
 use Rattle.rule_operands.specs.CheckedLaws.{checked-illegal, checked-legal}
 use Rattle.grant_blocks.specs.Rows.{added_rows}
-use Rattle.policy.specs.Policy.{Policy, setting_of, roles_in}
+use Rattle.policy.specs.Policy.{Policy}
 use Rattle.policy.specs.Rules.{user, resource}
 use Rattle.rule_commands.specs.CommandOrderLaws.{order-more}
 use Rattle.rule_commands.specs.Raw.{InOrder, raw_of, raw_before, command_of, rule_meaning, Shape, shape-opens, shape_user_single, shape_user_set, shape_resource_single, shape_resource_set, shape-operations, shape-link, shape-part, shape-level, shape-ends, Sided}
-use Rattle.rule_commands.specs.RawLaws.{raw_short, raw_unknown, RawFront, raw_whole, again-refused}
-use Rattle.rule_reading.specs.BothFiles.{nothing_read, both_of, GridShown}
+use Rattle.rule_commands.specs.RawLaws.{raw_refused, RawFront, raw_whole, again-refused}
+use Rattle.rule_reading.specs.BothFiles.{both_of, GridShown}
 use Rattle.rule_notes.specs.Tally.{begun_with, opened_with, open_rows, closed_with, finished_with, finished_grid, may_close, is_second, follows_with, levelled_with}
 use Rattle.rule_notes.specs.KeptLaws.{finish-inside, finish-outside}
 use Rattle.rule_notes.specs.LineSteps.{noted_with, met_after, listed_after, seen_by, again_by}
@@ -37,9 +39,10 @@ use Rattle.sets.specs.Tests.{Is, all, any, is_some}
 use Rattle.sets.specs.TestLaws.{and_l, and_r, or_l, or_r, never, test, fails}
 use Rattle.rule_commands.specs.declared.RuleCommand.{RuleCommand}
 use Rattle.rule_notes.specs.declared.Tally.{Tally}
-use Rattle.rule_reading.specs.Turns.{both_with, read_beside}
-use Rattle.rule_operands.specs.declared.Checked.TheVariants.{Legal, Illegal}
-use Rattle.rule_commands.specs.declared.Raw.TheVariants.{Whole, Unknown, Short}
+use Rattle.role_record.specs.declared.RoleFile.{RoleFile}
+use Rattle.rule_commands.specs.declared.Raw.{Raw}
+use Rattle.rule_reading.specs.Turns.{read_beside}
+use Rattle.rule_reading.specs.declared.BothFiles.{BothFiles}
 use Rattle.rule_commands.specs.declared.RuleCommand.TheVariants.{Opens, Value, Operations, Link, Part, Level, Ends}
 
 -- the lines of the open rule; none if none is open
@@ -58,7 +61,7 @@ pub record State (F : Policy) (s : List ℕ) (k : Tally) (met listed grid seen a
   pub within : at ≤ length s
   pub few : k.rules ≤ at
   -- no command in a rule stands before its 21: a 20 cannot follow
-  pub last : 0x21 ≤ k.last
+  pub last : 0x21 ≤ k.last.byte
   pub inside : k.inside ≡ is_some reading.current
   pub shows : Shows F reading.complete (open_lines reading.current) k met listed grid seen again
   pub same : read_on (rule_format 2 (beside_of F)) (suc fuel) false reading (drop at s) ≡ read (rule_format 2 (beside_of F)) start s
@@ -91,20 +94,20 @@ begin F s listed grid p q = record {
   few = omega arith;
   last = omega arith;
   inside = refl;
-  shows = shows-opened F [] begun_with begun_with (replicate 14 0) listed grid (replicate 32 0) (replicate 32 0) (stored-begun F grid q) (table_none 14) p refl refl refl refl refl refl refl refl refl;
+  shows = shows-opened F [] begun_with begun_with (replicate 14 0) listed grid (replicate 32 0) (replicate 32 0) (stored-begun F grid q) (table_none 14) p refl refl refl refl refl refl refl refl;
   same = refl;
 }
 
 -- ---- commands by their bytes
 
 -- another 20, a 21, a 2F, or a line of a rule
-pub data Kind (b x y : ℕ) : Type 0 where
-  reshaping : b ≡ 0x20 → Kind b x y
-  opening : b ≡ 0x21 → command_of b x y ≡ opens → Kind b x y
-  ending : b ≡ 0x2F → command_of b x y ≡ ends → Kind b x y
-  lining : 0x22 ≤ b → b ≤ 0x29 → ends_file (command_of b x y) ≡ false → ((B : Beside) (t : Reading) → obey_rule B t (command_of b x y) ≡ add_line B t (command_of b x y)) → Kind b x y
+pub data Kind (line : Raw) : Type 0 where
+  reshaping : line.byte ≡ 0x20 → Kind line
+  opening : line.byte ≡ 0x21 → command_of line ≡ opens → Kind line
+  ending : line.byte ≡ 0x2F → command_of line ≡ ends → Kind line
+  lining : 0x22 ≤ line.byte → line.byte ≤ 0x29 → ends_file (command_of line) ≡ false → ((B : Beside) (t : Reading) → obey_rule B t (command_of line) ≡ add_line B t (command_of line)) → Kind line
 
-kind-of : {b x y : ℕ} → Shape b x y → Kind b x y
+kind-of : {line : Raw} → Shape line → Kind line
 unfolding command_of obey_rule
 kind-of shape-opens = opening refl refl
 kind-of (shape_user_single a v) = lining (omega arith) (omega arith) refl (λ B t. refl)
@@ -117,8 +120,8 @@ kind-of (shape-part j m) = lining (omega arith) (omega arith) refl (λ B t. refl
 kind-of (shape-level l) = lining (omega arith) (omega arith) refl (λ B t. refl)
 kind-of shape-ends = ending refl refl
 
-kind_at : {b x y : ℕ} → ((b ≡ 0x20 → ⊥) → Shape b x y) → Kind b x y
-kind_at {b} s = test (eqb b 0x20) (λ e. reshaping (eqb-true b 0x20 e)) (λ e. kind-of (s (eqb-false b 0x20 e)))
+kind_at : {line : Raw} → ((line.byte ≡ 0x20 → ⊥) → Shape line) → Kind line
+kind_at {line} s = test (eqb line.byte 0x20) (λ e. reshaping (eqb-true line.byte 0x20 e)) (λ e. kind-of (s (eqb-false line.byte 0x20 e)))
 
 -- ---- steps between rules
 
@@ -127,21 +130,25 @@ moved F rules n m g h seen again p q s = subst (λ (l : List ℕ). Stored F rule
 
 opened-shows : (F : Policy) (rules : List Lines) (n : Tally) (grid seen again : List ℕ) → Stored F rules n grid seen again → Shows F rules [] (opened_with n) (replicate 14 0) (grid_of F.operations (λ u r o. false)) grid seen again
 unfolding opened_with
-opened-shows F rules n grid seen again s = shows-opened F rules n (opened_with n) (replicate 14 0) (grid_of F.operations (λ u r o. false)) grid seen again s (table_none 14) refl refl refl refl refl refl refl refl refl refl
+opened-shows F rules n grid seen again s = shows-opened F rules n (opened_with n) (replicate 14 0) (grid_of F.operations (λ u r o. false)) grid seen again s (table_none 14) refl refl refl refl refl refl refl refl refl
 
-opened-kept : (n : Tally) → ((opened_with n).rules ≡ n.rules) × ((opened_with n).inside ≡ true) × ((opened_with n).last ≡ 0x21)
+opened-kept : (n : Tally) → ((opened_with n).rules ≡ n.rules) × ((opened_with n).inside ≡ true) × ((opened_with n).last.byte ≡ 0x21)
 unfolding opened_with
 opened-kept n = (refl, refl, refl)
 
-noted-kept : (k : Tally) (c : RuleCommand) (b x y : ℕ) → ((noted_with k c b x y).rules ≡ k.rules) × ((noted_with k c b x y).inside ≡ k.inside) × ((noted_with k c b x y).last ≡ b)
+noted-kept : (k : Tally) (c : RuleCommand) (line : Raw) → ((noted_with k c line).rules ≡ k.rules) × ((noted_with k c line).inside ≡ k.inside) × ((noted_with k c line).last.byte ≡ line.byte)
 unfolding noted_with
-noted-kept k Opens b x y = (refl, refl, refl)
-noted-kept k (Value v) b x y = (refl, refl, refl)
-noted-kept k (Operations m) b x y = (refl, refl, refl)
-noted-kept k (Link t) b x y = (refl, refl, refl)
-noted-kept k (Part j m) b x y = (refl, refl, refl)
-noted-kept k (Level l) b x y = (refl, refl, refl)
-noted-kept k Ends b x y = (refl, refl, refl)
+noted-kept k Opens line = (refl, refl, refl)
+noted-kept k (Value v) line = (refl, refl, refl)
+noted-kept k (Operations m) line = (refl, refl, refl)
+noted-kept k (Link t) line = (refl, refl, refl)
+noted-kept k (Part j m) line = (refl, refl, refl)
+noted-kept k (Level l) line = (refl, refl, refl)
+noted-kept k Ends line = (refl, refl, refl)
+
+-- what is handed back of a rule file that was read to its end
+abbrev pub both_with : RoleFile → Tally → List ℕ → List ℕ → BothFiles
+both_with f k seen again = record { file = f; rules = k.rules; stray = k.stray; seen = seen; again = again }
 
 -- ---- a turn
 
@@ -150,17 +157,13 @@ module _ (F : Policy) (Z : Sized F) (s : List ℕ) (k : Tally) (met listed grid 
   abbrev answer : Answer (Policy × List Lines)
   answer = outcome F (read (rule_format 2 (beside_of F)) start s)
 
-  pub turn-cut : raw_of (drop at s) ≡ Short → nothing_read 10 ≡ both_of (outcome F (read (rule_format 2 (beside_of F)) start s))
-  unfolding outcome both_of
-  turn-cut e = ap (λ (r : Answer Reading). both_of (outcome F r)) (sym (raw_short (beside_of F) t.fuel t.reading (drop at s) e) ∙ t.same)
+  pub turn-fails : (e : Refusal) → raw_of (drop at s) ≡ Err e → refused (cause e) ≡ outcome F (read (rule_format 2 (beside_of F)) start s)
+  unfolding outcome
+  turn-fails e h = ap (outcome F) (sym (raw_refused (beside_of F) t.fuel t.reading (drop at s) e h) ∙ t.same)
 
-  pub turn-strange : raw_of (drop at s) ≡ Unknown → nothing_read 11 ≡ both_of (outcome F (read (rule_format 2 (beside_of F)) start s))
-  unfolding outcome both_of
-  turn-strange e = ap (λ (r : Answer Reading). both_of (outcome F r)) (sym (raw_unknown (beside_of F) t.fuel t.reading (drop at s) e) ∙ t.same)
-
-  module _ (b x y w : ℕ) (e : raw_of (drop at s) ≡ Whole b x y w) where
-    front : RawFront (beside_of F) t.fuel t.reading (drop at s) b x y w
-    front = raw_whole (beside_of F) t.fuel t.reading (drop at s) b x y w e
+  module _ (line : Raw) (w : ℕ) (e : raw_of (drop at s) ≡ Ok (line, w)) where
+    front : RawFront (beside_of F) t.fuel t.reading (drop at s) line w
+    front = raw_whole (beside_of F) t.fuel t.reading (drop at s) line w e
 
     pub some_bytes : 0 < w
     some_bytes = front.some_bytes
@@ -170,14 +173,14 @@ module _ (F : Policy) (Z : Sized F) (s : List ℕ) (k : Tally) (met listed grid 
 
     -- what follows the command
     abbrev onward : Reading → Answer Reading
-    onward = follow (rule_format 2 (beside_of F)) (ends_file (command_of b x y)) t.fuel (drop w (drop at s))
+    onward = follow (rule_format 2 (beside_of F)) (ends_file (command_of line)) t.fuel (drop w (drop at s))
 
-    turned : outcome F (and_then (obey_rule (beside_of F) t.reading (command_of b x y)) onward) ≡ answer
+    turned : outcome F (and_then (obey_rule (beside_of F) t.reading (command_of line)) onward) ≡ answer
     turned = ap (outcome F) (sym front.turned ∙ t.same)
 
     -- the state after a command that is not the end. Each command is at least one byte, so the fuel lasts
-    stepped : (M : Reading) (n : Tally) (met₁ listed₁ grid₁ seen₁ again₁ : List ℕ) → ends_file (command_of b x y) ≡ false → obey_rule (beside_of F) t.reading (command_of b x y) ≡ accepted M
-        → n.rules ≤ at + w → 0x21 ≤ n.last → n.inside ≡ is_some M.current → Shows F M.complete (open_lines M.current) n met₁ listed₁ grid₁ seen₁ again₁
+    stepped : (M : Reading) (n : Tally) (met₁ listed₁ grid₁ seen₁ again₁ : List ℕ) → ends_file (command_of line) ≡ false → obey_rule (beside_of F) t.reading (command_of line) ≡ accepted M
+        → n.rules ≤ at + w → 0x21 ≤ n.last.byte → n.inside ≡ is_some M.current → Shows F M.complete (open_lines M.current) n met₁ listed₁ grid₁ seen₁ again₁
         → State F s n met₁ listed₁ grid₁ seen₁ again₁ (at + w)
     stepped M n met₁ listed₁ grid₁ seen₁ again₁ on so few last inside shows = next t.fuel t.enough refl
       where
@@ -281,38 +284,38 @@ module _ (F : Policy) (Z : Sized F) (s : List ℕ) (k : Tally) (met listed grid 
         go none q = absurd (false≢true (sym h ∙ ap (λ (u : Bool). cond u (not (eqb k.operations 0) && (k.listing && k.telling)) true) (inside_is none q)))
         go (some ls) q = finished-some ls q ∙ ap (λ (u : Bool). unless u rules_order (accepted (t.reading.complete ++ (ls ∷ [])))) (sym (may_close_means F Z t.reading.complete ls k met listed grid seen again (shows-lines (some ls) q) (inside_is (some ls) q)) ∙ h)
 
-    obey-opens : command_of b x y ≡ opens → (a : Answer (List Lines)) → finished t.reading ≡ a → obey_rule (beside_of F) t.reading (command_of b x y) ≡ and_then a (λ done. accepted (record { complete = done; current = some [] }))
+    obey-opens : command_of line ≡ opens → (a : Answer (List Lines)) → finished t.reading ≡ a → obey_rule (beside_of F) t.reading (command_of line) ≡ and_then a (λ done. accepted (record { complete = done; current = some [] }))
     unfolding obey_rule
     obey-opens q a f = rw q (rw f refl)
 
-    obey-ends : command_of b x y ≡ ends → (a : Answer (List Lines)) → finished t.reading ≡ a → obey_rule (beside_of F) t.reading (command_of b x y) ≡ and_then a (λ done. accepted (record { complete = done; current = none }))
+    obey-ends : command_of line ≡ ends → (a : Answer (List Lines)) → finished t.reading ≡ a → obey_rule (beside_of F) t.reading (command_of line) ≡ and_then a (λ done. accepted (record { complete = done; current = none }))
     unfolding obey_rule
     obey-ends q a f = rw q (rw f refl)
 
     -- a refused command
-    refused-by : obey_rule (beside_of F) t.reading (command_of b x y) ≡ refused rules_order → nothing_read 12 ≡ both_of answer
-    unfolding outcome both_of
-    refused-by q = ap both_of (ap (λ (r : Answer Reading). outcome F (and_then r onward)) (sym q) ∙ turned)
+    refused-by : obey_rule (beside_of F) t.reading (command_of line) ≡ refused rules_order → refused rules_order ≡ answer
+    unfolding outcome
+    refused-by q = ap (λ (r : Answer Reading). outcome F (and_then r onward)) (sym q) ∙ turned
 
-    pub close_refused : (eqb b 0x21 || eqb b 0x2F) ≡ true → may_close k ≡ false → nothing_read 12 ≡ both_of (outcome F (read (rule_format 2 (beside_of F)) start s))
+    pub close_refused : (eqb line.byte 0x21 || eqb line.byte 0x2F) ≡ true → may_close k ≡ false → refused rules_order ≡ outcome F (read (rule_format 2 (beside_of F)) start s)
     close_refused h m = go (kind_at front.shape)
       where
-        go : Kind b x y → nothing_read 12 ≡ both_of answer
-        go (reshaping p) = refused-by (again-refused (beside_of F) t.reading b x y p)
+        go : Kind line → refused rules_order ≡ answer
+        go (reshaping p) = refused-by (again-refused (beside_of F) t.reading line p)
         go (opening p q) = refused-by (obey-opens q (refused rules_order) (unfinished m))
         go (ending p q) = refused-by (obey-ends q (refused rules_order) (unfinished m))
-        go (lining p q u v) = absurd (false≢true (sym (ap₂ ◌||◌ (ne_eqb b 0x21 (λ z. omega arith)) (ne_eqb b 0x2F (λ z. omega arith))) ∙ h))
+        go (lining p q u v) = absurd (false≢true (sym (ap₂ ◌||◌ (ne_eqb line.byte 0x21 (λ z. omega arith)) (ne_eqb line.byte 0x2F (λ z. omega arith))) ∙ h))
 
     -- ---- behind it: a new rule, or the end
 
     module _ (h : may_close k ≡ true) where
-      pub opened : b ≡ 0x21 → State F s (opened_with done_with) (replicate 14 0) (grid_of F.operations (λ u r o. false)) done_grid seen again (at + w)
+      pub opened : line.byte ≡ 0x21 → State F s (opened_with done_with) (replicate 14 0) (grid_of F.operations (λ u r o. false)) done_grid seen again (at + w)
       opened z = go (kind_at front.shape)
         where
           d : Done
           d = closed h
 
-          go : Kind b x y → State F s (opened_with done_with) (replicate 14 0) (grid_of F.operations (λ u r o. false)) done_grid seen again (at + w)
+          go : Kind line → State F s (opened_with done_with) (replicate 14 0) (grid_of F.operations (λ u r o. false)) done_grid seen again (at + w)
           go (reshaping p) = absurd (omega arith)
           go (opening p q) =
               stepped (record { complete = d.rules; current = some [] }) (opened_with done_with) (replicate 14 0) (grid_of F.operations (λ u r o. false)) done_grid seen again (ap ends_file q) (obey-opens q (accepted d.rules) d.so)
@@ -321,30 +324,30 @@ module _ (F : Policy) (Z : Sized F) (s : List ℕ) (k : Tally) (met listed grid 
           go (lining p q u v) = absurd (omega arith)
 
       -- what follows a 2F
-      followed : (q : command_of b x y ≡ ends) → outcome F (behind (rule_format 2 (beside_of F)) (record { complete = (closed h).rules; current = none }) (drop w (drop at s))) ≡ answer
+      followed : (q : command_of line ≡ ends) → outcome F (behind (rule_format 2 (beside_of F)) (record { complete = (closed h).rules; current = none }) (drop w (drop at s))) ≡ answer
       followed q =
           ap (outcome F) (sym (read_behind (rule_format 2 (beside_of F)) t.fuel (record { complete = (closed h).rules; current = none }) (drop w (drop at s))))
           ∙ ap (λ (c : Bool). outcome F (follow (rule_format 2 (beside_of F)) c t.fuel (drop w (drop at s)) (record { complete = (closed h).rules; current = none }))) (sym (ap ends_file q))
           ∙ ap (λ (r : Answer Reading). outcome F (and_then r onward)) (sym (obey-ends q (accepted (closed h).rules) (closed h).so))
           ∙ turned
 
-      is-end : Kind b x y → b ≡ 0x2F → command_of b x y ≡ ends
+      is-end : Kind line → line.byte ≡ 0x2F → command_of line ≡ ends
       is-end (reshaping p) z = absurd (omega arith)
       is-end (opening p q) z = absurd (omega arith)
       is-end (ending p q) z = q
       is-end (lining p q u v) z = absurd (omega arith)
 
       -- bytes behind the end
-      pub ended-late : b ≡ 0x2F → (at + w ≡ length s → ⊥) → nothing_read 12 ≡ both_of (outcome F (read (rule_format 2 (beside_of F)) start s))
-      unfolding outcome both_of rule_format
+      pub ended-late : line.byte ≡ 0x2F → (at + w ≡ length s → ⊥) → refused rules_order ≡ outcome F (read (rule_format 2 (beside_of F)) start s)
+      unfolding outcome rule_format
       ended-late z d = go (drop w (drop at s)) refl (followed (is-end (kind_at front.shape) z))
         where
-          go : (l : List ℕ) → drop w (drop at s) ≡ l → outcome F (behind (rule_format 2 (beside_of F)) (record { complete = (closed h).rules; current = none }) l) ≡ answer → nothing_read 12 ≡ both_of answer
+          go : (l : List ℕ) → drop w (drop at s) ≡ l → outcome F (behind (rule_format 2 (beside_of F)) (record { complete = (closed h).rules; current = none }) l) ≡ answer → refused rules_order ≡ answer
           go [] q o = let n = ap length q in let a = not_past in let i = t.within in let c = length-drop w (drop at s) in let g = length-drop at s in absurd (d (omega arith))
-          go (y ∷ l) q o = ap both_of o
+          go (y ∷ l) q o = o
 
       -- the end
-      at_the_end : b ≡ 0x2F → at + w ≡ length s → accepted (F, (closed h).rules) ≡ outcome F (read (rule_format 2 (beside_of F)) start s)
+      at_the_end : line.byte ≡ 0x2F → at + w ≡ length s → accepted (F, (closed h).rules) ≡ outcome F (read (rule_format 2 (beside_of F)) start s)
       unfolding outcome
       at_the_end z d =
           ap (λ (l : List ℕ). outcome F (behind (rule_format 2 (beside_of F)) (record { complete = (closed h).rules; current = none }) l)) (sym nothing_left)
@@ -354,79 +357,79 @@ module _ (F : Policy) (Z : Sized F) (s : List ℕ) (k : Tally) (met listed grid 
           nothing_left = length_none (drop w (drop at s)) (let a = length-drop w (drop at s) in let c = length-drop at s in omega arith)
 
       -- what is kept is what the rules come to, and the grid has what they grant
-      pub ended : b ≡ 0x2F → at + w ≡ length s → (both_with (record_of F) done_with seen again ≡ both_of (outcome F (read (rule_format 2 (beside_of F)) start s))) × GridShown (outcome F (read (rule_format 2 (beside_of F)) start s)) done_grid
+      pub ended : line.byte ≡ 0x2F → at + w ≡ length s → (accepted (both_with (record_of F) done_with seen again) ≡ map_answer both_of (outcome F (read (rule_format 2 (beside_of F)) start s))) × GridShown (outcome F (read (rule_format 2 (beside_of F)) start s)) done_grid
       unfolding both_of GridShown
       ended z d = (
-        shown (closed h).rules done_with done_grid (closed h).stored ∙ ap both_of (at_the_end z d),
+        ap accepted (shown (closed h).rules done_with done_grid (closed h).stored) ∙ ap (map_answer both_of) (at_the_end z d),
         subst (λ (a : Answer (Policy × List Lines)). GridShown a done_grid) (at_the_end z d) (closed h).stored.grid_shown,
       )
         where
-          shown : (rules : List Lines) (n : Tally) (g : List ℕ) → Stored F rules n g seen again → both_with (record_of F) n seen again ≡ both_of (accepted (F, rules))
-          shown rules n g v = rw (v.rules-counted, v.strays-shown, v.stray_shown, v.seen-shown, v.again-shown) refl
+          shown : (rules : List Lines) (n : Tally) (g : List ℕ) → Stored F rules n g seen again → both_with (record_of F) n seen again ≡ both_of (F, rules)
+          shown rules n g v = rw (v.rules-counted, v.stray_shown, v.seen-shown, v.again-shown) refl
 
     -- ---- a line of the open rule
 
     -- the reading with it
     abbrev with-line : Lines → Reading
-    with-line ls = record { complete = t.reading.complete; current = some (ls ++ (command_of b x y ∷ [])) }
+    with-line ls = record { complete = t.reading.complete; current = some (ls ++ (command_of line ∷ [])) }
 
-    add_none : t.reading.current ≡ none → add_line (beside_of F) t.reading (command_of b x y) ≡ refused rules_order
+    add_none : t.reading.current ≡ none → add_line (beside_of F) t.reading (command_of line) ≡ refused rules_order
     unfolding add_line
     add_none q = rw q refl
 
-    add_some : (ls : Lines) → t.reading.current ≡ some ls → add_line (beside_of F) t.reading (command_of b x y)
-        ≡ unless (follows ls (command_of b x y)) rules_order (unless (legal (beside_of F) (command_of b x y)) rules_operand (unless (levelled (beside_of F) ls (command_of b x y)) wrong_level (accepted (with-line ls))))
+    add_some : (ls : Lines) → t.reading.current ≡ some ls → add_line (beside_of F) t.reading (command_of line)
+        ≡ unless (follows ls (command_of line)) rules_order (unless (legal (beside_of F) (command_of line)) rules_operand (unless (levelled (beside_of F) ls (command_of line)) wrong_level (accepted (with-line ls))))
     unfolding add_line
     add_some ls q = rw q refl
 
-    module _ (n : (eqb b 0x21 || eqb b 0x2F) ≡ false) where
+    module _ (n : (eqb line.byte 0x21 || eqb line.byte 0x2F) ≡ false) where
       -- what a line is
       pub record OfRule : Type 0 where
-        pub low : 0x22 ≤ b
-        pub high : b ≤ 0x29
-        pub goes_on : ends_file (command_of b x y) ≡ false
-        pub adds : obey_rule (beside_of F) t.reading (command_of b x y) ≡ add_line (beside_of F) t.reading (command_of b x y)
+        pub low : 0x22 ≤ line.byte
+        pub high : line.byte ≤ 0x29
+        pub goes_on : ends_file (command_of line) ≡ false
+        pub adds : obey_rule (beside_of F) t.reading (command_of line) ≡ add_line (beside_of F) t.reading (command_of line)
 
-      of-rule : (b ≡ 0x20 → ⊥) → OfRule
+      of-rule : (line.byte ≡ 0x20 → ⊥) → OfRule
       of-rule other = go (kind-of (front.shape other))
         where
-          go : Kind b x y → OfRule
+          go : Kind line → OfRule
           go (reshaping p) = absurd (other p)
-          go (opening p q) = absurd (false≢true (sym n ∙ or_l (eqb b 0x2F) (eq-eqb b 0x21 p)))
-          go (ending p q) = absurd (false≢true (sym n ∙ or_r (eqb b 0x21) (eq-eqb b 0x2F p)))
+          go (opening p q) = absurd (false≢true (sym n ∙ or_l (eqb line.byte 0x2F) (eq-eqb line.byte 0x21 p)))
+          go (ending p q) = absurd (false≢true (sym n ∙ or_r (eqb line.byte 0x21) (eq-eqb line.byte 0x2F p)))
           go (lining p q u v) = record { low = p; high = q; goes_on = u; adds = v (beside_of F) t.reading }
 
-      follows_is : (b ≡ 0x20 → ⊥) → (ls : Lines) → t.reading.current ≡ some ls → follows_with k b x y ≡ follows ls (command_of b x y)
-      follows_is other ls q = follows_means F Z t.reading.complete ls k met listed grid seen again (shows-lines (some ls) q) b x y (inside_is (some ls) q) (front.shape other) (of-rule other).low (of-rule other).high
+      follows_is : (line.byte ≡ 0x20 → ⊥) → (ls : Lines) → t.reading.current ≡ some ls → follows_with k line ≡ follows ls (command_of line)
+      follows_is other ls q = follows_means F Z t.reading.complete ls k met listed grid seen again (shows-lines (some ls) q) line (inside_is (some ls) q) (front.shape other) (of-rule other).low (of-rule other).high
 
-      pub line_refused : follows_with k b x y ≡ false → nothing_read 12 ≡ both_of (outcome F (read (rule_format 2 (beside_of F)) start s))
-      line_refused h = test (eqb b 0x20)
-          (λ e. refused-by (again-refused (beside_of F) t.reading b x y (eqb-true b 0x20 e)))
-          (λ e. refused-by ((of-rule (eqb-false b 0x20 e)).adds ∙ go (eqb-false b 0x20 e) t.reading.current refl))
+      pub line_refused : follows_with k line ≡ false → refused rules_order ≡ outcome F (read (rule_format 2 (beside_of F)) start s)
+      line_refused h = test (eqb line.byte 0x20)
+          (λ e. refused-by (again-refused (beside_of F) t.reading line (eqb-true line.byte 0x20 e)))
+          (λ e. refused-by ((of-rule (eqb-false line.byte 0x20 e)).adds ∙ go (eqb-false line.byte 0x20 e) t.reading.current refl))
         where
-          go : (b ≡ 0x20 → ⊥) → (o : Option Lines) → t.reading.current ≡ o → add_line (beside_of F) t.reading (command_of b x y) ≡ refused rules_order
+          go : (line.byte ≡ 0x20 → ⊥) → (o : Option Lines) → t.reading.current ≡ o → add_line (beside_of F) t.reading (command_of line) ≡ refused rules_order
           go other none q = add_none q
-          go other (some ls) q = add_some ls q ∙ ap (λ (u : Bool). unless u rules_order (unless (legal (beside_of F) (command_of b x y)) rules_operand (unless (levelled (beside_of F) ls (command_of b x y)) wrong_level (accepted (with-line ls))))) (sym (follows_is other ls q) ∙ h)
+          go other (some ls) q = add_some ls q ∙ ap (λ (u : Bool). unless u rules_order (unless (legal (beside_of F) (command_of line)) rules_operand (unless (levelled (beside_of F) ls (command_of line)) wrong_level (accepted (with-line ls))))) (sym (follows_is other ls q) ∙ h)
 
-      module _ (h : follows_with k b x y ≡ true) where
+      module _ (h : follows_with k line ≡ true) where
         -- the open rule
         pub record Open : Type 0 where
           pub lines : Lines
           pub current : t.reading.current ≡ some lines
-          pub follow : follows lines (command_of b x y) ≡ true
-          pub after : raw_before k.last k.x k.y b x y ≡ true
+          pub follow : follows lines (command_of line) ≡ true
+          pub after : raw_before k.last line ≡ true
 
-        parts-of : (k.inside ≡ true) × (raw_before k.last k.x k.y b x y ≡ true)
+        parts-of : (k.inside ≡ true) × (raw_before k.last line ≡ true)
         unfolding follows_with
-        parts-of = (and_l k.inside _ h, and_r (not (is_second k b)) _ (and_r k.inside _ h))
+        parts-of = (and_l k.inside _ h, and_r (not (is_second k line.byte)) _ (and_r k.inside _ h))
 
         -- it is no 20
-        other : b ≡ 0x20 → ⊥
+        other : line.byte ≡ 0x20 → ⊥
         unfolding raw_before
         other z =
             let l = t.last in
-            let r : (ltb k.last b || (eqb k.last b && (ltb k.x x || (eqb k.x x && ltb k.y y)))) ≡ true = parts-of.1 in
-            false≢true (rw (le-ltb k.last b (omega arith), ne_eqb k.last b (λ q. omega arith)) at r)
+            let r : (ltb k.last.byte line.byte || (eqb k.last.byte line.byte && (ltb k.last.first line.first || (eqb k.last.first line.first && ltb k.last.second line.second)))) ≡ true = parts-of.1 in
+            false≢true (rw (le-ltb k.last.byte line.byte (omega arith), ne_eqb k.last.byte line.byte (λ q. omega arith)) at r)
 
         open_rule : Open
         open_rule = go t.reading.current refl
@@ -437,30 +440,30 @@ module _ (F : Policy) (Z : Sized F) (s : List ℕ) (k : Tally) (met listed grid 
 
         -- what comes of it
         abbrev tested : Bool → Answer Reading
-        tested l = unless l rules_operand (unless (levelled (beside_of F) open_rule.lines (command_of b x y)) wrong_level (accepted (with-line open_rule.lines)))
+        tested l = unless l rules_operand (unless (levelled (beside_of F) open_rule.lines (command_of line)) wrong_level (accepted (with-line open_rule.lines)))
 
-        added : obey_rule (beside_of F) t.reading (command_of b x y) ≡ tested (legal (beside_of F) (command_of b x y))
-        added = (of-rule other).adds ∙ add_some open_rule.lines open_rule.current ∙ ap (λ (u : Bool). unless u rules_order (tested (legal (beside_of F) (command_of b x y)))) open_rule.follow
+        added : obey_rule (beside_of F) t.reading (command_of line) ≡ tested (legal (beside_of F) (command_of line))
+        added = (of-rule other).adds ∙ add_some open_rule.lines open_rule.current ∙ ap (λ (u : Bool). unless u rules_order (tested (legal (beside_of F) (command_of line)))) open_rule.follow
 
-        operand_refused : obey_rule (beside_of F) t.reading (command_of b x y) ≡ refused rules_operand → nothing_read 13 ≡ both_of answer
-        unfolding outcome both_of
-        operand_refused q = ap both_of (ap (λ (r : Answer Reading). outcome F (and_then r onward)) (sym q) ∙ turned)
+        operand_refused : obey_rule (beside_of F) t.reading (command_of line) ≡ refused rules_operand → refused rules_operand ≡ answer
+        unfolding outcome
+        operand_refused q = ap (λ (r : Answer Reading). outcome F (and_then r onward)) (sym q) ∙ turned
 
-        pub line-illegal : checked_beside F b x y ≡ Illegal → nothing_read 13 ≡ both_of (outcome F (read (rule_format 2 (beside_of F)) start s))
+        pub line-illegal : checked_of line (record_of F) ≡ None → refused rules_operand ≡ outcome F (read (rule_format 2 (beside_of F)) start s)
         line-illegal i = operand_refused (added ∙ ap tested (checked-illegal F Z (front.shape other) i))
 
         -- the level of a 29, tested behind that
-        level-is : levelled_with k b x ≡ levelled (beside_of F) open_rule.lines (command_of b x y)
+        level-is : levelled_with k line ≡ levelled (beside_of F) open_rule.lines (command_of line)
         level-is = levelled_means F Z t.reading.complete open_rule.lines k met listed grid seen again (shows-lines (some open_rule.lines) open_rule.current) (front.shape other)
 
-        level-tested : Is (legal (beside_of F) (command_of b x y)) → obey_rule (beside_of F) t.reading (command_of b x y) ≡ unless (levelled_with k b x) wrong_level (accepted (with-line open_rule.lines))
+        level-tested : Is (legal (beside_of F) (command_of line)) → obey_rule (beside_of F) t.reading (command_of line) ≡ unless (levelled_with k line) wrong_level (accepted (with-line open_rule.lines))
         level-tested l = added ∙ ap tested l ∙ ap (λ (u : Bool). unless u wrong_level (accepted (with-line open_rule.lines))) (sym level-is)
 
-        level-refused : obey_rule (beside_of F) t.reading (command_of b x y) ≡ refused wrong_level → nothing_read 18 ≡ both_of answer
-        unfolding outcome both_of
-        level-refused q = ap both_of (ap (λ (r : Answer Reading). outcome F (and_then r onward)) (sym q) ∙ turned)
+        level-refused : obey_rule (beside_of F) t.reading (command_of line) ≡ refused wrong_level → refused wrong_level ≡ answer
+        unfolding outcome
+        level-refused q = ap (λ (r : Answer Reading). outcome F (and_then r onward)) (sym q) ∙ turned
 
-        pub line-unlevelled : (c : RuleCommand) → checked_beside F b x y ≡ Legal c → levelled_with k b x ≡ false → nothing_read 18 ≡ both_of (outcome F (read (rule_format 2 (beside_of F)) start s))
+        pub line-unlevelled : (c : RuleCommand) → checked_of line (record_of F) ≡ Some c → levelled_with k line ≡ false → refused wrong_level ≡ outcome F (read (rule_format 2 (beside_of F)) start s)
         line-unlevelled c g v =
             level-refused (level-tested (checked-legal F Z (front.shape other) c g).0 ∙ ap (λ (u : Bool). unless u wrong_level (accepted (with-line open_rule.lines))) v)
 
@@ -468,14 +471,14 @@ module _ (F : Policy) (Z : Sized F) (s : List ℕ) (k : Tally) (met listed grid 
         only_one : {p q : Bool} → Is (not (p && q)) → p ≡ true → q ≡ false
         only_one {p} {q} i j = fails q (λ u. never i (ap not (ap₂ ◌&&◌ j u)))
 
-        no_second_lem : is_operations (command_of b x y) ≡ true → any is_operations open_rule.lines ≡ false
+        no_second_lem : is_operations (command_of line) ≡ true → any is_operations open_rule.lines ≡ false
         unfolding follows
         no_second_lem j =
-            only_one (and_l (no_second is_operations open_rule.lines (command_of b x y)) (no_second is_level open_rule.lines (command_of b x y))
-            (and_r (all (λ d. precedes d (command_of b x y)) open_rule.lines) _ open_rule.follow)) j
+            only_one (and_l (no_second is_operations open_rule.lines (command_of line)) (no_second is_level open_rule.lines (command_of line))
+            (and_r (all (λ d. precedes d (command_of line)) open_rule.lines) _ open_rule.follow)) j
 
-        module _ (c : RuleCommand) (g : checked_beside F b x y ≡ Legal c) where
-          legal-line : Is (legal (beside_of F) (command_of b x y)) × (rule_meaning c ≡ command_of b x y) × Sided c
+        module _ (c : RuleCommand) (g : checked_of line (record_of F) ≡ Some c) where
+          legal-line : Is (legal (beside_of F) (command_of line)) × (rule_meaning c ≡ command_of line) × Sided c
           legal-line = checked-legal F Z (front.shape other) c g
 
           pub line-sided : Sided c
@@ -485,27 +488,27 @@ module _ (F : Policy) (Z : Sized F) (s : List ℕ) (k : Tally) (met listed grid 
           pub line-legal : Is (legal (beside_of F) (rule_meaning c))
           line-legal = subst (λ (d : Line). Is (legal (beside_of F) d)) (sym legal-line.1) legal-line.0
 
-          line-shows : Shows F t.reading.complete (open_rule.lines ++ (command_of b x y ∷ [])) (noted_with k c b x y)
+          line-shows : Shows F t.reading.complete (open_rule.lines ++ (command_of line ∷ [])) (noted_with k c line)
               (met_after (F.table user).count (F.table resource).count F.roles (known_table F) (value_table F) (record_of F).holders met c)
               (listed_after F.operations (record_of F).holders (permission_table F) listed c) grid (seen_by seen c) (again_by seen again c)
           line-shows =
               subst
-              (λ (d : Line). Shows F t.reading.complete (open_rule.lines ++ (d ∷ [])) (noted_with k c b x y)
+              (λ (d : Line). Shows F t.reading.complete (open_rule.lines ++ (d ∷ [])) (noted_with k c line)
               (met_after (F.table user).count (F.table resource).count F.roles (known_table F) (value_table F) (record_of F).holders met c)
               (listed_after F.operations (record_of F).holders (permission_table F) listed c) grid (seen_by seen c) (again_by seen again c))
               legal-line.1
-              (shows-line F Z t.reading.complete open_rule.lines k met listed grid seen again (shows-lines (some open_rule.lines) open_rule.current) b x y c line-sided line-legal
-              (subst (λ (d : Line). InOrder b x y (open_rule.lines ++ (d ∷ []))) (sym legal-line.1) (order-more k.last k.x k.y b x y open_rule.lines (shows-lines (some open_rule.lines) open_rule.current).ordered (front.shape other) (of-rule other).low (of-rule other).high open_rule.after))
+              (shows-line F Z t.reading.complete open_rule.lines k met listed grid seen again (shows-lines (some open_rule.lines) open_rule.current) line c line-sided line-legal
+              (subst (λ (d : Line). InOrder line (open_rule.lines ++ (d ∷ []))) (sym legal-line.1) (order-more k.last line open_rule.lines (shows-lines (some open_rule.lines) open_rule.current).ordered (front.shape other) (of-rule other).low (of-rule other).high open_rule.after))
               (λ j. no_second_lem (ap is_operations (sym legal-line.1) ∙ j)))
 
-          pub line-added : levelled_with k b x ≡ true → State F s (noted_with k c b x y) (met_after (F.table user).count (F.table resource).count F.roles (known_table F) (value_table F) (record_of F).holders met c)
+          pub line-added : levelled_with k line ≡ true → State F s (noted_with k c line) (met_after (F.table user).count (F.table resource).count F.roles (known_table F) (value_table F) (record_of F).holders met c)
               (listed_after F.operations (record_of F).holders (permission_table F) listed c) grid (seen_by seen c) (again_by seen again c) (at + w)
           line-added v =
-              stepped (record { complete = t.reading.complete; current = some (open_rule.lines ++ (command_of b x y ∷ [])) }) (noted_with k c b x y)
+              stepped (record { complete = t.reading.complete; current = some (open_rule.lines ++ (command_of line ∷ [])) }) (noted_with k c line)
               (met_after (F.table user).count (F.table resource).count F.roles (known_table F) (value_table F) (record_of F).holders met c) (listed_after F.operations (record_of F).holders (permission_table F) listed c) grid (seen_by seen c) (again_by seen again c)
               (of-rule other).goes_on
               (level-tested legal-line.0 ∙ ap (λ (u : Bool). unless u wrong_level (accepted (with-line open_rule.lines))) v)
-              (let l = t.few in let r = (noted-kept k c b x y).0 in omega arith)
-              (let r = (noted-kept k c b x y).2 in let q = (of-rule other).low in omega arith)
-              ((noted-kept k c b x y).1 ∙ inside_is (some open_rule.lines) open_rule.current)
+              (let l = t.few in let r = (noted-kept k c line).0 in omega arith)
+              (let r = (noted-kept k c line).2 in let q = (of-rule other).low in omega arith)
+              ((noted-kept k c line).1 ∙ inside_is (some open_rule.lines) open_rule.current)
               line-shows

@@ -2,15 +2,17 @@
 #![tactic(auto)]
 
 ghost use Rattle.std.specs.Prelude.{eqb, length, ◌||◌, ◌≡◌, ◌<◌, ◌≤◌};
-ghost use Rattle.files.specs.Calls.{shown_place, shown_part, shown_byte};
+ghost use Rattle.files.specs.Answer.{code_of, map_answer};
+ghost use Rattle.files.specs.Calls.{show_answer, shown_part, shown_byte};
+ghost use Rattle.files.specs.Cause.{answer_of};
 ghost use Rattle.files.specs.RulePart.{size_of, rule_start};
+ghost use Rattle.rule_show.specs.Located.{place_of, Within, place_or_start};
 
-use files::{refusal, rule_byte};
+use files::{Refusal, rule_byte};
 
-// Where the part that is handed back begins and ends, and the answer's number.
+// Where the part that is handed back begins and ends.
 #[derive(Clone, Copy)]
 pub struct Place {
-    pub code: usize,
     pub from: usize,
     pub to: usize,
 }
@@ -36,10 +38,7 @@ fn size_of(b: usize) -> usize
 fn is_mark(b: usize) -> bool
     ensures { result ≡ (eqb b 0x21 || eqb b 0x2F) }
 {
-    if b == rule_byte::OPENS {
-        return true;
-    }
-    b == rule_byte::ENDS
+    b == rule_byte::OPENS || b == rule_byte::ENDS
 }
 
 // Where rule n begins: from command to command, since a 21 among operands is none. What stands behind the last rule is the end of the file.
@@ -62,48 +61,35 @@ fn rule_start(rules: &[u8], n: usize) -> usize
     rules.len()
 }
 
-// The empty part at the file's start.
-fn nowhere(code: usize) -> Place
-    ensures { (result.code ≡ code) × (result.from ≡ 0) × (result.to ≡ 0) }
-{
-    Place {
-        code: code,
-        from: 0,
-        to: 0,
-    }
-}
-
 // Any number may be handed in: one that no rule has is refused, after the refusals of both files.
-pub fn locate(file: &[u8], rules: &[u8], n: usize) -> Place
-    ensures { (result.code ≡ shown_byte 2 file.now rules.now n)
-        × (result.from ≡ (shown_place 2 file.now rules.now n).0)
-        × (result.to ≡ (shown_place 2 file.now rules.now n).1)
-        × (result.code < 256)
-        × (result.from ≤ result.to)
-        × (result.to ≤ length rules.now) }
+pub fn locate(file: &[u8], rules: &[u8], n: usize) -> Result<Place, Refusal>
+    ensures { (answer_of result ≡ map_answer place_of (show_answer 2 file.now rules.now n))
+        × Within rules.now result }
 {
-    let b = rule_file::read(file, rules);
-    if b.code != 0 {
-        return nowhere(b.code);
-    }
+    let b = rule_file::read(file, rules)?;
     if b.rules <= n {
-        return nowhere(refusal::NO_SUCH_RULE);
+        return Err(Refusal::NoSuchRule);
     }
     let from = rule_start(rules, n);
     let to = rule_start(rules, n + 1);
-    Place {
-        code: 0,
-        from: from,
-        to: to,
-    }
+    Ok(Place { from, to })
 }
 
-// Puts the answer's number into the lent byte, a refusal's too.
-pub fn tell(code: usize, answer: &mut u8)
-    requires { code < 256 }
-    ensures { answer.new ≡ code }
+// Puts the answer's number into the lent byte, a refusal's too; and the part that is handed back, which is the empty one at the file's start
+// after a refusal.
+pub fn tell(located: Result<Place, Refusal>, answer: &mut u8) -> Place
+    ensures { (answer.new ≡ code_of (answer_of located)) × (result ≡ place_or_start located) }
 {
-    *answer = code as u8;
+    match located {
+        Ok(place) => {
+            *answer = 0;
+            place
+        }
+        Err(refusal) => {
+            *answer = refusal.number() as u8;
+            Place { from: 0, to: 0 }
+        }
+    }
 }
 
 // Hands back the part itself: its lifetime is that of the rule file, and nothing is copied.
@@ -111,9 +97,6 @@ pub fn show<'a>(file: &[u8], rules: &'a [u8], n: usize, answer: &mut u8) -> &'a 
     ensures { (result.now ≡ shown_part 2 file.now rules.now n)
         × (answer.new ≡ shown_byte 2 file.now rules.now n) }
 {
-    let p = locate(file, rules, n);
-    tell(p.code, answer);
-    let from = p.from;
-    let to = p.to;
-    &rules[from..to]
+    let place = tell(locate(file, rules, n), answer);
+    &rules[place.from..place.to]
 }

@@ -1,6 +1,6 @@
 -- What each step of the reader makes of the numbers and tables: they stand for the reading after it.
 -- Assumes nothing.
-use Rattle.std.specs.Prelude.{ℕ, ◌+◌, ◌*◌, ◌≤◌, ◌<◌, length, get_or, replicate, Bool, ◌||◌, ◌≡◌}
+use Rattle.std.specs.Prelude.{ℕ, ◌+◌, ◌*◌, ◌≤◌, ◌<◌, length, get_or, replicate, Bool, ◌||◌, ◌≡◌, Some}
 use borrow.Author.Tests.{eqb-true, eqb-false, ne_eqb, ltb-true, lt-ltb, le-ltb}
 use Rattle.std.proofs.Math.Dec.{eqb, ltb}
 use Rattle.std.proofs.Math.ListN.{set}
@@ -14,7 +14,7 @@ use Rattle.std.proofs.Math.Option.{Option, none, some}
 use Rattle.std.proofs.Math.Path.{refl, sym, ap, ap₂, subst}
 use native.Mathlib.Omega.{arith}
 use Rattle.role_record.specs.Places.{place_side, place_attribute, place_of}
-use Rattle.role_record.specs.Record.{Sized, number_or, table_of, marked, known_table, value_table, permission_table, record_of}
+use Rattle.role_record.specs.Record.{Sized, table_of, marked, known_table, value_table, permission_table, record_of}
 use Rattle.rule_conjuncts.specs.SummaryLineLaws.{met-kept, asked-kept, NoValue, met-line, asked-line, atoms-line, atoms-kept, operations-line, operations-kept, met-none, asked-none, atoms-none}
 use Rattle.rule_conjuncts.specs.Summary.{values_for, met_table, asked_places, atom_places, is_atom}
 use Rattle.files.specs.Beside.{beside_of}
@@ -47,15 +47,16 @@ use Rattle.rule_levels.proofs.LevelLaws.{lines-level}
 use Rattle.rule_levels.specs.Levels.{level_for, lists_own, lines_level}
 use Rattle.rule_notes.specs.Tally.{begun_with, counted_with, open_rows, closed_with, may_close, is_second, follows_with, levelled_with}
 use Rattle.rule_notes.specs.LineSteps.{place_by, pair_number, atom_number, tally_with, noted_with, met_more, met_after, PartWithin, listed_after, seen_by, again_by}
-use Rattle.rule_steps.specs.Shows.{granted_within, Stored, Shows}
+use Rattle.rule_steps.specs.Shows.{option_of, granted_within, Stored, Shows}
 use Rattle.grant_grids.specs.Links.{links_of}
 use Rattle.rule_steps.specs.StrayLaws.{or_else, strays, stray_more, grants-more}
 use Rattle.sets.specs.ListLaws.{any_last}
 use Rattle.sets.specs.SetLaws.{bit_mask}
 use Rattle.sets.specs.Sets.{bit, mask_of}
-use Rattle.sets.specs.Tests.{Is, iff, ◌is_in◌, any, is_some}
+use Rattle.sets.specs.Tests.{Is, iff, ◌is_in◌, any}
 use Rattle.sets.specs.TestLaws.{and_in, and_l, and_r, test, iff-out, any_out, only_out}
 use Rattle.rule_commands.specs.declared.Atom.{Atom}
+use Rattle.rule_commands.specs.declared.Raw.{Raw}
 use Rattle.rule_commands.specs.declared.RuleCommand.{RuleCommand}
 use Rattle.rule_notes.specs.declared.Tally.{Tally}
 use Rattle.rule_notes.specs.LineSteps.{met_with}
@@ -78,7 +79,6 @@ module _ (F : Policy) where
     all-legal = λ ls m. absurd (Memᴰ.not-nil m);
     grid_shown = e ∙ grid_same F.operations (λ u r o. false) (granted_within F []) (λ u r o hu hr ho. none-granted u r o);
     rules-counted = refl;
-    strays-shown = refl;
     stray_shown = refl;
     seen-shown = sym no-rules.0;
     again-shown = sym no-rules.1;
@@ -86,9 +86,9 @@ module _ (F : Policy) where
 
   -- behind a 21, or before the first: a rule without lines
   pub shows-opened : (rules : List Lines) (k n : Tally) (met listed grid seen again : List ℕ) → Stored F rules k grid seen again → met ≡ table_of 14 (λ i. 0) → listed ≡ grid_of F.operations (λ u r o. false)
-      → n.asked ≡ 0 → n.atoms ≡ 0 → n.operations ≡ 0 → n.listing ≡ false → n.telling ≡ false → n.last ≡ 0x21 → n.rules ≡ k.rules → n.strays ≡ k.strays → n.stray ≡ k.stray
+      → n.asked ≡ 0 → n.atoms ≡ 0 → n.operations ≡ 0 → n.listing ≡ false → n.telling ≡ false → n.last.byte ≡ 0x21 → n.rules ≡ k.rules → n.stray ≡ k.stray
       → Shows F rules [] n met listed grid seen again
-  shows-opened rules k n met listed grid seen again s hm hl a b c d v e f g h = record {
+  shows-opened rules k n met listed grid seen again s hm hl a b c d v e f h = record {
     all-legal = s.all-legal;
     legal_open = λ c m. absurd (Memᴰ.not-nil m);
     met-shown = hm ∙ sym (met-none (setting_of F));
@@ -97,11 +97,10 @@ module _ (F : Policy) where
     operations-shown = c;
     listing-shown = d;
     telling-shown = v;
-    ordered = subst (λ (t : ℕ). InOrder t n.x n.y []) (sym e) (order-none n.x n.y);
+    ordered = order-none n.last e;
     listed-shown = hl ∙ none-listed (setting_of F) (roles_in F) F.operations;
     grid_shown = s.grid_shown;
     rules-counted = f ∙ s.rules-counted;
-    strays-shown = g ∙ s.strays-shown;
     stray_shown = h ∙ s.stray_shown;
     seen-shown = s.seen-shown ∙ (empty-rule rules).0;
     again-shown = s.again-shown ∙ (empty-rule rules).1;
@@ -110,13 +109,13 @@ module _ (F : Policy) where
 -- ---- closing the open rule
 
 -- the first stray rule, counted on
-counted-on : (k : Tally) (same : Bool) (x : Option ℕ) (n : ℕ) → k.strays ≡ is_some x → k.stray ≡ number_or x → k.rules ≡ n
-    → ((counted_with k same).rules ≡ n + 1) × ((counted_with k same).strays ≡ is_some (or_else x (cond (not same) (some n) none))) × ((counted_with k same).stray ≡ number_or (or_else x (cond (not same) (some n) none)))
+counted-on : (k : Tally) (same : Bool) (x : Option ℕ) (n : ℕ) → k.stray ≡ option_of x → k.rules ≡ n
+    → ((counted_with k same).rules ≡ n + 1) × ((counted_with k same).stray ≡ option_of (or_else x (cond (not same) (some n) none)))
 unfolding counted_with
-counted-on k true none n a b c = (ap (λ (t : ℕ). t + 1) c, a, b)
-counted-on k true (some x) n a b c = (ap (λ (t : ℕ). t + 1) c, a, b)
-counted-on k false none n a b c = rw a (ap (λ (t : ℕ). t + 1) c, refl, c)
-counted-on k false (some x) n a b c = rw a (ap (λ (t : ℕ). t + 1) c, refl, b)
+counted-on k true none n a c = (ap (λ (t : ℕ). t + 1) c, a)
+counted-on k true (some x) n a c = (ap (λ (t : ℕ). t + 1) c, a)
+counted-on k false none n a c = rw a (ap (λ (t : ℕ). t + 1) c, ap Some c)
+counted-on k false (some x) n a c = rw a (ap (λ (t : ℕ). t + 1) c, refl)
 
 module _ (F : Policy) (Z : Sized F) where
   -- what the open rule grants within the sizes
@@ -160,9 +159,8 @@ module _ (F : Policy) (Z : Sized F) where
     one_more_lem = stray_more (setting_of F) (roles_in F) rules ls ∙ ap (λ (b : Bool). or_else (first_stray_rule (setting_of F) (roles_in F) rules) (cond (not b) (some (length rules)) none)) (sym compared)
 
     counted : ((counted_with k closed_same).rules ≡ length rules + 1)
-        × ((counted_with k closed_same).strays ≡ is_some (or_else (first_stray_rule (setting_of F) (roles_in F) rules) (cond (not closed_same) (some (length rules)) none)))
-        × ((counted_with k closed_same).stray ≡ number_or (or_else (first_stray_rule (setting_of F) (roles_in F) rules) (cond (not closed_same) (some (length rules)) none)))
-    counted = counted-on k closed_same (first_stray_rule (setting_of F) (roles_in F) rules) (length rules) s.strays-shown s.stray_shown s.rules-counted
+        × ((counted_with k closed_same).stray ≡ option_of (or_else (first_stray_rule (setting_of F) (roles_in F) rules) (cond (not closed_same) (some (length rules)) none)))
+    counted = counted-on k closed_same (first_stray_rule (setting_of F) (roles_in F) rules) (length rules) s.stray_shown s.rules-counted
 
     -- THE LAW of closing
     pub stored-closed : Stored F (rules ++ (ls ∷ [])) (closed_with k met listed (links_of F) (F.table user).count (F.table resource).count F.operations) (added_rows F.operations own_rows k.operations grid) seen again
@@ -171,8 +169,7 @@ module _ (F : Policy) (Z : Sized F) where
       all-legal = λ t m. ⊎_elim (λ i. s.all-legal t i) (λ i. subst (Legal (beside_of F)) (sym (one_of ls i)) s.legal_open) (Memᴰ.append_cases rules m);
       grid_shown = joined-shown;
       rules-counted = counted.0 ∙ sym (length-append rules (ls ∷ []));
-      strays-shown = counted.1 ∙ ap is_some (sym one_more_lem);
-      stray_shown = counted.2 ∙ ap number_or (sym one_more_lem);
+      stray_shown = counted.1 ∙ ap option_of (sym one_more_lem);
       seen-shown = s.seen-shown;
       again-shown = s.again-shown;
     }
@@ -183,7 +180,6 @@ module _ (F : Policy) (Z : Sized F) where
       all-legal = s.all-legal;
       grid_shown = s.grid_shown;
       rules-counted = s.rules-counted;
-      strays-shown = s.strays-shown;
       stray_shown = s.stray_shown;
       seen-shown = s.seen-shown ∙ ap (λ (t : Lines). seen_table (rules ++ (t ∷ []))) e ∙ sym (empty-rule rules).0;
       again-shown = s.again-shown ∙ ap (λ (t : Lines). again_table (rules ++ (t ∷ []))) e ∙ sym (empty-rule rules).1;
@@ -298,7 +294,7 @@ module _ (F : Policy) (Z : Sized F) where
     unfolding may_close whole
     may_close_means e = rw e (ap₂ ◌&&◌ (sym has-operations) (ap₂ ◌&&◌ s.listing-shown s.telling-shown))
 
-    is-operations : {b x y : ℕ} → Shape b x y → is_operations (command_of b x y) ≡ eqb b 0x26
+    is-operations : {a : Raw} → Shape a → is_operations (command_of a) ≡ eqb a.byte 0x26
     unfolding command_of
     is-operations shape-opens = refl
     is-operations (shape_user_single a v) = refl
@@ -311,7 +307,7 @@ module _ (F : Policy) (Z : Sized F) where
     is-operations (shape-level l) = refl
     is-operations shape-ends = refl
 
-    is-level : {b x y : ℕ} → Shape b x y → is_level (command_of b x y) ≡ eqb b 0x29
+    is-level : {a : Raw} → Shape a → is_level (command_of a) ≡ eqb a.byte 0x29
     unfolding command_of
     is-level shape-opens = refl
     is-level (shape_user_single a v) = refl
@@ -333,11 +329,11 @@ module _ (F : Policy) (Z : Sized F) where
     neither false false true = refl
     neither false false false = refl
 
-    pub follows_means : (b x y : ℕ) → k.inside ≡ true → Shape b x y → 0x22 ≤ b → b ≤ 0x29 → follows_with k b x y ≡ follows ls (command_of b x y)
+    pub follows_means : (a : Raw) → k.inside ≡ true → Shape a → 0x22 ≤ a.byte → a.byte ≤ 0x29 → follows_with k a ≡ follows ls (command_of a)
     unfolding follows_with is_second follows
-    follows_means b x y e t l m =
-        rw e (neither (eqb b 0x26 && not (eqb k.operations 0)) (eqb b 0x29 && k.telling) (raw_before k.last k.x k.y b x y)
-        ∙ ap₂ (λ (p q : Bool). p && q) (sym (s.ordered b x y t l m))
+    follows_means a e t l m =
+        rw e (neither (eqb a.byte 0x26 && not (eqb k.operations 0)) (eqb a.byte 0x29 && k.telling) (raw_before k.last a)
+        ∙ ap₂ (λ (p q : Bool). p && q) (sym (s.ordered a t l m))
         (ap₂ (λ (p q : Bool). not p && not q) (sym (ap₂ ◌&&◌ (is-operations t) has-operations)) (ap₂ ◌&&◌ (sym (is-level t)) s.telling-shown)))
 
     -- ---- the level that it tells
@@ -359,7 +355,7 @@ module _ (F : Policy) (Z : Sized F) where
         ap₂ level_for (own-asked 6 user (omega arith) refl refl) (own-asked 13 resource (omega arith) refl refl)
         ∙ lines-level (beside_of F) numbered ls s.legal_open
 
-    pub levelled_means : {b x y : ℕ} → Shape b x y → levelled_with k b x ≡ levelled (beside_of F) ls (command_of b x y)
+    pub levelled_means : {a : Raw} → Shape a → levelled_with k a ≡ levelled (beside_of F) ls (command_of a)
     unfolding levelled_with levelled command_of
     levelled_means shape-opens = refl
     levelled_means (shape_user_single a v) = refl
@@ -374,13 +370,13 @@ module _ (F : Policy) (Z : Sized F) where
 
     -- ---- the line itself
 
-    module _ (b x y : ℕ) where
-      assembled : (c : Line) → Is (legal (beside_of F) c) → InOrder b x y (ls ++ (c ∷ []))
+    module _ (line : Raw) where
+      assembled : (c : Line) → Is (legal (beside_of F) c) → InOrder line (ls ++ (c ∷ []))
           → (asks joins acts : ℕ) (lists tells : Bool) (met₁ listed₁ seen₁ again₁ : List ℕ)
           → met₁ ≡ met_table (setting_of F) (ls ++ (c ∷ [])) → asks ≡ asked_places (setting_of F) (ls ++ (c ∷ [])) → joins ≡ atom_places (ls ++ (c ∷ [])) → acts ≡ operations_in (ls ++ (c ∷ []))
           → lists ≡ any is_part_line (ls ++ (c ∷ [])) → tells ≡ any is_level (ls ++ (c ∷ [])) → listed₁ ≡ grid_of F.operations (parts_grant (setting_of F) (roles_in F) (ls ++ (c ∷ [])))
           → seen₁ ≡ seen_table (rules ++ ((ls ++ (c ∷ [])) ∷ [])) → again₁ ≡ again_table (rules ++ ((ls ++ (c ∷ [])) ∷ []))
-          → Shows F rules (ls ++ (c ∷ [])) (tally_with k asks joins acts lists tells b x y) met₁ listed₁ grid seen₁ again₁
+          → Shows F rules (ls ++ (c ∷ [])) (tally_with k asks joins acts lists tells line) met₁ listed₁ grid seen₁ again₁
       assembled c h o asks joins acts lists tells met₁ listed₁ seen₁ again₁ e1 e2 e3 e4 e5 e e6 e7 e8 = record {
         all-legal = s.all-legal;
         legal_open = λ d m. ⊎_elim (λ i. s.legal_open d i) (λ i. subst (λ (t : Line). Is (legal (beside_of F) t)) (sym (one_of c i)) h) (Memᴰ.append_cases ls m);
@@ -394,7 +390,6 @@ module _ (F : Policy) (Z : Sized F) where
         listed-shown = e6;
         grid_shown = s.grid_shown;
         rules-counted = s.rules-counted;
-        strays-shown = s.strays-shown;
         stray_shown = s.stray_shown;
         seen-shown = e7;
         again-shown = e8;
@@ -429,8 +424,8 @@ module _ (F : Policy) (Z : Sized F) where
       again-same c h = s.again-shown ∙ (other-line rules ls c h).1
 
       -- a line of an attribute's value
-      value_line_lem : (side : ℕ) (kind : Bool) (a v : ℕ) → side < 2 → Is (legal (beside_of F) (value (side_by side) kind a v)) → InOrder b x y (ls ++ (value (side_by side) kind a v ∷ []))
-          → Shows F rules (ls ++ (value (side_by side) kind a v ∷ [])) (tally_with k (marked k.asked (place_by side a)) k.atoms k.operations k.listing k.telling b x y)
+      value_line_lem : (side : ℕ) (kind : Bool) (a v : ℕ) → side < 2 → Is (legal (beside_of F) (value (side_by side) kind a v)) → InOrder line (ls ++ (value (side_by side) kind a v ∷ []))
+          → Shows F rules (ls ++ (value (side_by side) kind a v ∷ [])) (tally_with k (marked k.asked (place_by side a)) k.atoms k.operations k.listing k.telling line)
           (met_more met (place_by side a) (meeting_of side kind a v (F.table (side_by side)).count F.roles (known_table F) (value_table F) (record_of F).holders)) listed grid seen again
       value_line_lem side kind a v hs h o =
           let c = value (side_by side) kind a v in
@@ -440,8 +435,8 @@ module _ (F : Policy) (Z : Sized F) where
           (atoms-same c (λ i. refl)) (operations-same c (λ n. refl)) (listing-same c refl) (telling-same c refl) (listed_same c refl) (seen_same c refl) (again-same c refl)
 
       -- a line of an atom
-      link-line : (a j : ℕ) → Is (legal (beside_of F) (link a j)) → InOrder b x y (ls ++ (link a j ∷ []))
-          → Shows F rules (ls ++ (link a j ∷ [])) (tally_with k k.asked (marked k.atoms (pair_number a j)) k.operations k.listing k.telling b x y) met listed grid seen again
+      link-line : (a j : ℕ) → Is (legal (beside_of F) (link a j)) → InOrder line (ls ++ (link a j ∷ []))
+          → Shows F rules (ls ++ (link a j ∷ [])) (tally_with k k.asked (marked k.atoms (pair_number a j)) k.operations k.listing k.telling line) met listed grid seen again
       link-line a j h o =
           let c = link a j in
           assembled c h o _ _ _ _ _ _ _ _ _ (met-same c (λ w t i. refl)) (asked-same c (λ w t i. refl))
@@ -449,13 +444,13 @@ module _ (F : Policy) (Z : Sized F) where
           (operations-same c (λ n. refl)) (listing-same c refl) (telling-same c refl) (listed_same c refl) (seen_same c refl) (again-same c refl)
 
       -- a line that changes nothing
-      idle_line : (c : Line) → Is (legal (beside_of F) c) → InOrder b x y (ls ++ (c ∷ [])) → NoValue c → ((i : ℕ) → is_atom i c ≡ false) → ((n : ℕ) → operations_or c n ≡ n) → is_part_line c ≡ false → is_level c ≡ false
-          → Shows F rules (ls ++ (c ∷ [])) (tally_with k k.asked k.atoms k.operations k.listing k.telling b x y) met listed grid seen again
+      idle_line : (c : Line) → Is (legal (beside_of F) c) → InOrder line (ls ++ (c ∷ [])) → NoValue c → ((i : ℕ) → is_atom i c ≡ false) → ((n : ℕ) → operations_or c n ≡ n) → is_part_line c ≡ false → is_level c ≡ false
+          → Shows F rules (ls ++ (c ∷ [])) (tally_with k k.asked k.atoms k.operations k.listing k.telling line) met listed grid seen again
       idle_line c h o p q r t v =
           assembled c h o _ _ _ _ _ _ _ _ _ (met-same c p) (asked-same c p) (atoms-same c q) (operations-same c r) (listing-same c t) (telling-same c v) (listed_same c t) (seen_same c t) (again-same c t)
 
-      linked : (t : Atom) → Is (legal (beside_of F) (link_meaning t)) → InOrder b x y (ls ++ (link_meaning t ∷ []))
-          → Shows F rules (ls ++ (link_meaning t ∷ [])) (tally_with k k.asked (marked k.atoms (atom_number t)) k.operations k.listing k.telling b x y) met listed grid seen again
+      linked : (t : Atom) → Is (legal (beside_of F) (link_meaning t)) → InOrder line (ls ++ (link_meaning t ∷ []))
+          → Shows F rules (ls ++ (link_meaning t ∷ [])) (tally_with k k.asked (marked k.atoms (atom_number t)) k.operations k.listing k.telling line) met listed grid seen again
       unfolding atom_number
       linked (SetContainsSet a j) h o = link-line a j h o
       linked (SetContainsSingle a j) h o = link-line a j h o
@@ -465,15 +460,15 @@ module _ (F : Policy) (Z : Sized F) where
       count-shown side = test (eqb side 0) (λ e. rw e refl) (λ e. rw e refl)
 
       -- THE LAW of a line
-      pub shows-line : (c : RuleCommand) → Sided c → Is (legal (beside_of F) (rule_meaning c)) → InOrder b x y (ls ++ (rule_meaning c ∷ [])) → (is_operations (rule_meaning c) ≡ true → any is_operations ls ≡ false)
-          → Shows F rules (ls ++ (rule_meaning c ∷ [])) (noted_with k c b x y)
+      pub shows-line : (c : RuleCommand) → Sided c → Is (legal (beside_of F) (rule_meaning c)) → InOrder line (ls ++ (rule_meaning c ∷ [])) → (is_operations (rule_meaning c) ≡ true → any is_operations ls ≡ false)
+          → Shows F rules (ls ++ (rule_meaning c ∷ [])) (noted_with k c line)
           (met_after (F.table user).count (F.table resource).count F.roles (known_table F) (value_table F) (record_of F).holders met c)
           (listed_after F.operations (record_of F).holders (permission_table F) listed c) grid (seen_by seen c) (again_by seen again c)
       unfolding noted_with met_after met_with listed_after seen_by again_by Sided
       shows-line Opens q h o n = idle_line opens h o (λ w t i. refl) (λ i. refl) (λ m. refl) refl refl
       shows-line (Value v) q h o n =
           subst
-          (λ (m : ℕ). Shows F rules (ls ++ (rule_meaning (Value v) ∷ [])) (noted_with k (Value v) b x y)
+          (λ (m : ℕ). Shows F rules (ls ++ (rule_meaning (Value v) ∷ [])) (noted_with k (Value v) line)
           (met_more met (place_by v.side v.attribute) (meeting_of v.side v.set v.attribute v.value m F.roles (known_table F) (value_table F) (record_of F).holders)) listed grid seen again)
           (sym (count-shown v.side)) (value_line_lem v.side v.set v.attribute v.value q h o)
       shows-line (Operations m) q h o n =

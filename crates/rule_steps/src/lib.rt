@@ -7,11 +7,11 @@ ghost use Rattle.grant_blocks.specs.Rows.{added_rows};
 ghost use Rattle.role_record.specs.Cells.{most_operations, grid_cells};
 ghost use Rattle.rule_notes.specs.Tally.{begun_with, opened_with, counted_with, open_rows, closed_with, finished_with, finished_grid, may_close, is_second, follows_with, levelled_with};
 ghost use Rattle.rule_notes.specs.LineSteps.{PartWithin, listed_after, seen_by, again_by};
-ghost use Rattle.role_record.specs.Record.{WithinLimits};
+ghost use Rattle.role_record.specs.Record.{WithinLimits, sizes_of};
 
 use files::rule_byte;
-use role_record::{ByPlace, ByRole, ByRoleOperation, BySide, Links, RoleFile, Sizes};
-use rule_commands::RuleCommand;
+use role_record::{ByPlace, ByRole, Links, RoleFile};
+use rule_commands::{Raw, RuleCommand};
 use rule_notes::Tally;
 
 // The places of the 255s: the users', behind their six attributes, and the resources', behind theirs.
@@ -30,12 +30,13 @@ pub fn begun() -> Tally
         operations: 0,
         listing: false,
         telling: false,
-        last: rule_byte::OPENS,
-        x: 0,
-        y: 0,
+        last: Raw {
+            byte: rule_byte::OPENS,
+            first: 0,
+            second: 0,
+        },
         rules: 0,
-        strays: false,
-        stray: 0,
+        stray: None,
     }
 }
 
@@ -45,17 +46,9 @@ pub fn opened(k: Tally) -> Tally
 {
     Tally {
         inside: true,
-        asked: 0,
-        atoms: 0,
-        operations: 0,
-        listing: false,
-        telling: false,
-        last: rule_byte::OPENS,
-        x: 0,
-        y: 0,
         rules: k.rules,
-        strays: k.strays,
         stray: k.stray,
+        ..begun()
     }
 }
 
@@ -66,14 +59,9 @@ fn counted(k: Tally, same: bool) -> Tally
 {
     let mut n = k;
     n.rules = k.rules + 1;
-    if same {
-        return n;
+    if !same && k.stray.is_none() {
+        n.stray = Some(k.rules);
     }
-    if k.strays {
-        return n;
-    }
-    n.strays = true;
-    n.stray = k.rules;
     n
 }
 
@@ -83,21 +71,20 @@ fn close<'a>(
     k: Tally,
     met: &'a ByPlace,
     listed: &'a [u64],
-    kinds: &'a BySide,
+    f: &'a RoleFile,
     links: &'a Links,
-    sizes: Sizes,
     grid: &mut [u64],
 ) -> Tally
-    requires { WithinLimits sizes
+    requires { WithinLimits (sizes_of f.now)
         × (k.rules + 1 < 2 ^ 64)
-        × (length listed.now ≡ grid_cells sizes.operations)
-        × (length grid.old ≡ grid_cells sizes.operations) }
+        × (length listed.now ≡ grid_cells f.now.operations)
+        × (length grid.old ≡ grid_cells f.now.operations) }
     ensures { (result
-        ≡ closed_with k met.now listed.now links.now sizes.users
-        sizes.resources sizes.operations)
+        ≡ closed_with k met.now listed.now links.now f.now.users
+        f.now.resources f.now.operations)
         × (grid.new
-        ≡ added_rows sizes.operations
-        (open_rows k met.now links.now sizes.users sizes.resources) k.operations
+        ≡ added_rows f.now.operations
+        (open_rows k met.now links.now f.now.users f.now.resources) k.operations
         grid.old) }
 {
     let mut rows = [0u64; RoleFile::MEMBERS];
@@ -105,14 +92,14 @@ fn close<'a>(
         met,
         k.asked,
         k.atoms,
-        kinds,
+        &f.kinds,
         links,
-        sizes.users,
-        sizes.resources,
+        f.users,
+        f.resources,
         &mut rows,
     );
-    grant_blocks::add_rows(&rows, k.operations, sizes.operations, grid);
-    let same = grant_differences::same_rows(&rows, k.operations, sizes.operations, listed);
+    grant_blocks::add_rows(&rows, k.operations, f.operations, grid);
+    let same = grant_differences::same_rows(&rows, k.operations, f.operations, listed);
     counted(k, same)
 }
 
@@ -137,92 +124,86 @@ pub fn finish<'a>(
     k: Tally,
     met: &'a ByPlace,
     listed: &'a [u64],
-    kinds: &'a BySide,
+    f: &'a RoleFile,
     links: &'a Links,
-    sizes: Sizes,
     grid: &mut [u64],
 ) -> Tally
-    requires { WithinLimits sizes
+    requires { WithinLimits (sizes_of f.now)
         × (k.rules + 1 < 2 ^ 64)
-        × (length listed.now ≡ grid_cells sizes.operations)
-        × (length grid.old ≡ grid_cells sizes.operations) }
+        × (length listed.now ≡ grid_cells f.now.operations)
+        × (length grid.old ≡ grid_cells f.now.operations) }
     ensures { (result
-        ≡ finished_with k met.now listed.now links.now sizes.users
-        sizes.resources sizes.operations)
+        ≡ finished_with k met.now listed.now links.now f.now.users
+        f.now.resources f.now.operations)
         × (grid.new
-        ≡ finished_grid k met.now links.now sizes.users sizes.resources
-        sizes.operations grid.old) }
+        ≡ finished_grid k met.now links.now f.now.users f.now.resources
+        f.now.operations grid.old) }
 {
     if k.inside {
-        return close(k, met, listed, kinds, links, sizes, grid);
+        return close(k, met, listed, f, links, grid);
     }
     k
 }
 
-// Whether a command is a 26 or a 29 in a rule that has one. A legal 26 is not zero.
-fn is_second(k: Tally, b: usize) -> bool
-    ensures { result ≡ is_second k b }
+// Whether a line is a 26 or a 29 in a rule that has one. A legal 26 is not zero.
+fn is_second(k: Tally, byte: usize) -> bool
+    ensures { result ≡ is_second k byte }
 {
-    if b == rule_byte::OPERATIONS {
+    if byte == rule_byte::OPERATIONS {
         return k.operations != 0;
     }
-    if b == rule_byte::LEVEL {
+    if byte == rule_byte::LEVEL {
         return k.telling;
     }
     false
 }
 
-// Whether a command other than 21 and 2F may stand here: a rule is open, the command comes after the last one, and it is no second 26
-// or 29.
-pub fn follows(k: Tally, b: usize, x: u64, y: u64) -> bool
-    ensures { result ≡ follows_with k b x y }
+// Whether a line other than 21 and 2F may stand here: a rule is open, the line comes after the last one, and it is no second 26 or 29.
+pub fn follows(k: Tally, line: Raw) -> bool
+    ensures { result ≡ follows_with k line }
 {
     if k.inside {
-        if is_second(k, b) {
+        if is_second(k, line.byte) {
             return false;
         }
-        return rule_commands::before(k.last, k.x, k.y, b, x, y);
+        return rule_commands::before(k.last, line);
     }
     false
 }
 
-// Whether a command with the first operand x, if it is a 29, tells the level of the open rule: the conjuncts all stand before it.
-pub fn levelled(k: Tally, b: usize, x: u64) -> bool
-    ensures { result ≡ levelled_with k b x }
+// Whether a line, if it is a 29, tells the level of the open rule: the conjuncts all stand before it.
+pub fn levelled(k: Tally, line: Raw) -> bool
+    ensures { result ≡ levelled_with k line }
 {
-    if b != rule_byte::LEVEL {
+    if line.byte != rule_byte::LEVEL {
         return true;
     }
     let roles = sets::has(k.asked, OWN_ROLES);
     let numbers = sets::has(k.asked, OWN_NUMBER);
-    x == rule_levels::level(roles, numbers)
+    line.first == rule_levels::level(roles, numbers)
 }
 
 // The grid of the parts that the open rule lists, after a legal command of it.
-pub fn join_part<'a>(
-    c: RuleCommand,
-    holders: &'a ByRole,
-    permissions: &'a ByRoleOperation,
-    operations: usize,
-    listed: &mut [u64],
-)
-    requires { PartWithin c × (operations ≤ most_operations) × (length listed.old ≡ grid_cells operations) }
+pub fn join_part(c: RuleCommand, f: &RoleFile, listed: &mut [u64])
+    requires { PartWithin c
+        × (f.now.operations ≤ most_operations)
+        × (length listed.old ≡ grid_cells f.now.operations) }
     ensures { listed.new
-        ≡ listed_after operations holders.now permissions.now listed.old c }
+        ≡ listed_after f.now.operations f.now.holders f.now.permissions listed.old c }
 {
-    match c {
-        RuleCommand::Part {
+    if let RuleCommand::Part {
+        role,
+        operations: class,
+    } = c
+    {
+        grant_grids::add_part(
+            f.holders[role],
+            &f.permissions,
             role,
-            operations: class,
-        } => {
-            grant_grids::add_part(holders[role], permissions, role, class, operations, listed);
-        }
-        RuleCommand::Value(_) => {}
-        RuleCommand::Operations(_) => {}
-        RuleCommand::Link(_) => {}
-        RuleCommand::Level(_) => {}
-        RuleCommand::Opens => {}
-        RuleCommand::Ends => {}
+            class,
+            f.operations,
+            listed,
+        );
     }
 }
 
@@ -232,15 +213,7 @@ pub fn list_part<'a>(c: RuleCommand, seen: &'a mut ByRole, again: &'a mut ByRole
     ensures { (seen.new ≡ seen_by seen.old c)
         × (again.new ≡ again_by seen.old again.old c) }
 {
-    match c {
-        RuleCommand::Part { role, operations } => {
-            rule_listings::list(seen, again, role, operations);
-        }
-        RuleCommand::Value(_) => {}
-        RuleCommand::Operations(_) => {}
-        RuleCommand::Link(_) => {}
-        RuleCommand::Level(_) => {}
-        RuleCommand::Opens => {}
-        RuleCommand::Ends => {}
+    if let RuleCommand::Part { role, operations } = c {
+        rule_listings::list(seen, again, role, operations);
     }
 }

@@ -1,8 +1,8 @@
 -- Telling a legal rule file line by line: behind each 21 that is met stand the lines of the rule whose number is told.
 -- Assumes nothing.
 use Prim.Native.Nat.{ℕ, zero, suc, ◌+◌, ◌≤◌}
-use Rattle.std.specs.Prelude.{length, drop, Bool, ◌⊎◌, ◌≡◌}
-use Rattle.std.proofs.Common.{drop-drop, ap, ◌∙◌, arith}
+use Rattle.std.specs.Prelude.{length, drop, Bool, ◌⊎◌, ◌≡◌, Result, Ok, Err}
+use Rattle.std.proofs.Common.{length-drop, ap, ◌∙◌, arith}
 use Rattle.std.proofs.Math.Bool.{true, false}
 use mathlib.Core.List.{List, [], ◌∷◌, ◌++◌}
 use Rattle.std.proofs.Math.Logic.{inl, inr}
@@ -11,22 +11,17 @@ use Rattle.std.proofs.Math.Path.{refl, sym, subst}
 use Rattle.rule_words.specs.Telling.{AcceptedRules}
 use Rattle.files.specs.Beside.{beside_of}
 use Rattle.files.specs.Answer.{Answer, and_then, unless, rules_order, rules_operand, wrong_level, refused, accepted}
-use Rattle.files.proofs.BytesLaws.{number_positive}
 use Rattle.files.specs.Calls.{read_both}
 use Rattle.files.specs.RoleFile.{read_roles}
 use Rattle.files.specs.RuleFile.{RuleCommand, Lines, Reading, whole, finished, follows, legal, levelled, add_line, obey_rule, ends_file, read_body, read_rules, opens, ends}
 use Rattle.policy.specs.Policy.{Policy, setting_of, roles_in}
 use Rattle.rule_commands.specs.Raw.{raw_of, command_of, Shape, shape-opens, shape_user_single, shape_user_set, shape_resource_single, shape_resource_set, shape-operations, shape-link, shape-part, shape-level, shape-ends}
 use Rattle.rule_opening.specs.OpeningLaws.{accepted_body}
-use Rattle.rule_commands.specs.RawLaws.{raw_whole, accepted-shape}
-use Rattle.rule_reading.specs.BothFiles.{nothing_read, both_of}
+use Rattle.rule_commands.specs.RawLaws.{raw_whole, accepted-shape, raw_none}
 use Rattle.rule_commands.specs.declared.Raw.{Raw}
-use Rattle.rule_reading.specs.declared.BothFiles.{BothFiles}
 use Rattle.sets.specs.ListLaws.{length_last}
-use Rattle.rule_headings.specs.Headings.{as_line, line_of, RuleAt}
+use Rattle.rule_headings.specs.Headings.{RuleAt}
 use Rattle.rule_headings.specs.RuleLevelLaws.{comes_to, on_from, refuted}
-use Rattle.rule_headings.specs.declared.Line.{Line}
-use Rattle.rule_commands.specs.declared.Raw.TheVariants.{Whole, Unknown, Short}
 
 -- how many rules were opened
 abbrev begun_of : List Lines → Option Lines → ℕ
@@ -89,7 +84,7 @@ module _ (F : Policy) (rules : List Lines) where
         go none h k = refuted F k
         go (some ls) h k = added ls (follows ls d) (legal (beside_of F) d) (levelled (beside_of F) ls d) h k
 
-    by_shape : {b x y : ℕ} → Shape b x y → (rest : List ℕ) → on_from F n (command_of b x y) rest (obey_rule (beside_of F) now (command_of b x y)) ≡ accepted rules → Next n number b rest
+    by_shape : {a : Raw} → Shape a → (rest : List ℕ) → on_from F n (command_of a) rest (obey_rule (beside_of F) now (command_of a)) ≡ accepted rules → Next n number a.byte rest
     unfolding command_of obey_rule
     by_shape shape-opens rest q = opening rest q
     by_shape (shape_user_single a v) rest q = lining 0x22 _ rest (λ z. omega arith) refl q
@@ -102,78 +97,64 @@ module _ (F : Policy) (rules : List Lines) where
     by_shape (shape-level l) rest q = lining 0x29 _ rest (λ z. omega arith) refl q
     by_shape shape-ends rest q = ending rest q
 
-    -- whatever stands in front
-    in_front : (s : List ℕ) → comes_to F (suc n) now s ≡ accepted rules → (r : Raw) → raw_of s ≡ r → ((as_line r).width ≡ 0 → ⊥) → Next n number (as_line r).byte (drop (as_line r).width s)
-    in_front s q Short e h = absurd (h refl)
-    in_front s q Unknown e h = absurd (h refl)
-    in_front s q (Whole b x y w) e h =
-        let f = raw_whole (beside_of F) n now s b x y w e in
-        by_shape (accepted-shape (beside_of F) n now s b x y w f (λ u. accepted u.complete) rules q) (drop w s) (sym (ap (λ (a : Answer Reading). and_then a (λ u. accepted u.complete)) f.turned) ∙ q)
+    -- whatever line stands in front
+    in_front : (s : List ℕ) → comes_to F (suc n) now s ≡ accepted rules → (a : Raw) (w : ℕ) → raw_of s ≡ Ok (a, w) → Next n number a.byte (drop w s)
+    in_front s q a w e =
+        let f = raw_whole (beside_of F) n now s a w e in
+        by_shape (accepted-shape (beside_of F) n now s a w f (λ u. accepted u.complete) rules q) (drop w s) (sym (ap (λ (t : Answer Reading). and_then t (λ u. accepted u.complete)) f.turned) ∙ q)
 
--- the state of telling: so many rules were told up to here
-pub record Telling (s : List ℕ) (number at : ℕ) : Type 0 where
-  pub legal : AcceptedRules s
+-- the state of telling: so many rules were told, and these bytes are left
+pub record Telling (number : ℕ) (rest : List ℕ) : Type 0 where
+  pub policy : Policy
+  pub rules : List Lines
   pub fuel : ℕ
-  pub onward : Onward legal.policy legal.rules fuel number (drop at s)
+  pub onward : Onward policy rules fuel number rest
 
-pub telling-begun : (s : List ℕ) → AcceptedRules s → Telling s 0 0
+pub telling-begun : (s : List ℕ) → AcceptedRules s → Telling 0 s
 unfolding read_body
-telling-begun s l = record { legal = l; fuel = suc (length s); onward = going [] none refl l.accepts }
+telling-begun s l = record { policy = l.policy; rules = l.rules; fuel = suc (length s); onward = going [] none refl l.accepts }
 
-module _ (s : List ℕ) (number at : ℕ) (t : Telling s number at) (l : Line) (found : l ≡ line_of (drop at s)) (there : l.width ≡ 0 → ⊥) where
-  abbrev F : Policy
-  F = t.legal.policy
-
-  next : (n : ℕ) × Next F t.legal.rules n number l.byte (drop (at + l.width) s)
-  unfolding line_of raw_of
+module _ (number : ℕ) (rest : List ℕ) (t : Telling number rest) (a : Raw) (w : ℕ) (e : raw_of rest ≡ Ok (a, w)) where
+  next : (n : ℕ) × Next t.policy t.rules n number a.byte (drop w rest)
   next = go t.fuel t.onward
     where
-      front-so : (n : ℕ) → Next F t.legal.rules n number (as_line (raw_of (drop at s))).byte (drop (as_line (raw_of (drop at s))).width (drop at s)) → Next F t.legal.rules n number l.byte (drop (at + l.width) s)
-      front-so n k = subst (λ (r : List ℕ). Next F t.legal.rules n number l.byte r) (drop-drop l.width at s) (subst (λ (m : Line). Next F t.legal.rules n number m.byte (drop m.width (drop at s))) (sym found) k)
-
-      width : (as_line (raw_of (drop at s))).width ≡ 0 → ⊥
-      width z = there (ap (λ (m : Line). m.width) found ∙ z)
-
-      empty : drop at s ≡ [] → (as_line (raw_of (drop at s))).width ≡ 0
-      empty e = ap (λ (r : List ℕ). (as_line (raw_of r)).width) e
-
-      go : (n : ℕ) → Onward F t.legal.rules n number (drop at s) → (n : ℕ) × Next F t.legal.rules n number l.byte (drop (at + l.width) s)
-      go n (over e) = absurd (width (empty e))
-      go zero (going complete current c q) = refuted F q
-      go (suc n) (going complete current c q) = (n, front-so n (in_front F t.legal.rules n number complete current c (drop at s) q (raw_of (drop at s)) refl width))
+      go : (n : ℕ) → Onward t.policy t.rules n number rest → (n : ℕ) × Next t.policy t.rules n number a.byte (drop w rest)
+      go n (over z) = let q = sym raw_none ∙ ap raw_of (sym z) ∙ e in let k : ◌≡◌ {A = ℕ} 0 1 = cc in absurd (omega arith)
+      go zero (going complete current c q) = refuted t.policy q
+      go (suc n) (going complete current c q) = (n, in_front t.policy t.rules n number complete current c rest q a w e)
 
   -- a 21: behind it stand the lines of the rule of this number
-  pub heads : l.byte ≡ 0x21 → (F : Policy) × (rules : List Lines) × RuleAt F rules number (drop (at + l.width) s)
-  heads e = go next.0 next.1
+  pub heads : a.byte ≡ 0x21 → (F : Policy) × (rules : List Lines) × RuleAt F rules number (drop w rest)
+  heads k = go next.0 next.1
     where
-      go : (n : ℕ) → Next F t.legal.rules n number l.byte (drop (at + l.width) s) → (F : Policy) × (rules : List Lines) × RuleAt F rules number (drop (at + l.width) s)
-      go n (inl k) = (F, t.legal.rules, record { earlier = k.1; number = k.2; fuel = n; accepts = k.3 })
-      go n (inr k) = absurd (k.0 e)
+      go : (n : ℕ) → Next t.policy t.rules n number a.byte (drop w rest) → (F : Policy) × (rules : List Lines) × RuleAt F rules number (drop w rest)
+      go n (inl m) = (t.policy, t.rules, record { earlier = m.1; number = m.2; fuel = n; accepts = m.3 })
+      go n (inr m) = absurd (m.0 k)
 
-  pub headed_on : l.byte ≡ 0x21 → Telling s (number + 1) (at + l.width)
-  headed_on e = go next.0 next.1
+  pub headed_on : a.byte ≡ 0x21 → Telling (number + 1) (drop w rest)
+  headed_on k = go next.0 next.1
     where
-      go : (n : ℕ) → Next F t.legal.rules n number l.byte (drop (at + l.width) s) → Telling s (number + 1) (at + l.width)
-      go n (inl k) = let m = k.2 in record { legal = t.legal; fuel = n; onward = going k.1 (some []) (omega arith) k.3 }
-      go n (inr k) = absurd (k.0 e)
+      go : (n : ℕ) → Next t.policy t.rules n number a.byte (drop w rest) → Telling (number + 1) (drop w rest)
+      go n (inl m) = let l = m.2 in record { policy = t.policy; rules = t.rules; fuel = n; onward = going m.1 (some []) (omega arith) m.3 }
+      go n (inr m) = absurd (m.0 k)
 
   -- another line
-  pub told-on : (l.byte ≡ 0x21 → ⊥) → Telling s number (at + l.width)
-  told-on e = go next.0 next.1
+  pub told-on : (a.byte ≡ 0x21 → ⊥) → Telling number (drop w rest)
+  told-on k = go next.0 next.1
     where
-      go : (n : ℕ) → Next F t.legal.rules n number l.byte (drop (at + l.width) s) → Telling s number (at + l.width)
-      go n (inl k) = absurd (e k.0)
-      go n (inr k) = record { legal = t.legal; fuel = n; onward = k.1 }
+      go : (n : ℕ) → Next t.policy t.rules n number a.byte (drop w rest) → Telling number (drop w rest)
+      go n (inl m) = absurd (k m.0)
+      go n (inr m) = record { policy = t.policy; rules = t.rules; fuel = n; onward = m.1 }
 
 -- two files that were read: behind the seven bytes of the first command stand the rules
-pub both-legal : (file s : List ℕ) (b : BothFiles) → b ≡ both_of (read_both 2 file s) → b.code ≡ 0 → (7 ≤ length s) × AcceptedRules (drop 7 s)
-unfolding both_of nothing_read read_both
-both-legal file s b e h = roles (read_roles 2 file) refl e
+pub both-legal : (file s : List ℕ) (b : Policy × List Lines) → read_both 2 file s ≡ accepted b → (7 ≤ length s) × AcceptedRules (drop 7 s)
+unfolding read_both
+both-legal file s b e = roles (read_roles 2 file) refl e
   where
-    rules : (F : Policy) → read_roles 2 file ≡ accepted F → (a : Answer (List Lines)) → read_rules 2 (beside_of F) s ≡ a → b ≡ both_of (and_then a (λ ls. accepted (F, ls))) → (7 ≤ length s) × AcceptedRules (drop 7 s)
-    rules F q (refused d) k z = absurd (number_positive d (ap (λ (m : BothFiles). m.code) (sym z) ∙ h))
-    rules F q (accepted ls) k z = let r = accepted_body (beside_of F) s ls k in (r.0, record { policy = F; rules = ls; accepts = r.1 })
+    rules : (F : Policy) (a : Answer (List Lines)) → read_rules 2 (beside_of F) s ≡ a → and_then a (λ ls. accepted (F, ls)) ≡ accepted b → (7 ≤ length s) × AcceptedRules (drop 7 s)
+    rules F (refused d) k z = refuted F z
+    rules F (accepted ls) k z = let r = accepted_body (beside_of F) s ls k in (r.0, record { policy = F; rules = ls; accepts = r.1 })
 
-    roles : (a : Answer Policy) → read_roles 2 file ≡ a → b ≡ both_of (and_then a (λ F. and_then (read_rules 2 (beside_of F) s) (λ ls. accepted (F, ls)))) → (7 ≤ length s) × AcceptedRules (drop 7 s)
-    roles (refused d) q z = absurd (number_positive d (ap (λ (m : BothFiles). m.code) (sym z) ∙ h))
-    roles (accepted F) q z = rules F q (read_rules 2 (beside_of F) s) refl z
+    roles : (a : Answer Policy) → read_roles 2 file ≡ a → and_then a (λ F. and_then (read_rules 2 (beside_of F) s) (λ ls. accepted (F, ls))) ≡ accepted b → (7 ≤ length s) × AcceptedRules (drop 7 s)
+    roles (refused d) q z = let k : ◌≡◌ {A = ℕ} 0 1 = cc in absurd (omega arith)
+    roles (accepted F) q z = rules F (read_rules 2 (beside_of F) s) refl z

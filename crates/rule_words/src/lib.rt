@@ -1,7 +1,7 @@
 // Rules in words. Each function but the last prints a part of an answer, or answers why it cannot, as those of `programs` do.
 #![tactic(auto)]
 
-ghost use Rattle.role_record.specs.Record.{WithinLimits, FewAttributes};
+ghost use Rattle.role_record.specs.Record.{WithinLimits, FewAttributes, sizes_of};
 ghost use Rattle.std.specs.Prelude.{◌||◌, List, ◌≡◌};
 ghost use Rattle.rule_headings.specs.Headings.{RuleAt};
 ghost use Rattle.rule_words.specs.Telling.{is_condition, goes_on, domain_of, AcceptedRules};
@@ -11,8 +11,9 @@ ghost use Rattle.policy.specs.Policy.{Policy};
 use files::rule_byte;
 use line_words::{say_operations, tell_checked};
 use programs::{say, say_count};
-use role_record::{ByAttribute, ByRole, ByRoleOperation, BySide, CountBySide, RoleFile, Sizes};
-use rule_headings::{front, heading_of};
+use role_record::{ByAttribute, RoleFile};
+use rule_commands::Raw;
+use rule_headings::heading_of;
 use std::io;
 
 // What parts the paragraph of a rule from the one before it, if there is one: the first that is told has this number.
@@ -66,17 +67,20 @@ fn has_condition(some: bool, byte: usize) -> bool
     some
 }
 
-// Whether a line gives a further value of the conjunct that the line before it, of these former numbers, gives one of.
-fn goes_on(byte: usize, first: u64, former: usize, earlier: u64) -> bool
-    ensures { result ≡ goes_on byte first former earlier }
+// Whether a line gives a further value of the conjunct that the line before it, if there is one, gives one of.
+fn goes_on(line: Raw, former: Option<Raw>) -> bool
+    ensures { result ≡ goes_on line former }
 {
-    if !digits::within(byte, rule_byte::USER_SINGLE, rule_byte::RESOURCE_SET) {
+    let Some(before) = former else {
+        return false;
+    };
+    if !digits::within(line.byte, rule_byte::USER_SINGLE, rule_byte::RESOURCE_SET) {
         return false;
     }
-    if byte != former {
+    if line.byte != before.byte {
         return false;
     }
-    first == earlier
+    line.first == before.first
 }
 
 // The domain of a user attribute; 0 where there is no such attribute, as in lines that name none.
@@ -91,57 +95,37 @@ fn domain_of(domains: &ByAttribute, attribute: u64) -> u64
 }
 
 // A paragraph for each rule of a legal rule file that has one of the numbers from the first to the last; its last line is left open.
-fn tell_rules<'a>(
+fn tell_rules(
     rt: &impl Print,
     rules: &[u8],
     first: usize,
     last: usize,
-    sizes: Sizes,
-    attributes: &'a CountBySide,
-    kinds: &'a BySide,
-    domains: &'a ByAttribute,
-    holders: &'a ByRole,
-    permissions: &'a ByRoleOperation,
+    f: &RoleFile,
 ) -> io::Result<()>
-    requires { WithinLimits sizes × FewAttributes attributes.now × AcceptedRules rules.now }
+    requires { WithinLimits (sizes_of f.now) × FewAttributes f.now.attributes × AcceptedRules rules.now }
 {
     let mut number: usize = 0;
     let mut wanted = false;
     let mut some = false;
-    let mut former: usize = 0;
-    let mut former_first: u64 = 0;
-    let mut at: usize = 0;
-    loop {
-        let l = front(&rules[at..]);
-        if l.width == 0 {
-            return tell_end(rt, number);
-        }
-        at = at + l.width;
-        if l.byte == rule_byte::OPENS {
+    let mut former: Option<Raw> = None;
+    let mut rest = rules;
+    while let Ok((line, w)) = rule_commands::next(rest) {
+        rest = &rest[w..];
+        if line.byte == rule_byte::OPENS {
             wanted = digits::within(number, first, last);
-            tell_heading(rt, wanted, first, number, &rules[at..])?;
-            number = number + 1;
+            tell_heading(rt, wanted, first, number, rest)?;
+            number += 1;
             some = false;
         } else {
-            let same = goes_on(l.byte, l.first, former, former_first);
-            let checked = rule_operands::check(
-                l.byte,
-                l.first,
-                l.second,
-                sizes,
-                attributes,
-                kinds,
-                domains,
-                holders,
-                permissions,
-            );
-            let domain = domain_of(domains, l.first);
+            let same = goes_on(line, former);
+            let checked = rule_operands::check(line, f);
+            let domain = domain_of(&f.domains, line.first);
             tell_checked(rt, wanted, same, some, checked, domain)?;
-            some = has_condition(some, l.byte);
+            some = has_condition(some, line.byte);
         }
-        former = l.byte;
-        former_first = l.first;
+        former = Some(line);
     }
+    tell_end(rt, number)
 }
 
 // Reads both files and tells the rules of these numbers, or prints the line of a refusal, for the program of this name.
@@ -153,29 +137,11 @@ pub fn tell_files(
     first: usize,
     last: usize,
 ) {
-    let b = rule_file::read(file, rules);
-    if b.code != 0 {
-        programs::refuse(rt, program, b.code);
-        return;
+    match rule_file::read(file, rules) {
+        Ok(both) => {
+            let told = tell_rules(rt, &rules[rule_opening::BYTES..], first, last, &both.file);
+            programs::end_line(rt, program, told);
+        }
+        Err(refusal) => programs::refuse(rt, program, refusal),
     }
-    let f = &b.file;
-    let sizes = Sizes {
-        users: f.users,
-        resources: f.resources,
-        operations: f.operations,
-        roles: f.roles,
-    };
-    let told = tell_rules(
-        rt,
-        &rules[rule_opening::BYTES..],
-        first,
-        last,
-        sizes,
-        &f.attributes,
-        &f.kinds,
-        &f.domains,
-        &f.holders,
-        &f.permissions,
-    );
-    programs::end_line(rt, program, told);
 }

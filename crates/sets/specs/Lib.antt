@@ -10,3 +10,5 @@ pub mod LowestLaws
 pub mod MaskLaws
 pub mod LoopLaws
 pub mod MemberLaws
+pub mod Members
+pub mod SearchLaws

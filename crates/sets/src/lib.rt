@@ -2,8 +2,9 @@
 // no caller has to show that a number is below 64.
 #![tactic(auto)]
 
-ghost use Rattle.std.specs.Prelude.{eqb, ltb, ◌&&◌, ◌||◌, not, ◌≡◌, ◌<◌};
+ghost use Rattle.std.specs.Prelude.{ℕ, ◌≤◌, Bool, eqb, ltb, ◌&&◌, ◌||◌, not, ◌≡◌, ◌<◌};
 ghost use Rattle.sets.specs.Lowest.{lowest_from};
+ghost use Rattle.sets.specs.Members.{LeastComes, how_many};
 ghost use Rattle.sets.specs.Sets.{bit, subset, mask_of, less_one, size};
 
 // Whether i is in m.
@@ -83,4 +84,51 @@ pub fn below(n: usize) -> u64
     ensures { result ≡ mask_of 64 (λ k. ltb k n) }
 {
     if n < 64 { (1 << n) - 1 } else { !0 }
+}
+
+// Those below n that pass a test.
+pub fn those<F: Fn(usize) -> bool>(n: usize, passes: F) -> u64
+    requires { (n ≤ 64) × ((i : ℕ) → i < n → F.pre passes i) }
+    ensures { (test : ℕ → Bool)
+        → ((i : ℕ) (b : Bool) → i < n → F.post passes i b → b ≡ test i)
+        → result ≡ mask_of n test }
+{
+    let mut m: u64 = 0;
+    for i in 0..n {
+        if passes(i) {
+            m = with(m, i);
+        }
+    }
+    m
+}
+
+// The members of a set that are left, of which the least comes next.
+#[derive(Clone, Copy)]
+pub struct Ascending {
+    pub rest: u64,
+}
+
+impl Iterator for Ascending {
+    type Item = usize;
+
+    ghost next_gives = { LeastComes };
+
+    ghost remaining = { how_many };
+
+    #[inline(always)]
+    fn next(&mut self) -> Option<usize> {
+        if self.rest == 0 {
+            return None;
+        }
+        let y = least(self.rest);
+        self.rest = without_least(self.rest);
+        Some(y)
+    }
+}
+
+// The members of a set, ascending: a loop over them looks at those alone.
+pub fn members(m: u64) -> Ascending
+    ensures { result.rest ≡ m }
+{
+    Ascending { rest: m }
 }

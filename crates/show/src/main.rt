@@ -2,7 +2,6 @@
 // or the line of a refusal. Where the system does not read a file, a line on standard error says so and nothing is shown.
 #![tactic(auto)]
 
-use digits::Number;
 use programs::say;
 use std::io;
 
@@ -28,42 +27,35 @@ fn say_blank(rt: &impl Print, at: usize) -> io::Result<()> {
 
 // A line of bytes.
 fn say_bytes(rt: &impl Print, bytes: &[u8]) -> io::Result<()> {
-    for at in 0..bytes.len() {
+    for (at, byte) in bytes.iter().enumerate() {
         say_blank(rt, at)?;
-        say_byte(rt, bytes[at])?;
+        say_byte(rt, *byte)?;
     }
     say(rt, b"\n")
 }
 
 // The rule's bytes, and behind them its words.
 fn show(rt: &HostRuntime, file: &[u8], rules: &[u8], n: usize) {
-    let mut answer: u8 = 0;
-    let part = rule_show::show(file, rules, n, &mut answer);
-    if answer != 0 {
-        programs::refuse(rt, b"show", answer as usize);
-        return;
-    }
-    match say_bytes(rt, part) {
-        Ok(()) => rule_words::tell_files(rt, b"show", file, rules, n, n),
-        Err(error) => programs::end_line(rt, b"show", Err(error)),
+    match rule_show::locate(file, rules, n) {
+        Ok(place) => match say_bytes(rt, &rules[place.from..place.to]) {
+            Ok(()) => rule_words::tell_files(rt, b"show", file, rules, n, n),
+            Err(error) => programs::end_line(rt, b"show", Err(error)),
+        },
+        Err(refusal) => programs::refuse(rt, b"show", refusal),
     }
 }
 
 // Reads both files, and shows the rule.
 fn show_files(rt: &HostRuntime, n: usize) {
     let mut file = programs::roles_buffer();
-    let roles = programs::read_named(rt, b"show", 1, &mut file);
-    if roles.failed {
+    let Some(k) = programs::read_named(rt, b"show", 1, &mut file) else {
         return;
-    }
-    let k = roles.length;
-    let mut lines = programs::rules_buffer();
-    let rules = programs::read_rules(rt, b"show", 2, &file[0..k], &mut lines);
-    if rules.failed {
+    };
+    let mut rules = programs::rules_buffer();
+    let Some(m) = programs::read_rules(rt, b"show", 2, &file[..k], &mut rules) else {
         return;
-    }
-    let m = rules.length;
-    show(rt, &file[0..k], &lines[0..m], n);
+    };
+    show(rt, &file[..k], &rules[..m], n);
 }
 
 fn main(rt: HostRuntime) {
@@ -71,15 +63,14 @@ fn main(rt: HostRuntime) {
         usage(&rt);
         return;
     }
-    let Number::Given(n) = programs::number_named(
+    match programs::number_named(
         &rt,
         b"show",
         3,
         digits::MANY,
         b"NUMBER is no number of up to 4,096 digits\n",
-    ) else {
-        usage(&rt);
-        return;
-    };
-    show_files(&rt, n);
+    ) {
+        Some(n) => show_files(&rt, n),
+        None => usage(&rt),
+    }
 }

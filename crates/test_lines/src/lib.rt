@@ -1,10 +1,9 @@
 // What the test programs share: what they print, how they fill memory that is lent, and a role file as long as one may be.
 #![tactic(auto)]
 
-ghost use Rattle.std.specs.Prelude.{◌≡◌, ◌≤◌, min, length};
+ghost use Rattle.std.specs.Prelude.{◌≡◌, ◌≤◌, length};
 
-use files::role_byte;
-use role_question::Reply;
+use files::{Refusal, role_byte};
 use role_record::RoleFile;
 use std::io;
 
@@ -35,13 +34,18 @@ pub fn print_number(rt: &impl Print, name: &[u8], n: usize) -> io::Result<()> {
     programs::say_count(rt, name, n)
 }
 
+// Prints the number of a refusal.
+pub fn print_refusal(rt: &impl Print, refusal: Refusal) -> io::Result<()> {
+    print_number(rt, b"refused ", refusal.number())
+}
+
 // Prints the reply and ends the line.
-pub fn print_reply(rt: &impl Print, reply: Reply) -> io::Result<()> {
+pub fn print_reply(rt: &impl Print, reply: Result<bool, Refusal>) -> io::Result<()> {
     match reply {
-        Reply::Yes => programs::say(rt, b"yes\n"),
-        Reply::No => programs::say(rt, b"no\n"),
-        Reply::Refused(n) => {
-            print_number(rt, b"refused ", n)?;
+        Ok(true) => programs::say(rt, b"yes\n"),
+        Ok(false) => programs::say(rt, b"no\n"),
+        Err(refusal) => {
+            print_refusal(rt, refusal)?;
             programs::say(rt, b"\n")
         }
     }
@@ -73,8 +77,8 @@ fn checksum(s: &[u8]) -> usize
     ensures { result ≤ 4294967290 }
 {
     let mut sum: usize = 0;
-    for i in 0..s.len() {
-        sum = (257 * sum + file_bytes::byte_at(s, i) + 1) % 4294967291;
+    for byte in s {
+        sum = (257 * sum + *byte as usize + 1) % 4294967291;
     }
     sum
 }
@@ -100,24 +104,18 @@ pub fn print_memory(rt: &impl Print, s: &[u8]) -> io::Result<()> {
 
 // Fills the memory for output with bytes that differ from place to place and from seed to seed.
 pub fn fill_memory(s: &mut [u8], seed: usize) {
-    for i in 0..s.len() {
-        s[i] = ((7 * (i % 251) + seed % 251) % 251) as u8;
+    for (i, byte) in s.iter_mut().enumerate() {
+        *byte = ((7 * (i % 251) + seed % 251) % 251) as u8;
     }
 }
 
 // Fills scratch with words that differ from place to place and from seed to seed.
 pub fn fill_scratch(scratch: &mut [u64], seed: usize) {
     let mut word = (seed % 65536) as u64 + 1;
-    for i in 0..scratch.len() {
-        word = word ^ (word << 13);
-        word = word ^ (word >> 7);
-        word = word ^ (word << 17);
-        scratch[i] = word;
+    for place in scratch {
+        word ^= word << 13;
+        word ^= word >> 7;
+        word ^= word << 17;
+        *place = word;
     }
-}
-
-pub fn least(a: usize, b: usize) -> usize
-    ensures { result ≡ min a b }
-{
-    if a < b { a } else { b }
 }

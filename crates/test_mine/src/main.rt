@@ -6,27 +6,22 @@
 ghost use Rattle.std.specs.Prelude.{◌≡◌, ◌+◌, min, length, IfOk};
 ghost use Rattle.file_bytes.specs.Numbers.{number_at};
 
+use files::Refusal;
 use role_record::RoleFile;
 use std::io;
 use write_answer::Mined;
 
 // Prints the length, the counts and the cost, or a refusal.
-fn print_mined(rt: &impl Print, mined: Mined) -> io::Result<()> {
-    match mined {
-        Mined::Refused(n) => test_lines::print_number(rt, b"refused ", n),
-        Mined::Written {
-            length,
-            parts,
-            rules,
-            merges,
-            cost,
-        } => {
-            test_lines::print_number(rt, b"length ", length)?;
-            test_lines::print_number(rt, b" parts ", parts)?;
-            test_lines::print_number(rt, b" rules ", rules)?;
-            test_lines::print_number(rt, b" merges ", merges)?;
-            test_lines::print_number(rt, b" cost ", cost as usize)
+fn print_answer(rt: &impl Print, answer: Result<Mined, Refusal>) -> io::Result<()> {
+    match answer {
+        Ok(mined) => {
+            test_lines::print_number(rt, b"length ", mined.length)?;
+            test_lines::print_number(rt, b" parts ", mined.parts)?;
+            test_lines::print_number(rt, b" rules ", mined.rules)?;
+            test_lines::print_number(rt, b" merges ", mined.merges)?;
+            test_lines::print_number(rt, b" cost ", mined.cost as usize)
         }
+        Err(refusal) => test_lines::print_refusal(rt, refusal),
     }
 }
 
@@ -41,7 +36,7 @@ fn print_line(
 ) -> io::Result<()> {
     test_lines::fill_scratch(scratch, seed);
     test_lines::fill_memory(out, seed);
-    print_mined(rt, mining::mine(file, cuts, mining::ones(), scratch, out))?;
+    print_answer(rt, mining::mine(file, cuts, mining::ones(), scratch, out))?;
     test_lines::print_memory(rt, out)
 }
 
@@ -65,23 +60,19 @@ fn case(
     if s.len() < end {
         return Ok(s.len());
     }
-    let words = test_lines::least(
-        file_bytes::byte_at(s, 2) + 256 * file_bytes::byte_at(s, 3),
-        scratch.len(),
-    );
-    let room = test_lines::least(
-        file_bytes::byte_at(s, 4)
-            + 256 * file_bytes::byte_at(s, 5)
-            + 65536 * file_bytes::byte_at(s, 6),
-        out.len(),
-    );
+    let words = file_bytes::byte_at(s, 2) + 256 * file_bytes::byte_at(s, 3);
+    let room = file_bytes::byte_at(s, 4)
+        + 256 * file_bytes::byte_at(s, 5)
+        + 65536 * file_bytes::byte_at(s, 6);
+    let words = words.min(scratch.len());
+    let room = room.min(out.len());
     print_line(
         rt,
         &s[start..end],
         &s[8..start],
         seed,
-        &mut scratch[0..words],
-        &mut out[0..room],
+        &mut scratch[..words],
+        &mut out[..room],
     )?;
     Ok(end)
 }
@@ -90,7 +81,7 @@ fn case(
 fn cases(rt: &impl Print, s: &[u8], scratch: &mut [u64], out: &mut [u8]) -> io::Result<()> {
     let mut at: usize = 0;
     while at < s.len() {
-        at = at + case(rt, &s[at..], at, scratch, out)?;
+        at += case(rt, &s[at..], at, scratch, out)?;
     }
     Ok(())
 }

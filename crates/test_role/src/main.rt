@@ -6,14 +6,13 @@
 ghost use Rattle.std.specs.Prelude.{◌≡◌, ◌+◌, min, length, IfOk};
 ghost use Rattle.file_bytes.specs.Numbers.{number_at};
 
-use role_circle::Circled;
 use role_record::RoleFile;
 use std::io;
 
-// Prints the roles of a circle.
+// Prints the first n roles, those of a circle.
 fn print_roles(rt: &impl Print, roles: &[u8], n: usize) -> io::Result<()> {
-    for at in 0..n {
-        test_lines::print_number(rt, b" ", file_bytes::byte_at(roles, at))?;
+    for role in roles.iter().take(n) {
+        test_lines::print_number(rt, b" ", *role as usize)?;
     }
     Ok(())
 }
@@ -22,11 +21,11 @@ fn print_roles(rt: &impl Print, roles: &[u8], n: usize) -> io::Result<()> {
 fn print_circle(rt: &impl Print, file: &[u8]) -> io::Result<()> {
     let mut roles = [0u8; RoleFile::ROLES];
     match role_circle::circle(file, &mut roles) {
-        Circled::Refused(n) => test_lines::print_number(rt, b"refused ", n),
-        Circled::Listed(n) => {
+        Ok(n) => {
             programs::say(rt, b"circle")?;
             print_roles(rt, &roles, n)
         }
+        Err(refusal) => test_lines::print_refusal(rt, refusal),
     }
 }
 
@@ -38,8 +37,11 @@ fn print_answers(
     resource: usize,
     operation: usize,
 ) -> io::Result<()> {
-    let loaded = role_file::read(file);
-    programs::say_number(rt, loaded.code)?;
+    let code = match role_file::read(file) {
+        Ok(_) => 0,
+        Err(refusal) => refusal.number(),
+    };
+    programs::say_number(rt, code)?;
     programs::say(rt, b" ")?;
     print_circle(rt, file)?;
     programs::say(rt, b" ")?;
@@ -66,9 +68,10 @@ fn case(rt: &impl Print, s: &[u8]) -> io::Result<usize>
 
 // The cases one after the other.
 fn cases(rt: &impl Print, s: &[u8]) -> io::Result<()> {
-    let mut at: usize = 0;
-    while at < s.len() {
-        at = at + case(rt, &s[at..])?;
+    let mut rest = s;
+    while !rest.is_empty() {
+        let n = case(rt, rest)?;
+        rest = &rest[n..];
     }
     Ok(())
 }

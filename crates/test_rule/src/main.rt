@@ -6,23 +6,23 @@
 ghost use Rattle.std.specs.Prelude.{◌≡◌, ◌+◌, ◌≤◌, min, length, IfOk};
 ghost use Rattle.file_bytes.specs.Numbers.{number_at};
 
-use files::rule_byte;
+use files::{Refusal, rule_byte};
 use role_record::RoleFile;
-use rule_judge::Judgement;
+use rule_judge::Verdict;
 use std::io;
 
 // Prints a verdict with its number and its values, or a refusal.
-fn print_judgement(rt: &impl Print, judgement: Judgement) -> io::Result<()> {
-    match judgement {
-        Judgement::Sound => programs::say(rt, b"verdict 0"),
-        Judgement::Differ(user, resource, operation) => {
+fn print_verdict(rt: &impl Print, judged: Result<Verdict, Refusal>) -> io::Result<()> {
+    match judged {
+        Ok(Verdict::Sound) => programs::say(rt, b"verdict 0"),
+        Ok(Verdict::Differ(user, resource, operation)) => {
             test_lines::print_number(rt, b"verdict 1 ", user)?;
             test_lines::print_number(rt, b" ", resource)?;
             test_lines::print_number(rt, b" ", operation)
         }
-        Judgement::StrayRule(n) => test_lines::print_number(rt, b"verdict 2 ", n),
-        Judgement::StrayPart(n) => test_lines::print_number(rt, b"verdict 3 ", n),
-        Judgement::Refused(n) => test_lines::print_number(rt, b"refused ", n),
+        Ok(Verdict::StrayRule(rule)) => test_lines::print_number(rt, b"verdict 2 ", rule),
+        Ok(Verdict::StrayPart(part)) => test_lines::print_number(rt, b"verdict 3 ", part),
+        Err(refusal) => test_lines::print_refusal(rt, refusal),
     }
 }
 
@@ -35,7 +35,7 @@ fn print_answers(
     resource: usize,
     operation: usize,
 ) -> io::Result<()> {
-    print_judgement(rt, rule_judge::judge(file, rules))?;
+    print_verdict(rt, rule_judge::judge(file, rules))?;
     programs::say(rt, b", ")?;
     let reply = rule_question::ask(file, rules, user, resource, operation);
     test_lines::print_reply(rt, reply)
@@ -64,8 +64,8 @@ fn cases(rt: &impl Print, file: &[u8], count: usize, s: &[u8]) -> io::Result<usi
     ensures { IfOk result (λ n. n ≤ length s.now) }
 {
     let mut at: usize = 0;
-    for k in 0..count {
-        at = at + case(rt, file, &s[at..])?;
+    for _ in 0..count {
+        at += case(rt, file, &s[at..])?;
     }
     Ok(at)
 }
@@ -87,9 +87,10 @@ fn group(rt: &impl Print, s: &[u8]) -> io::Result<usize>
 
 // The groups one after the other.
 fn groups(rt: &impl Print, s: &[u8]) -> io::Result<()> {
-    let mut at: usize = 0;
-    while at < s.len() {
-        at = at + group(rt, &s[at..])?;
+    let mut rest = s;
+    while !rest.is_empty() {
+        let n = group(rt, rest)?;
+        rest = &rest[n..];
     }
     Ok(())
 }
@@ -106,6 +107,8 @@ const LEVEL: u8 = rule_byte::LEVEL as u8;
 
 const ENDS: u8 = rule_byte::ENDS as u8;
 
+const RULE: [u8; 10] = [OPENS, OPERATIONS, 1, 0, PART, 0, 1, 0, LEVEL, 0];
+
 // As many rules of ten bytes as make a rule file longer than a role file may be.
 const RULES: usize = (RoleFile::BYTES + 1) / 10;
 
@@ -120,18 +123,9 @@ fn many_rules() -> [u8; LENGTH + 1]
     ensures { 65539 ≡ length result }
 {
     let mut s = [0u8; LENGTH + 1];
-    s[0] = SHAPE;
-    s[1] = 1;
-    s[2] = 1;
-    s[3] = 1;
-    s[4] = 1;
+    s[..5].copy_from_slice(&[SHAPE, 1, 1, 1, 1]);
     for k in 0..RULES {
-        s[FIRST + 10 * k] = OPENS;
-        s[FIRST + 10 * k + 1] = OPERATIONS;
-        s[FIRST + 10 * k + 2] = 1;
-        s[FIRST + 10 * k + 4] = PART;
-        s[FIRST + 10 * k + 6] = 1;
-        s[FIRST + 10 * k + 8] = LEVEL;
+        s[FIRST + 10 * k..FIRST + 10 * (k + 1)].copy_from_slice(&RULE);
     }
     s[LAST] = ENDS;
     s

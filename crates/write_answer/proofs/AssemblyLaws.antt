@@ -1,11 +1,11 @@
 -- The tables that mining works out of a record are those of its policy, and so is what comes of them.
 -- Assumes nothing.
-use Rattle.std.specs.Prelude.{ℕ, ◌+◌, ◌*◌, ◌≤◌, length, get_or, Bool, List, [], ◌∷◌, ◌≡◌, refl}
+use Rattle.std.specs.Prelude.{ℕ, ◌+◌, ◌*◌, ◌≤◌, length, Bool, List, Ok, ◌≡◌, refl}
 use Rattle.std.proofs.Common.{sym, ap, ◌∙◌, subst, arith}
-use Rattle.role_record.specs.Record.{Sized, attribute_table, record_with, record_of}
+use Rattle.role_record.specs.Record.{Sized, WithinLimits, FewAttributes, sizes_of, attribute_table, record_with, record_of}
 use Rattle.mine_distinct.specs.InsideValues.{inside_table}
 use Rattle.files.specs.Answer.{accepted}
-use Rattle.files.specs.Calls.{Counts, count_values, cuts_ok, least_scratch, mined_bytes, mined_counts}
+use Rattle.files.specs.Calls.{cuts_ok, least_scratch, mined_bytes, mined_counts}
 use Rattle.files.specs.RoleFile.{read_roles}
 use Rattle.grant_grids.specs.Links.{link_table}
 use Rattle.mine_matches.specs.Matches.{match_table, known_places}
@@ -18,6 +18,7 @@ use Rattle.rule_opening.specs.Opening.{shape_in}
 use Rattle.rule_opening.specs.OpeningLaws.{shape-so}
 use Rattle.role_record.specs.declared.Sizes.{Sizes}
 use Rattle.write_answer.proofs.MineLaws.{written}
+use Rattle.write_answer.specs.MinedNumbers.{mined_of, weighed_by}
 use Rattle.write_answer.specs.Stages.{OfRecord, Outcome, KeptFor, MergedBy, WrittenBy}
 use Rattle.write_lines.specs.Writing.{wrote}
 use Rattle.policy.specs.Mined.{merge_count}
@@ -31,14 +32,12 @@ use Rattle.mine_parts.specs.Layout.{most_parts}
 use Rattle.role_record.specs.declared.RoleFile.{RoleFile}
 use Rattle.write_measure.specs.declared.Measured.{Measured}
 use Rattle.mine_merge.specs.Steps.{Tables}
-use Rattle.write_answer.specs.declared.Wrote.{Wrote}
 use Rattle.grant_distinct.specs.Distinct.{distinct_table, having_table}
-use Rattle.write_answer.specs.declared.Wrote.TheVariants.{Rules}
 
 -- ---- the record
 
-pub stored : (F : Policy) (f : RoleFile) → f ≡ record_of F → OfRecord F f.known f.values f.kinds f.domains f.attributes f.holders f.permissions f.users f.resources f.operations f.roles
-stored F f e = record {
+pub stored : (F : Policy) (f : RoleFile) → f ≡ record_of F → (s : Sizes) → s ≡ sizes_of f → OfRecord F f.known f.values f.kinds f.domains f.attributes f.holders f.permissions s.users s.resources s.operations s.roles
+stored F f e s z = record {
   of-known = ap (λ (g : RoleFile). g.known) e;
   of_values = ap (λ (g : RoleFile). g.values) e;
   of-kinds = ap (λ (g : RoleFile). g.kinds) e;
@@ -46,10 +45,10 @@ stored F f e = record {
   of-attributes = ap (λ (g : RoleFile). g.attributes) e;
   of-holders = ap (λ (g : RoleFile). g.holders) e;
   of-permissions = ap (λ (g : RoleFile). g.permissions) e;
-  of-users = ap (λ (g : RoleFile). g.users) e;
-  of-resources = ap (λ (g : RoleFile). g.resources) e;
-  of-operations = ap (λ (g : RoleFile). g.operations) e;
-  of-roles = ap (λ (g : RoleFile). g.roles) e;
+  of-users = ap (λ (n : Sizes). n.users) z ∙ ap (λ (g : RoleFile). g.users) e;
+  of-resources = ap (λ (n : Sizes). n.resources) z ∙ ap (λ (g : RoleFile). g.resources) e;
+  of-operations = ap (λ (n : Sizes). n.operations) z ∙ ap (λ (g : RoleFile). g.operations) e;
+  of-roles = ap (λ (n : Sizes). n.roles) z ∙ ap (λ (g : RoleFile). g.roles) e;
 }
 
 -- ---- the tables
@@ -140,11 +139,12 @@ measured-long kept distinct having inside kinds permissions operations starts t 
     (l, omega (arith, l, S.room, file-most kept distinct having inside kinds permissions operations starts t))
 
 -- the sizes of a loaded record
-pub record-sizes : (F : Policy) → Sized F → (f : RoleFile) → f ≡ record_of F → ((f.users ≤ 64) × (f.resources ≤ 64) × (f.operations ≤ 16) × (f.roles ≤ 32)) × (get_or f.attributes 0 0 ≤ 6) × (get_or f.attributes 1 0 ≤ 6)
+pub record-sizes : (F : Policy) → Sized F → (f : RoleFile) → f ≡ record_of F → (s : Sizes) → s ≡ sizes_of f → WithinLimits s × FewAttributes f.attributes
 unfolding record_of record_with attribute_table
-record-sizes F Z f e =
-    subst (λ (g : RoleFile). ((g.users ≤ 64) × (g.resources ≤ 64) × (g.operations ≤ 16) × (g.roles ≤ 32)) × (get_or g.attributes 0 0 ≤ 6) × (get_or g.attributes 1 0 ≤ 6)) (sym e)
-    ((Z.many user, Z.many resource, Z.operable, Z.few), Z.declared user, Z.declared resource)
+record-sizes F Z f e s z = (
+  subst WithinLimits (sym (z ∙ ap sizes_of e)) (Z.many user, Z.many resource, Z.operable, Z.few),
+  subst (λ (g : RoleFile). FewAttributes g.attributes) (sym e) (Z.declared user, Z.declared resource),
+)
 
 -- cuts between the roles of a loaded record
 pub cuts_so : (F : Policy) (f : RoleFile) → f ≡ record_of F → (cuts : List ℕ) (b : Bool) → cuts_ok cuts f.roles ≡ b → cuts_ok cuts F.roles ≡ b
@@ -155,11 +155,7 @@ cuts_so F f e cuts b h = ap (λ (g : RoleFile). cuts_ok cuts g.roles) (sym e) �
 pub answered : (file cuts : List ℕ) (scratch : ℕ) (former : List ℕ) → least_scratch ≤ scratch → (F : Policy) → read_roles 2 file ≡ accepted F → Is (cuts_ok cuts F.roles) → (m : Measured) (parts merges : ℕ)
     → ((weights : Weights) → mined_counts 2 F cuts weights ≡ record { size = 7 + m.bytes; parts = parts; rules = m.rules; merges = merge_count (setting_of F) (roles_in F) cuts; cost = weighed weights m.sums })
     → merges ≡ merge_count (setting_of F) (roles_in F) cuts → length (mined_bytes 2 F cuts) ≤ length former
-    → (bytes out : List ℕ) → bytes ≡ mined_bytes 2 F cuts → out ≡ wrote bytes former → Outcome file cuts scratch former (Rules (7 + m.bytes) parts m.rules merges m.sums) out
+    → (bytes out : List ℕ) → bytes ≡ mined_bytes 2 F cuts → out ≡ wrote bytes former → Outcome file cuts scratch former (Ok (record { length = 7 + m.bytes; parts = parts; rules = m.rules; merges = merges; sums = m.sums })) out
 answered file cuts scratch former h F q c m parts merges e g l bytes out b o =
-    written file cuts scratch former h F q c l out (o ∙ ap (λ (x : List ℕ). wrote x former) b) (Rules (7 + m.bytes) parts m.rules merges m.sums)
-    (λ weights. ap (λ (k : ℕ). 0 ∷ (7 + m.bytes) ∷ parts ∷ m.rules ∷ k ∷ weighed weights m.sums ∷ []) g ∙ ap (λ (c : Counts). 0 ∷ count_values c) (sym (e weights)))
-
--- the answer that is told
-pub told-so : (file cuts : List ℕ) (scratch : ℕ) (former : List ℕ) {out : List ℕ} {r s : Wrote} → r ≡ s → Outcome file cuts scratch former s out → Outcome file cuts scratch former r out
-told-so file cuts scratch former {out} e o = subst (λ (x : Wrote). Outcome file cuts scratch former x out) (sym e) o
+    written file cuts scratch former h F q c l out (o ∙ ap (λ (x : List ℕ). wrote x former) b) (record { length = 7 + m.bytes; parts = parts; rules = m.rules; merges = merges; sums = m.sums })
+    (λ weights. ap (λ (k : ℕ). weighed_by weights (record { length = 7 + m.bytes; parts = parts; rules = m.rules; merges = k; sums = m.sums })) g ∙ ap mined_of (sym (e weights)))

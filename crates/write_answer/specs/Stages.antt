@@ -1,19 +1,20 @@
 -- The stages of mining: what each is handed of a policy, and what it leaves.
 -- Assumes nothing.
-use Rattle.std.specs.Prelude.{ℕ, ◌≤◌, leb, length, cond, List, [], ◌∷◌, ◌≡◌}
+use Rattle.std.specs.Prelude.{ℕ, ◌≤◌, leb, length, cond, List, Result, ◌≡◌}
 use Rattle.mine_distinct.specs.InsideValues.{distinct_in, having_in, inside_in}
-use Rattle.files.specs.Answer.{Answer, told, refused, accepted}
+use Rattle.files.specs.Answer.{Answer, map_answer, refused, accepted}
 use Rattle.files.specs.Beside.{shape_of}
-use Rattle.files.specs.Calls.{count_values, cuts_ok, least_scratch, mined_bytes, mine_answer, mine_output}
+use Rattle.files.specs.Calls.{cuts_ok, least_scratch, mined_bytes, mine_answer, mine_output}
+use Rattle.files.specs.Cause.{answer_of}
 use Rattle.files.specs.RoleFile.{read_roles}
+use Rattle.files.specs.declared.refusal.Refusal.{Refusal}
 use Rattle.role_record.specs.Record.{record_of}
 use Rattle.role_record.specs.declared.Sizes.{Sizes}
 use Rattle.rule_opening.specs.Opening.{shape_in}
 use Rattle.policy.specs.Policy.{Policy}
 use Rattle.policy.specs.declared.Weights.{Weights}
-use Rattle.write_answer.specs.declared.Wrote.{Wrote}
-use Rattle.write_answer.specs.declared.Wrote.TheVariants.{Nothing, Rules}
-use Rattle.write_cost.specs.CostSums.{weighed}
+use Rattle.write_answer.specs.MinedNumbers.{mined_of, weighed_by}
+use Rattle.write_answer.specs.declared.Written.{Written}
 use Rattle.grant_grids.specs.Links.{links_of}
 use Rattle.mine_groups.specs.Scratch.{Merged, all_parts}
 use Rattle.mine_matches.specs.Matches.{known_in, matches_in}
@@ -74,16 +75,11 @@ pub record WrittenBy (F : Policy) (cuts kept distinct having inside kinds permis
   pub of-operations : sizes.operations ≡ (record_of F).operations
   pub of-shape : shape_in sizes attributes ≡ shape_of F
 
--- what is told, by some weights, of what was written: a refusal's number; or 0, length, parts, rules and merges, and what the sums come to
-abbrev pub wrote_numbers : Weights → Wrote → List ℕ
-wrote_numbers weights (Nothing n) = n ∷ []
-wrote_numbers weights (Rules l p r m s) = 0 ∷ l ∷ p ∷ r ∷ m ∷ weighed weights s ∷ []
-
 -- what was written and the output, from the file, the cuts, the words of scratch and the former output: the answer by whatever weights
-abbrev pub Outcome : (file cuts : List ℕ) → ℕ → List ℕ → Wrote → List ℕ → Type 0
+abbrev pub Outcome : (file cuts : List ℕ) → ℕ → List ℕ → Result Written Refusal → List ℕ → Type 0
 Outcome file cuts scratch former r out =
-    ((weights : Weights) → wrote_numbers weights r ≡ told count_values (mine_answer 2 file cuts weights scratch (length former))) × (out ≡ mine_output 2 file cuts scratch former)
+    ((weights : Weights) → map_answer (weighed_by weights) (answer_of r) ≡ map_answer mined_of (mine_answer 2 file cuts weights scratch (length former))) × (out ≡ mine_output 2 file cuts scratch former)
 
 -- the same for every file that states a policy whose roles the cuts may part
-abbrev pub Result : Policy → (cuts former : List ℕ) → Wrote → List ℕ → Type 0
-Result F cuts former r out = (file : List ℕ) (n : ℕ) → least_scratch ≤ n → read_roles 2 file ≡ accepted F → Is (cuts_ok cuts F.roles) → Outcome file cuts n former r out
+abbrev pub OutcomeFor : Policy → (cuts former : List ℕ) → Result Written Refusal → List ℕ → Type 0
+OutcomeFor F cuts former r out = (file : List ℕ) (n : ℕ) → least_scratch ≤ n → read_roles 2 file ≡ accepted F → Is (cuts_ok cuts F.roles) → Outcome file cuts n former r out

@@ -31,11 +31,8 @@ pub fn put_atoms(kept: u64, out: &mut [u8]) -> usize
     ensures { (result ≡ length (atom_bytes_in kept)) × (out.new ≡ wrote (atom_bytes_in kept) out.old) }
 {
     let mut at: usize = 0;
-    let mut rest = write_places::atoms_kept(kept);
-    while 0 < rest {
-        let j = sets::least(rest);
+    for j in sets::members(write_places::atoms_kept(kept)) {
         at += put_atom(kept, j, &mut out[at..]);
-        rest = sets::without_least(rest);
     }
     at
 }

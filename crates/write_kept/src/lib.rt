@@ -1,9 +1,9 @@
 // The conditions that the rule of each group keeps.
 #![tactic(auto)]
 
-ghost use Rattle.std.specs.Prelude.{length, ◌≡◌, ◌≤◌, ◌<◌};
+ghost use Rattle.std.specs.Prelude.{◌≡◌, ◌≤◌, ◌<◌};
 ghost use Rattle.write_kept.specs.Kept.{kept_head, KeptTable};
-ghost use Rattle.mine_parts.specs.Layout.{most_parts, room_in};
+ghost use Rattle.mine_parts.specs.Layout.{room_in};
 
 use mine_parts::ByPart;
 use role_record::{ByPlace, ByPlaceMember, CountBySide, Links, Sizes};
@@ -33,29 +33,6 @@ fn kept_head<'a>(
     0
 }
 
-// Into a slice, since only a slice tells its length to a proof.
-fn fill_kept<'a>(
-    links: &'a Links,
-    matches: &'a ByPlaceMember,
-    knowing: &'a ByPlace,
-    attributes: &'a CountBySide,
-    sizes: Sizes,
-    scratch: &'a [u64],
-    parts: usize,
-    out: &mut [u64],
-)
-    requires { (sizes.users ≤ 64)
-        × (sizes.resources ≤ 64)
-        × (parts ≤ room_in scratch.now)
-        × (length out.old ≡ most_parts) }
-    ensures { KeptTable links.now matches.now knowing.now attributes.now
-        sizes.users sizes.resources sizes.operations parts scratch.now out.new }
-{
-    for i in 0..parts {
-        out[i] = kept_head(links, matches, knowing, attributes, sizes, scratch, i);
-    }
-}
-
 // The places that each rule keeps, whatever the table held: worked out once, for measuring and for writing.
 pub fn kept_places<'a>(
     links: &'a Links,
@@ -71,7 +48,7 @@ pub fn kept_places<'a>(
     ensures { KeptTable links.now matches.now knowing.now attributes.now
         sizes.users sizes.resources sizes.operations parts scratch.now out.new }
 {
-    fill_kept(
-        links, matches, knowing, attributes, sizes, scratch, parts, out,
-    );
+    for i in 0..parts {
+        out[i] = kept_head(links, matches, knowing, attributes, sizes, scratch, i);
+    }
 }

@@ -67,9 +67,7 @@ pub fn put_parts<'a>(
     let mut at: usize = 0;
     // One list for all roles, whatever it holds.
     let mut list = [0u64; RoleFile::MEMBERS];
-    let mut rest = rule.roles;
-    while 0 < rest {
-        let k = sets::least(rest);
+    for k in sets::members(rule.roles) {
         at += put_role(
             permissions,
             operations,
@@ -80,7 +78,6 @@ pub fn put_parts<'a>(
             &mut list,
             &mut out[at..],
         );
-        rest = sets::without_least(rest);
     }
     at
 }

@@ -1,7 +1,7 @@
 // The roles that have a part in each group, found in one pass over the parts in scratch memory.
 #![tactic(auto)]
 
-ghost use Rattle.std.specs.Prelude.{length, get_or, ◌≡◌, ℕ, ◌≤◌, ◌<◌};
+ghost use Rattle.std.specs.Prelude.{get_or, ◌≡◌, ℕ, ◌≤◌, ◌<◌};
 ghost use Rattle.mine_groups.specs.Scratch.{all_parts};
 ghost use Rattle.mine_parts.specs.Layout.{most_parts, room_in};
 ghost use Rattle.write_roles.specs.GroupRoles.{roles_before, RolesTable};
@@ -10,10 +10,9 @@ use mine_parts::{ByPart, Starts};
 use role_record::RoleFile;
 
 // The table of no role for so many groups, whatever it held.
-fn clear_roles(parts: usize, out: &mut [u64])
-    requires { parts ≤ length out.old }
-    ensures { (length out.new ≡ length out.old)
-        × ((i : ℕ) → i < parts → get_or out.new i 0 ≡ 0) }
+fn clear_roles(parts: usize, out: &mut ByPart)
+    requires { parts ≤ most_parts }
+    ensures { (i : ℕ) → i < parts → get_or out.new i 0 ≡ 0 }
 {
     for i in 0..parts {
         out[i] = 0;
@@ -21,9 +20,8 @@ fn clear_roles(parts: usize, out: &mut [u64])
 }
 
 // Joins the role of each part to those of its group.
-fn mark_roles(scratch: &[u64], parts: usize, out: &mut [u64])
+fn mark_roles(scratch: &[u64], parts: usize, out: &mut ByPart)
     requires { (parts ≤ room_in scratch.now)
-        × (parts ≤ length out.old)
         × ((i : ℕ) → i < parts → get_or out.old i 0 ≡ 0) }
     ensures { (i : ℕ) → i < parts → get_or out.new i 0 ≡ roles_before scratch.now parts i }
 {
@@ -35,20 +33,13 @@ fn mark_roles(scratch: &[u64], parts: usize, out: &mut [u64])
     }
 }
 
-// Into a slice, since only a slice tells its length to a proof.
-fn fill_roles(scratch: &[u64], parts: usize, out: &mut [u64])
-    requires { (parts ≤ room_in scratch.now) × (length out.old ≡ most_parts) }
-    ensures { (i : ℕ) → i < parts → get_or out.new i 0 ≡ roles_before scratch.now parts i }
-{
-    clear_roles(parts, out);
-    mark_roles(scratch, parts, out);
-}
-
 // The roles that have a part in each group, whatever the table held, found in one pass over the parts: so that writing and measuring look at
 // no others.
 pub fn roles_of_groups(scratch: &[u64], starts: &Starts, out: &mut ByPart)
     requires { all_parts starts.now ≤ room_in scratch.now }
     ensures { RolesTable starts.now scratch.now out.new }
 {
-    fill_roles(scratch, starts[RoleFile::ROLES], out);
+    let parts = starts[RoleFile::ROLES];
+    clear_roles(parts, out);
+    mark_roles(scratch, parts, out);
 }

@@ -146,11 +146,8 @@ fn count_parts<'a>(
         (up_to 32) }
 {
     let mut n: usize = 0;
-    let mut left = roles;
-    while 0 < left {
-        let role = sets::least(left);
+    for role in sets::members(roles) {
         n += write_parts::count_classes(permissions, operations, starts, scratch, head, role);
-        left = sets::without_least(left);
     }
     n
 }

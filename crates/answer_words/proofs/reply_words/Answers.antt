@@ -1,21 +1,20 @@
 -- Each answer's words are those of the definition. Assumes nothing.
-use mathlib.Core.Path.{sym, ap₂}
-use Rattle.answer_words.specs.AnswerWords.{reply_text, reply_words}
-use Rattle.answer_words.specs.AnswerWordLaws.{holds_same}
+use Rattle.std.proofs.Common.{Bool, sym, ap₂}
+use Rattle.answer_words.specs.AnswerWords.{bytes_of, reply_text}
 use Rattle.answer_words.proofs.reply_words.Goals as goal
 
-pub returns-then-granted : goal.returns-then-granted
-unfolding reply_words reply_text
-returns-then-granted c = holds_same (ap₂ reply_words (sym c.if-rules.true) (sym c.if-granted.true)) c.put.ensures
+pub returns-in-true-true : goal.returns-in-true-true
+unfolding reply_text
+returns-in-true-true c = ap₂ (λ (r g : Bool). bytes_of (reply_text r g)) (sym c.in-true-true.is-0) (sym c.in-true-true.is-1)
 
-pub returns-then-rules : goal.returns-then-rules
-unfolding reply_words reply_text
-returns-then-rules c = holds_same (ap₂ reply_words (sym c.if-rules.true) (sym c.if-granted.false)) c.put-then-rules.ensures
+pub returns-in-true-false : goal.returns-in-true-false
+unfolding reply_text
+returns-in-true-false c = ap₂ (λ (r g : Bool). bytes_of (reply_text r g)) (sym c.in-true-false.is-0) (sym c.in-true-false.is-1)
 
-pub returns-then-granted-2 : goal.returns-then-granted-2
-unfolding reply_words reply_text
-returns-then-granted-2 c = holds_same (ap₂ reply_words (sym c.if-rules.false) (sym c.if-granted-2.true)) c.put-then-granted-2.ensures
+pub returns-in-false-true : goal.returns-in-false-true
+unfolding reply_text
+returns-in-false-true c = ap₂ (λ (r g : Bool). bytes_of (reply_text r g)) (sym c.in-false-true.is-0) (sym c.in-false-true.is-1)
 
-pub returns : goal.returns
-unfolding reply_words reply_text
-returns c = holds_same (ap₂ reply_words (sym c.if-rules.false) (sym c.if-granted-2.false)) c.put-2.ensures
+pub returns-in-false-false : goal.returns-in-false-false
+unfolding reply_text
+returns-in-false-false c = ap₂ (λ (r g : Bool). bytes_of (reply_text r g)) (sym c.in-false-false.is-0) (sym c.in-false-false.is-1)

@@ -1,6 +1,5 @@
 -- Each arm adds up the values of its case. Assumes nothing.
-use mathlib.Core.List.{[]}
-use Rattle.std.proofs.Common.{◌≡◌, ℕ, ◌%◌, ◌^◌, ◌∷◌, refl, arith}
+use Rattle.std.proofs.Common.{◌≡◌, ℕ, ◌%◌, ◌^◌, [], ◌∷◌, arith}
 use Rattle.bench_denials.specs.DenialChecksum.{plus, weight_of}
 use Rattle.sets.specs.Tests.{sum}
 use Rattle.bench_denials.proofs.weight.Goals as goal
@@ -8,10 +7,10 @@ use Rattle.bench_denials.proofs.weight.Goals as goal
 two : (a b : ℕ) → plus a b ≡ sum (λ x. x) (a ∷ b ∷ []) % 2 ^ 64
 two a b = omega arith
 
-pub returns-in-Refused : goal.returns-in-Refused
+pub returns-in-Ok : goal.returns-in-Ok
 unfolding weight_of
-returns-in-Refused c = rw c.in-Refused.is refl
+returns-in-Ok c = rw c.in-Ok.is (two _ _)
 
-pub returns-in-Counted : goal.returns-in-Counted
+pub returns-in-Err : goal.returns-in-Err
 unfolding weight_of
-returns-in-Counted c = rw (c.in-Counted.is, c.wrapping_add_u64.ensures.value) (two _ _)
+returns-in-Err c = rw c.in-Err.is c.number.ensures

@@ -7,7 +7,7 @@ use Rattle.bench_judge.proofs.checksum.Goals as goal
 pub loop-turn-preserved : goal.loop-turn-preserved
 loop-turn-preserved c =
     let turn = c.loop-turn in
-    (search rules, rw add-one (c.wrapping_add_u64-sum.ensures.value ∙ ap₂ plus turn.invariant.1 c.sample.ensures))
+    (search rules, rw add-one (ap₂ plus turn.invariant.1 c.sample-sum.ensures))
 
 pub returns : goal.returns
 returns c =

@@ -13,11 +13,11 @@ loop-turn-preserved c =
     let cuts = a.cuts.now in
     let words = length a.scratch.now in
     let l = c.loop-turn in
-    let sampled = c.sample in
+    let sampled = c.sample-sum in
     let written = sampled.ensures.1 ∙ ap₂ (mine_output 2 file cuts) l.invariant.1 l.invariant.3 in
     let answered = ap₂ (λ (s o : ℕ). sample_of (told count_values (mine_answer 2 file cuts four_ones s o)) sampled.new.out l.turn) l.invariant.1 l.invariant.2 in
     let looked = ap (λ (m : List ℕ). sample_of (told count_values (mine_answer 2 file cuts four_ones words (length a.out.now))) m l.turn) written in
-    (search rules, search rules, search rules, rw add-one written, rw add-one (c.wrapping_add_u64-sum.ensures.value ∙ ap₂ plus l.invariant.4 (sampled.ensures.0 ∙ (answered ∙ looked))))
+    (search rules, search rules, search rules, rw add-one written, rw add-one (ap₂ plus l.invariant.4 (sampled.ensures.0 ∙ (answered ∙ looked))))
 
 pub returns : goal.returns
 returns c =

@@ -1,32 +1,8 @@
-use borrow.Author.Rules.{rules}
-use borrow.Author.Tests.{eq-eqb, ne_eqb}
-use mathlib.Core.Path.{refl, ◌∙◌}
-use native.Mathlib.Omega.{arith}
-use Rattle.sets.specs.LoopLaws.{turn-within}
+use Rattle.std.proofs.Common.{get_or, eqb, rules, tests, ◌∙◌, ◌+◌, ◌*◌}
 use Rattle.grant_joins.specs.Tables.{value_count}
-use Rattle.grant_joins.specs.LinkTurnLaws.{lowest-on, lowest-found, lowest-none}
-use Rattle.grant_joins.proofs.number.Invariants.{nobody}
+use Rattle.sets.specs.SearchLaws.{first_below}
 use Rattle.grant_joins.proofs.number.Goals as goal
 
-pub loop-k-init : goal.loop-k-init
-unfolding value_count
-loop-k-init c = (search rules, refl)
-
-pub returns-then-having-place-eq0 : goal.returns-then-having-place-eq0
-returns-then-having-place-eq0 c =
-    let turn = c.loop-k in
-    let a = c.args in
-    lowest-found (nobody a.having.now a.place) turn.k c.loop-k-test.true (eq-eqb _ _ c.if-having-place-eq0.true) ∙ turn.invariant.1
-
-pub loop-k-preserved : goal.loop-k-preserved
-loop-k-preserved c =
-    let turn = c.loop-k in
-    let a = c.args in
-    let within = c.loop-k-test.true in
-    (turn-within turn.k 64 within, lowest-on (nobody a.having.now a.place) turn.k within (ne_eqb _ _ c.if-having-place-eq0.false) ∙ turn.invariant.1)
-
 pub returns : goal.returns
-returns c =
-    let end = c.loop-k in
-    let a = c.args in
-    lowest-none (nobody a.having.now a.place) end.k (omega arith) ∙ end.invariant.1
+unfolding value_count
+returns c = c.unwrap_or.ensures ∙ first_below (λ k. eqb (get_or c.args.having.now (64 * c.args.place + k) 0) 0) c.position.ensures.ran (λ x b q k. search (rules, tests))

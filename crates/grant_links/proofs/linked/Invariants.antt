@@ -11,8 +11,5 @@ use Rattle.grant_links.proofs.linked.Given as goal
 abbrev pub word : List ℕ → ℕ → ℕ → ℕ
 word links user i = get_or links (64 * i + user) 0
 
-abbrev pub invariant-loop-rest : goal.invariant-loop-rest
-invariant-loop-rest l = (l.m < 2 ^ 64) × (l.rest < 2 ^ 64) × ((i : ℕ) → Is (bit l.rest i) → i < 36) × (mask_of 64 (narrowing l.m (bit l.rest) (word l.links l.user) 36) ≡ linked_with l.links l.atoms l.user l.among)
-
-abbrev pub decreases-loop-rest : goal.decreases-loop-rest
-decreases-loop-rest l = l.rest
+abbrev pub invariant-loop-i : goal.invariant-loop-i
+invariant-loop-i l = (l.m < 2 ^ 64) × (l.i-iterator.rest < 2 ^ 64) × ((i : ℕ) → Is (bit l.i-iterator.rest i) → i < 36) × (mask_of 64 (narrowing l.m (bit l.i-iterator.rest) (word l.links l.user) 36) ≡ linked_with l.links l.atoms l.user l.among)

@@ -10,7 +10,7 @@ use Rattle.grant_tables.proofs.link_atom.Goals as goal
 pub loop-k-init : goal.loop-k-init
 loop-k-init c =
     let a = c.args in
-    (search rules, looked-most a.having.now a.domains.now (a.atom / 6) (a.atom % 6) _ c.looked_at-count.ensures, search rules, refl)
+    (search rules, looked-most a.having.now a.domains.now (a.atom / 6) (a.atom % 6) _ c.looked_at-count.ensures, c.told-out, refl)
 
 pub loop-k-preserved : goal.loop-k-preserved
 loop-k-preserved c =

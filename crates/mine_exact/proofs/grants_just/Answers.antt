@@ -1,12 +1,6 @@
 -- Assumes nothing.
-use mathlib.Core.Path.{sym, ap, ◌∙◌}
-use Rattle.grant_grids.specs.Grid.{is_same}
+use Rattle.grant_grids.proofs.GridLaws.{told_same}
 use Rattle.mine_exact.proofs.grants_just.Goals as goal
 
-pub returns-in-Same : goal.returns-in-Same
-unfolding is_same
-returns-in-Same c = ap is_same (sym c.in-Same.is ∙ c.first_beyond-difference.ensures)
-
-pub returns-in-At : goal.returns-in-At
-unfolding is_same
-returns-in-At c = ap is_same (sym c.in-At.is ∙ c.first_beyond-difference.ensures)
+pub returns : goal.returns
+returns c = told_same c.first_beyond.result c.is_none.result c.is_none.ensures c.first_beyond.ensures

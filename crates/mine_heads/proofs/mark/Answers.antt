@@ -22,10 +22,7 @@ loop-word-preserved c =
           (omega (arith, turn.invariant.1, c.loop-word-test.true)),
     )
 
-pub shape_of-heads : goal.shape_of-heads
-shape_of-heads c = c.loop-word.invariant.1 ∙ sym c.requires.0
-
 pub returns : goal.returns
 returns c =
     let l = c.loop-word in
-    marks-made c.args.window.first c.args.window.end (omega (arith, c.requires.1)) c.args.scratch.now l.heads l.invariant.1 (λ w b. l.invariant.2 w (omega (arith, c.loop-word-test.false)))
+    marks-made c.args.window.first c.args.window.end (omega (arith, c.requires)) c.args.scratch.now l.heads l.invariant.1 (λ w b. l.invariant.2 w (omega (arith, c.loop-word-test.false)))

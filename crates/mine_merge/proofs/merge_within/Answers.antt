@@ -6,7 +6,7 @@ use Rattle.mine_merge.proofs.ProgressLaws.{stage_begun, stage_ended}
 use Rattle.mine_merge.proofs.merge_within.Goals as goal
 
 pub mark-requires : goal.mark-requires
-mark-requires c = (search rules, c.requires.3)
+mark-requires c = c.requires.3
 
 pub loop-front-init : goal.loop-front-init
 loop-front-init c = let a = c.args in (omega arith, refl, omega arith, c.mark.ensures, (λ F Z P parts old l T. stage_begun F parts a.window.first a.window.end old l T), λ i. refl)

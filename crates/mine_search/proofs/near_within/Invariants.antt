@@ -1,4 +1,4 @@
--- The invariant: the parts that are left give the same answer as all that were asked for. What is left falls. Assumes nothing.
+-- The invariant: the parts that are left give the same answer as all that were asked for. Assumes nothing.
 use Prim.Native.Nat.{ℕ, ◌^◌, ◌<◌}
 use Rattle.sets.specs.Sets.{bit}
 use Rattle.sets.specs.Tests.{Is}
@@ -6,8 +6,5 @@ use Rattle.mine_search.specs.PartnerSearchLaws.{LeftOf}
 use Rattle.mine_corners.specs.Pairing.{words_in}
 use Rattle.mine_search.proofs.near_within.Given as goal
 
-abbrev pub invariant-loop-rest : goal.invariant-loop-rest
-invariant-loop-rest l = (l.rest < 2 ^ 64) × LeftOf l.scratch (words_in l.g) l.word l.marked l.rest × ((k : ℕ) → Is (bit l.rest k) → Is (bit l.marked k))
-
-abbrev pub decreases-loop-rest : goal.decreases-loop-rest
-decreases-loop-rest l = l.rest
+abbrev pub invariant-loop-i : goal.invariant-loop-i
+invariant-loop-i l = (l.i-iterator.rest < 2 ^ 64) × LeftOf l.scratch (words_in l.g) l.word l.marked l.i-iterator.rest × ((k : ℕ) → Is (bit l.i-iterator.rest k) → Is (bit l.marked k))

@@ -11,7 +11,7 @@ use Rattle.mine_tables.proofs.match_place.Goals as goal
 pub loop-k-init : goal.loop-k-init
 loop-k-init c =
     let a = c.args in
-    (search rules, number-most a.having.now a.place _ c.number-count.ensures, search rules, refl)
+    (search rules, number-most a.having.now a.place _ c.number-count.ensures, c.told-out, refl)
 
 pub loop-k-preserved : goal.loop-k-preserved
 loop-k-preserved c =

@@ -1,35 +1,26 @@
 use borrow.Author.Rules.{rules}
 use mathlib.Core.Path.{refl, sym, ap, ◌∙◌}
-use native.Mathlib.Omega.{arith}
-use Rattle.sets.specs.Sets.{less_one}
-use Rattle.sets.specs.MemberLaws.{least_in, less-less}
+use Rattle.sets.specs.declared.Ascending.{Ascending}
 use Rattle.mine_corners.specs.Pairing.{words_in}
 use Rattle.mine_rows.specs.KeptPlaces.{present_places, met_places}
 use Rattle.mine_present.specs.PlaceLaws.{thin-end}
 use Rattle.mine_thin.specs.PlaceVisitLaws.{present_low, visit_begin, visit_turn, visit_done}
 use Rattle.mine_thin.proofs.kept_places.Goals as goal
 
-pub loop-rest-init : goal.loop-rest-init
-loop-rest-init c =
+pub loop-place-init : goal.loop-place-init
+loop-place-init c =
     let a = c.args in
-    (search rules, visit_begin a.links.now _ a.sizes.users a.sizes.resources a.sizes.operations (words_in a.g) (present_places a.knowing.now a.attributes.now (words_in a.g) a.level) _ c.present-kept.ensures)
+    let r = ap (λ (s : Ascending). s.rest) c.into_iter-place-iterator.ensures.into_iter_gives ∙ c.members-place-items.ensures in
+    (search rules, visit_begin a.links.now _ a.sizes.users a.sizes.resources a.sizes.operations (words_in a.g) (present_places a.knowing.now a.attributes.now (words_in a.g) a.level) _ _ r c.present-kept.ensures)
 
-pub loop-rest-smaller : goal.loop-rest-smaller
-loop-rest-smaller c =
-    let turn = c.loop-rest in
-    let t = least_in turn.rest turn.invariant.0 _ c.least.ensures c.loop-rest-test.true in
-    let l = less-less turn.rest turn.invariant.0 _ t.1 in
-    let e = c.without_least-rest.ensures ∙ ap (less_one turn.rest) (sym c.least.ensures) in
-    omega arith
-
-pub loop-rest-preserved : goal.loop-rest-preserved
-loop-rest-preserved c =
-    let turn = c.loop-rest in
+pub loop-place-preserved : goal.loop-place-preserved
+loop-place-preserved c =
+    let turn = c.loop-place in
     let a = c.args in
-    let t = least_in turn.rest turn.invariant.0 _ c.least.ensures c.loop-rest-test.true in (
+    let t = c.in-Some.ensures.steps in (
       search rules,
-      visit_turn a.links.now _ a.sizes.users a.sizes.resources a.sizes.operations (words_in a.g) (present_places a.knowing.now a.attributes.now (words_in a.g) a.level) turn.rest turn.kept turn.invariant.1 c.least.result _ _
-          (present_low a.knowing.now a.attributes.now (words_in a.g) a.level) turn.invariant.0 c.least.ensures t.1 (c.without_least-rest.ensures ∙ ap (less_one turn.rest) (sym c.least.ensures)) c.thinned-kept.ensures,
+      visit_turn a.links.now _ a.sizes.users a.sizes.resources a.sizes.operations (words_in a.g) (present_places a.knowing.now a.attributes.now (words_in a.g) a.level) turn.place-iterator.rest turn.kept turn.invariant.1 c.in-Some.place _ _
+          (present_low a.knowing.now a.attributes.now (words_in a.g) a.level) turn.invariant.0 t.least t.member t.others c.thinned-kept.ensures,
     )
 
 pub returns : goal.returns
@@ -37,5 +28,5 @@ returns c =
     let a = c.args in
     thin-end a.links.now a.matches.now a.knowing.now a.attributes.now _ a.sizes.users a.sizes.resources a.sizes.operations (words_in a.g) a.level 50
     (c.met_places.ensures ∙ ap (met_places a.matches.now (words_in a.g)) c.present-kept.ensures)
-    (visit_done a.links.now _ a.sizes.users a.sizes.resources a.sizes.operations (words_in a.g) (present_places a.knowing.now a.attributes.now (words_in a.g) a.level) c.loop-rest.rest c.loop-rest.kept c.loop-rest.invariant.1 (omega arith))
+    (visit_done a.links.now _ a.sizes.users a.sizes.resources a.sizes.operations (words_in a.g) (present_places a.knowing.now a.attributes.now (words_in a.g) a.level) c.loop-place.place-iterator.rest c.loop-place.kept c.loop-place.invariant.1 c.in-None.ensures.steps.0)
     refl

@@ -1,4 +1,4 @@
--- The invariant: those found, and those left that pass, are the answer. What is left falls. Assumes nothing.
+-- The invariant: those found, and those left that pass, are the answer. Assumes nothing.
 use Prim.Native.Nat.{ℕ, ◌+◌, ◌*◌, ◌^◌, ◌<◌}
 use lib.ListN.{get_or}
 use mathlib.Core.Bool.{Bool}
@@ -12,8 +12,5 @@ use Rattle.mine_words.proofs.true_of_user.Given as goal
 abbrev pub joined : List ℕ → ℕ → ℕ → ℕ → Bool
 joined links user resources i = subset resources (get_or links (64 * i + user) 0)
 
-abbrev pub invariant-loop-rest : goal.invariant-loop-rest
-invariant-loop-rest l = (l.m < 2 ^ 64) × (l.rest < 2 ^ 36) × (mask_of 64 (keeping (joined l.links l.user l.resources) l.m l.rest) ≡ true_of_user l.links l.atoms l.user l.resources)
-
-abbrev pub decreases-loop-rest : goal.decreases-loop-rest
-decreases-loop-rest l = l.rest
+abbrev pub invariant-loop-i : goal.invariant-loop-i
+invariant-loop-i l = (l.m < 2 ^ 64) × (l.i-iterator.rest < 2 ^ 36) × (mask_of 64 (keeping (joined l.links l.user l.resources) l.m l.i-iterator.rest) ≡ true_of_user l.links l.atoms l.user l.resources)

@@ -1,4 +1,4 @@
--- The invariant: what the roles that are left are permitted, joined to what is found, gives the answer. The roles left fall. Assumes nothing.
+-- The invariant: what the roles that are left are permitted, joined to what is found, gives the answer.
 use Prim.Native.Nat.{ℕ, ◌^◌, ◌<◌}
 use lib.ListN.{get_or}
 use mathlib.Core.List.{List}
@@ -11,8 +11,5 @@ use Rattle.right_words.proofs.permitted.Given as goal
 abbrev pub own : List ℕ → ℕ → ℕ → ℕ
 own permissions o k = get_or permissions (permission_at k o) 0
 
-abbrev pub invariant-loop-rest : goal.invariant-loop-rest
-invariant-loop-rest l = (l.all < 2 ^ 64) × (l.rest < 2 ^ 32) × (mask_of 64 (joining l.all (bit l.rest) (own l.permissions l.operation) 64) ≡ permitted_by l.held l.permissions l.operation)
-
-abbrev pub decreases-loop-rest : goal.decreases-loop-rest
-decreases-loop-rest l = l.rest
+abbrev pub invariant-loop-k : goal.invariant-loop-k
+invariant-loop-k l = (l.all < 2 ^ 64) × (l.k-iterator.rest < 2 ^ 32) × (mask_of 64 (joining l.all (bit l.k-iterator.rest) (own l.permissions l.operation) 64) ≡ permitted_by l.fn.held l.permissions l.operation)

@@ -1,19 +1,20 @@
-use borrow.Author.Tests.{lt-ltb, le-ltb}
-use Rattle.role_admit.specs.Admit.{kind_code}
+use mathlib.Core.Path.{refl}
+use Rattle.std.proofs.lemmas.Result.{err_from_is_err_and}
+use Rattle.role_admit.specs.Admit.{kind_admitted}
 use Rattle.role_admit.proofs.admit_kind.Goals as goal
 
-pub returns-then-side-ge-SIDES : goal.returns-then-side-ge-SIDES
-unfolding kind_code
-returns-then-side-ge-SIDES c = simp (le-ltb _ _ c.if-side-ge-SIDES.true)
+pub returns-in_err-below : goal.returns-in_err-below
+unfolding kind_admitted
+returns-in_err-below c =
+    let p = err_from_is_err_and c.from_residual.result c.from_residual.ensures.1 in
+    rw (p.1, p.2, ← c.in_err-below.ensures) refl
 
-pub returns-then-kind-ge-KINDS : goal.returns-then-kind-ge-KINDS
-unfolding kind_code
-returns-then-kind-ge-KINDS c = simp (lt-ltb _ _ c.if-side-ge-SIDES.false, le-ltb _ _ c.if-kind-ge-KINDS.true)
-
-pub returns-then-attributes-side-ge-ATTRIBUTES : goal.returns-then-attributes-side-ge-ATTRIBUTES
-unfolding kind_code
-returns-then-attributes-side-ge-ATTRIBUTES c = simp (lt-ltb _ _ c.if-side-ge-SIDES.false, lt-ltb _ _ c.if-kind-ge-KINDS.false, le-ltb _ _ c.if-attributes-side-ge-ATTRIBUTES.true)
+pub returns-in_err-below-2 : goal.returns-in_err-below-2
+unfolding kind_admitted
+returns-in_err-below-2 c =
+    let p = err_from_is_err_and c.from_residual-in_err-below-2.result c.from_residual-in_err-below-2.ensures.1 in
+    rw (p.1, p.2, ← c.in_ok-below.ensures, ← c.in_err-below-2.ensures) refl
 
 pub returns : goal.returns
-unfolding kind_code
-returns c = simp (lt-ltb _ _ c.if-side-ge-SIDES.false, lt-ltb _ _ c.if-kind-ge-KINDS.false, lt-ltb _ _ c.if-attributes-side-ge-ATTRIBUTES.false)
+unfolding kind_admitted
+returns c = rw (c.below-3.ensures, ← c.in_ok-below.ensures, ← c.in_ok-below-2.ensures) refl

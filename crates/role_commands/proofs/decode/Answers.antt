@@ -1,28 +1,27 @@
-use borrow.Author.Tests.{eq-eqb, ne_eqb, lt-ltb, le-ltb}
-use mathlib.Core.Path.{◌≡◌, ◌∙◌, ap}
+use borrow.Author.Tests.{lt-ltb, le-ltb}
+use mathlib.Core.Path.{◌≡◌, refl, sym, ap, ◌∙◌}
 use Rattle.file_bytes.specs.Numbers.{number_at}
 use Rattle.role_commands.specs.Decode.{decoded_of, width_of}
 use Rattle.role_commands.proofs.decode.Goals as goal
+use Rattle.role_commands.proofs.decode.Goals.{After-width}
 
-pub returns-then-s-eq0 : goal.returns-then-s-eq0
-unfolding decoded_of
-returns-then-s-eq0 c = simp (eq-eqb _ _ c.if-s-eq0.true)
+-- the first byte is asked for its width
+front : (c : After-width) → width_of (number_at 1 c.args.s.now 0) ≡ c.width.result
+front c = ap width_of (sym c.byte_at-b.ensures.0) ∙ sym c.width.ensures
 
-pub returns-then-w-eq0 : goal.returns-then-w-eq0
+pub returns-then-is_empty : goal.returns-then-is_empty
 unfolding decoded_of
-returns-then-w-eq0 c =
-    let front : c.width-w.result ≡ width_of (number_at 1 c.args.s.now 0) = c.width-w.ensures ∙ ap width_of c.byte_at-b.ensures.0 in
-    rw (← front) (simp (ne_eqb _ _ c.if-s-eq0.false, eq-eqb _ _ c.if-w-eq0.true))
+returns-then-is_empty c = rw (sym c.is_empty.ensures ∙ c.if-is_empty.true) refl
+
+pub returns-in_default : goal.returns-in_default
+unfolding decoded_of
+returns-in_default c = rw (sym c.is_empty.ensures ∙ c.if-is_empty.false, front (goal.at.returns-in_default c).After-width, c.in_default.is) refl
 
 pub returns-then-s-w : goal.returns-then-s-w
 unfolding decoded_of
-returns-then-s-w c =
-    let front : c.width-w.result ≡ width_of (number_at 1 c.args.s.now 0) = c.width-w.ensures ∙ ap width_of c.byte_at-b.ensures.0 in
-    rw (← front) (simp (ne_eqb _ _ c.if-s-eq0.false, ne_eqb _ _ c.if-w-eq0.false, lt-ltb _ _ c.if-s-w.true))
+returns-then-s-w c = rw (sym c.is_empty.ensures ∙ c.if-is_empty.false, front (goal.at.returns-then-s-w c).After-width, c.in-Some.is, lt-ltb _ _ c.if-s-w.true) refl
 
 pub returns : goal.returns
 unfolding decoded_of
 returns c =
-    let front : c.width-w.result ≡ width_of (number_at 1 c.args.s.now 0) = c.width-w.ensures ∙ ap width_of c.byte_at-b.ensures.0 in
-    rw (c.operands-c.ensures, ← front, c.byte_at-b.ensures.0)
-    (simp (ne_eqb _ _ c.if-s-eq0.false, ne_eqb _ _ c.if-w-eq0.false, le-ltb _ _ c.if-s-w.false))
+    rw (c.operands.ensures, c.byte_at-b.ensures.0, sym c.is_empty.ensures ∙ c.if-is_empty.false, front (goal.at.returns c).After-width, c.in-Some.is, le-ltb _ _ c.if-s-w.false) refl

@@ -13,11 +13,11 @@ returns-in-2 c = rw (c.in-2.is, c.byte_at-in-2-2.ensures.0, c.byte_at-in-2.ensur
 
 pub returns-in-3 : goal.returns-in-3
 unfolding command_by
-returns-in-3 c = rw (c.in-3.is, c.pair.ensures, c.byte_at-in-3-3.ensures.0, c.byte_at-in-3-2.ensures.0, c.byte_at-in-3.ensures.0) refl
+returns-in-3 c = rw (c.in-3.is, c.number.ensures, c.byte_at-in-3-3.ensures.0, c.byte_at-in-3-2.ensures.0, c.byte_at-in-3.ensures.0) refl
 
 pub returns-in-4 : goal.returns-in-4
 unfolding command_by
-returns-in-4 c = rw (c.in-4.is, c.word.ensures, c.byte_at-in-4-3.ensures.0, c.byte_at-in-4-2.ensures.0, c.byte_at-in-4.ensures.0) refl
+returns-in-4 c = rw (c.in-4.is, c.number-in-4.ensures, c.byte_at-in-4-3.ensures.0, c.byte_at-in-4-2.ensures.0, c.byte_at-in-4.ensures.0) refl
 
 pub returns-in-5 : goal.returns-in-5
 unfolding command_by

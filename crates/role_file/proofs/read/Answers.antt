@@ -1,13 +1,8 @@
-use borrow.Author.Rules.{rules}
-use mathlib.Core.Path.{◌∙◌}
+use mathlib.Core.Path.{ap}
+use Rattle.files.specs.Answer.{map_answer}
+use Rattle.role_record.specs.Record.{record_of}
 use Rattle.role_file.specs.RoleStateLaws.{too_long_lem}
 use Rattle.role_file.proofs.read.Goals as goal
 
 pub returns-then-s-gt-BYTES : goal.returns-then-s-gt-BYTES
-returns-then-s-gt-BYTES c = c.refuse.ensures ∙ too_long_lem _ c.if-s-gt-BYTES.true
-
-pub read_commands-requires : goal.read_commands-requires
-read_commands-requires c = (search rules, search rules)
-
-pub returns : goal.returns
-returns c = c.read_commands.ensures
+returns-then-s-gt-BYTES c = ap (map_answer record_of) (too_long_lem _ c.if-s-gt-BYTES.true)

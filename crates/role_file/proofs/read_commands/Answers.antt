@@ -1,149 +1,80 @@
+use borrow.Author.Tests.{eqb-true}
 use lib.ListN.{length, length-drop}
 use mathlib.Core.List.{List}
 use mathlib.Core.Path.{◌≡◌, sym, ap, ◌∙◌, subst}
+use Rattle.std.proofs.lemmas.Bool.{true≢false}
 use native.Mathlib.Omega.{arith}
 use Prim.Native.Nat.{ℕ, ◌≤◌, ◌<◌}
-use Rattle.role_commands.specs.declared.Command.{Command}
-use Rattle.role_record.specs.Record.{empty_record}
+use Rattle.std.proofs.lemmas.Result.{err_from_is_err_and}
+use Rattle.files.specs.Answer.{map_answer}
+use Rattle.files.specs.RoleFile.{read_roles}
+use Rattle.role_record.specs.Record.{record_of}
 use Rattle.role_record.specs.declared.RoleFile.{RoleFile}
-use Rattle.role_record.specs.declared.Sizes.{Sizes as Counts}
-use Rattle.role_store.specs.Storing.{tabled, with_sizes}
-use Rattle.role_next.specs.Taking.{next_of}
+use Rattle.role_admit.specs.declared.phase.Phase.TheVariants.{Nothing}
 use Rattle.role_file.specs.Reading.{settled_of}
 use Rattle.role_file.specs.SettleLaws.{settled}
-use Rattle.role_file.specs.RoleStateLaws.{State, Ended, begin, tail, few-attributes, few-roles, next-stops, next-some, next-inside, next-bounded, next-reached}
-use Rattle.role_next.specs.TakenLaws.{sizes_at}
-use Rattle.role_next.specs.declared.Taken.TheVariants.{Obeyed}
+use Rattle.role_file.specs.RoleStateLaws.{State, begin, tail, few-attributes, few-roles, next-stops, next-some, next-inside, next-bounded, next-reached}
 use Rattle.role_file.proofs.read_commands.Goals as goal
+use Rattle.role_file.proofs.read_commands.Goals.{In_ok-c, After-settle}
 
 pub loop-phase-init : goal.loop-phase-init
-unfolding empty_record
-loop-phase-init c = (λ z. absurd (omega arith), λ z. begin _ c.requires.0)
+loop-phase-init c =
+    let source : List ℕ = c.args.s.now in
+    (λ z. absurd (true≢false (sym z)), λ z. subst (λ (f : RoleFile). State source source f Nothing) (sym c.empty-f.ensures) (begin source c.requires))
 
 pub next-requires : goal.next-requires
-next-requires c =
-    let left : List ℕ = c.loop-phase.rest.now in
-    let sizes : Counts = c.args.sizes in
-    let tables : RoleFile = tabled c.loop-phase.attributes c.loop-phase.kinds c.loop-phase.domains c.loop-phase.known c.loop-phase.values c.loop-phase.assigned c.loop-phase.lines c.loop-phase.permissions in
-    let source : List ℕ = c.args.s.now in
-    let state : State source left (with_sizes tables (sizes_at c.loop-phase.phase sizes)) c.loop-phase.phase = c.loop-phase.invariant.1 c.loop-phase-test.true in
-    few-attributes _ _ _ _ state
+next-requires c = few-attributes _ _ _ _ (c.loop-phase.invariant.1 (sym c.is_over.ensures ∙ c.loop-phase-test.true))
 
-pub returns-in-Refused : goal.returns-in-Refused
-returns-in-Refused c =
-    let left : List ℕ = c.loop-phase.rest.now in
-    let sizes : Counts = c.args.sizes in
-    let tables : RoleFile = tabled c.loop-phase.attributes c.loop-phase.kinds c.loop-phase.domains c.loop-phase.known c.loop-phase.values c.loop-phase.assigned c.loop-phase.lines c.loop-phase.permissions in
-    let source : List ℕ = c.args.s.now in
-    let state : State source left (with_sizes tables (sizes_at c.loop-phase.phase sizes)) c.loop-phase.phase = c.loop-phase.invariant.1 c.loop-phase-test.true in
-    c.refuse.ensures
-    ∙ next-stops source left tables sizes c.loop-phase.phase c.requires.1 state _ (sym c.next.ensures ∙ c.in-Refused.is)
+pub returns-in_err-c : goal.returns-in_err-c
+returns-in_err-c c =
+    let p = err_from_is_err_and c.from_residual.result c.from_residual.ensures.1 in
+    let state = c.loop-phase.invariant.1 (sym c.is_over.ensures ∙ c.loop-phase-test.true) in
+    rw (p.1, p.2) (ap (map_answer record_of) (next-stops _ _ _ _ state _ (sym c.in_err-c.ensures)))
 
 pub store-phase-requires : goal.store-phase-requires
 store-phase-requires c =
-    let left : List ℕ = c.loop-phase.rest.now in
-    let width : ℕ = c.in-Obeyed.w in
-    let sizes : Counts = c.args.sizes in
-    let command : Command = c.in-Obeyed.c in
-    let tables : RoleFile = tabled c.loop-phase.attributes c.loop-phase.kinds c.loop-phase.domains c.loop-phase.known c.loop-phase.values c.loop-phase.assigned c.loop-phase.lines c.loop-phase.permissions in
-    let source : List ℕ = c.args.s.now in
-    let obeyed : next_of left c.loop-phase.phase sizes c.loop-phase.attributes c.loop-phase.kinds c.loop-phase.known ≡ Obeyed command width = sym c.next.ensures ∙ c.in-Obeyed.is in
-    let state : State source left (with_sizes tables (sizes_at c.loop-phase.phase sizes)) c.loop-phase.phase = c.loop-phase.invariant.1 c.loop-phase-test.true in
-    next-bounded source left tables sizes c.loop-phase.phase c.requires.1 state command width obeyed
+    next-bounded _ _ _ _ (c.loop-phase.invariant.1 (sym c.is_over.ensures ∙ c.loop-phase-test.true)) _ _ (sym c.in_ok-c.ensures)
+
+-- a command takes some bytes, and not more than are left
+inside : (c : In_ok-c) → c.in_ok-c.w ≤ length c.loop-phase.rest.now
+inside c = next-inside _ _ _ _ (c.loop-phase.invariant.1 (sym c.is_over.ensures ∙ c.loop-phase-test.true)) _ _ (sym c.in_ok-c.ensures)
+
+some : (c : In_ok-c) → 0 < c.in_ok-c.w
+some c = next-some _ _ _ _ (c.loop-phase.invariant.1 (sym c.is_over.ensures ∙ c.loop-phase-test.true)) _ _ (sym c.in_ok-c.ensures)
 
 pub slice_bounds-rest-count : goal.slice_bounds-rest-count
-slice_bounds-rest-count c =
-    let left : List ℕ = c.loop-phase.rest.now in
-    let width : ℕ = c.in-Obeyed.w in
-    let sizes : Counts = c.args.sizes in
-    let command : Command = c.in-Obeyed.c in
-    let tables : RoleFile = tabled c.loop-phase.attributes c.loop-phase.kinds c.loop-phase.domains c.loop-phase.known c.loop-phase.values c.loop-phase.assigned c.loop-phase.lines c.loop-phase.permissions in
-    let source : List ℕ = c.args.s.now in
-    let obeyed : next_of left c.loop-phase.phase sizes c.loop-phase.attributes c.loop-phase.kinds c.loop-phase.known ≡ Obeyed command width = sym c.next.ensures ∙ c.in-Obeyed.is in
-    let state : State source left (with_sizes tables (sizes_at c.loop-phase.phase sizes)) c.loop-phase.phase = c.loop-phase.invariant.1 c.loop-phase-test.true in
-    let inside : width ≤ length left = next-inside source left tables sizes c.loop-phase.phase c.requires.1 state command width obeyed in
-    let h = inside in omega arith
+slice_bounds-rest-count c = inside (goal.at.slice_bounds-rest-count c).In_ok-c
 
 pub slice_bounds-rest-start : goal.slice_bounds-rest-start
-slice_bounds-rest-start c =
-    let left : List ℕ = c.loop-phase.rest.now in
-    let width : ℕ = c.in-Obeyed.w in
-    let sizes : Counts = c.args.sizes in
-    let command : Command = c.in-Obeyed.c in
-    let tables : RoleFile = tabled c.loop-phase.attributes c.loop-phase.kinds c.loop-phase.domains c.loop-phase.known c.loop-phase.values c.loop-phase.assigned c.loop-phase.lines c.loop-phase.permissions in
-    let source : List ℕ = c.args.s.now in
-    let obeyed : next_of left c.loop-phase.phase sizes c.loop-phase.attributes c.loop-phase.kinds c.loop-phase.known ≡ Obeyed command width = sym c.next.ensures ∙ c.in-Obeyed.is in
-    let state : State source left (with_sizes tables (sizes_at c.loop-phase.phase sizes)) c.loop-phase.phase = c.loop-phase.invariant.1 c.loop-phase-test.true in
-    let inside : width ≤ length left = next-inside source left tables sizes c.loop-phase.phase c.requires.1 state command width obeyed in
-    let h = inside in omega arith
-
-pub slice_bounds-rest-end : goal.slice_bounds-rest-end
-slice_bounds-rest-end c =
-    let left : List ℕ = c.loop-phase.rest.now in
-    let width : ℕ = c.in-Obeyed.w in
-    let sizes : Counts = c.args.sizes in
-    let command : Command = c.in-Obeyed.c in
-    let tables : RoleFile = tabled c.loop-phase.attributes c.loop-phase.kinds c.loop-phase.domains c.loop-phase.known c.loop-phase.values c.loop-phase.assigned c.loop-phase.lines c.loop-phase.permissions in
-    let source : List ℕ = c.args.s.now in
-    let obeyed : next_of left c.loop-phase.phase sizes c.loop-phase.attributes c.loop-phase.kinds c.loop-phase.known ≡ Obeyed command width = sym c.next.ensures ∙ c.in-Obeyed.is in
-    let state : State source left (with_sizes tables (sizes_at c.loop-phase.phase sizes)) c.loop-phase.phase = c.loop-phase.invariant.1 c.loop-phase-test.true in
-    let inside : width ≤ length left = next-inside source left tables sizes c.loop-phase.phase c.requires.1 state command width obeyed in
-    let h = inside in omega arith
+slice_bounds-rest-start c = let h = inside (goal.at.slice_bounds-rest-start c).In_ok-c in omega arith
 
 pub loop-phase-smaller : goal.loop-phase-smaller
 loop-phase-smaller c =
-    let left : List ℕ = c.loop-phase.rest.now in
-    let width : ℕ = c.in-Obeyed.w in
-    let sizes : Counts = c.args.sizes in
-    let command : Command = c.in-Obeyed.c in
-    let tables : RoleFile = tabled c.loop-phase.attributes c.loop-phase.kinds c.loop-phase.domains c.loop-phase.known c.loop-phase.values c.loop-phase.assigned c.loop-phase.lines c.loop-phase.permissions in
-    let source : List ℕ = c.args.s.now in
-    let obeyed : next_of left c.loop-phase.phase sizes c.loop-phase.attributes c.loop-phase.kinds c.loop-phase.known ≡ Obeyed command width = sym c.next.ensures ∙ c.in-Obeyed.is in
-    let state : State source left (with_sizes tables (sizes_at c.loop-phase.phase sizes)) c.loop-phase.phase = c.loop-phase.invariant.1 c.loop-phase-test.true in
-    let some : 0 < width = next-some source left tables sizes c.loop-phase.phase c.requires.1 state command width obeyed in
-    let inside : width ≤ length left = next-inside source left tables sizes c.loop-phase.phase c.requires.1 state command width obeyed in
-    let a = some in
-    let b = inside in
-    let d = length-drop width left in
-    let e = ap length (tail width left) in
+    let a = some (goal.at.loop-phase-smaller c).In_ok-c in
+    let b = inside (goal.at.loop-phase-smaller c).In_ok-c in
+    let d = length-drop c.in_ok-c.w c.loop-phase.rest.now in
+    let e = ap length (tail c.in_ok-c.w c.loop-phase.rest.now) in
     omega arith
 
 pub loop-phase-preserved : goal.loop-phase-preserved
 loop-phase-preserved c =
-    let left : List ℕ = c.loop-phase.rest.now in
-    let width : ℕ = c.in-Obeyed.w in
-    let sizes : Counts = c.args.sizes in
-    let command : Command = c.in-Obeyed.c in
-    let tables : RoleFile = tabled c.loop-phase.attributes c.loop-phase.kinds c.loop-phase.domains c.loop-phase.known c.loop-phase.values c.loop-phase.assigned c.loop-phase.lines c.loop-phase.permissions in
-    let source : List ℕ = c.args.s.now in
-    let obeyed : next_of left c.loop-phase.phase sizes c.loop-phase.attributes c.loop-phase.kinds c.loop-phase.known ≡ Obeyed command width = sym c.next.ensures ∙ c.in-Obeyed.is in
-    let state : State source left (with_sizes tables (sizes_at c.loop-phase.phase sizes)) c.loop-phase.phase = c.loop-phase.invariant.1 c.loop-phase-test.true in
-    next-reached source left tables sizes c.loop-phase.phase c.requires.1 state command width obeyed _ _ c.store-phase.ensures.1 c.store-phase.ensures.0
-
-pub returns-then-rest-ne0 : goal.returns-then-rest-ne0
-returns-then-rest-ne0 c =
-    let left : List ℕ = c.loop-phase.rest.now in
-    let sizes : Counts = c.args.sizes in
-    let tables : RoleFile = tabled c.loop-phase.attributes c.loop-phase.kinds c.loop-phase.domains c.loop-phase.known c.loop-phase.values c.loop-phase.assigned c.loop-phase.lines c.loop-phase.permissions in
-    let source : List ℕ = c.args.s.now in
-    let ended : Ended source left (with_sizes tables sizes) = subst (λ (p : ℕ). Ended source left (with_sizes tables (sizes_at p sizes))) c.loop-phase-test.false (c.loop-phase.invariant.0 c.loop-phase-test.false) in
-    c.refuse-then-rest-ne0.ensures ∙ ended.trailing c.if-rest-ne0.true
+    let state = c.loop-phase.invariant.1 (sym c.is_over.ensures ∙ c.loop-phase-test.true) in
+    next-reached _ _ _ _ state _ _ (sym c.in_ok-c.ensures) _ _ c.store-phase.ensures.1 c.store-phase.ensures.0
 
 pub settle-requires : goal.settle-requires
-settle-requires c =
-    let left : List ℕ = c.loop-phase.rest.now in
-    let sizes : Counts = c.args.sizes in
-    let tables : RoleFile = tabled c.loop-phase.attributes c.loop-phase.kinds c.loop-phase.domains c.loop-phase.known c.loop-phase.values c.loop-phase.assigned c.loop-phase.lines c.loop-phase.permissions in
-    let source : List ℕ = c.args.s.now in
-    let ended : Ended source left (with_sizes tables sizes) = subst (λ (p : ℕ). Ended source left (with_sizes tables (sizes_at p sizes))) c.loop-phase-test.false (c.loop-phase.invariant.0 c.loop-phase-test.false) in
-    few-roles _ _ _ ended
+settle-requires c = few-roles _ _ _ (c.loop-phase.invariant.0 (sym c.is_over.ensures ∙ c.loop-phase-test.false))
+
+-- what settling comes to is what reading does, once nothing is left
+whole : (c : After-settle) → settled_of c.loop-phase.f ≡ map_answer record_of (read_roles 2 c.args.s.now)
+whole c =
+    let e = c.loop-phase.invariant.0 (sym c.is_over.ensures ∙ c.loop-phase-test.false) in
+    let none = eqb-true _ _ (sym c.is_empty.ensures ∙ c.if-not-is_empty.false) in
+    ap settled_of e.shows ∙ settled e.policy e.sized ∙ ap (map_answer record_of) (e.at-end none)
+
+pub returns-in_err-settle : goal.returns-in_err-settle
+returns-in_err-settle c =
+    let p = err_from_is_err_and c.from_residual-in_err-settle.result c.from_residual-in_err-settle.ensures.1 in
+    rw (p.1, p.2) (c.in_err-settle.ensures ∙ whole (goal.at.returns-in_err-settle c).After-settle)
 
 pub returns : goal.returns
-returns c =
-    let left : List ℕ = c.loop-phase.rest.now in
-    let sizes : Counts = c.args.sizes in
-    let tables : RoleFile = tabled c.loop-phase.attributes c.loop-phase.kinds c.loop-phase.domains c.loop-phase.known c.loop-phase.values c.loop-phase.assigned c.loop-phase.lines c.loop-phase.permissions in
-    let source : List ℕ = c.args.s.now in
-    let ended : Ended source left (with_sizes tables sizes) = subst (λ (p : ℕ). Ended source left (with_sizes tables (sizes_at p sizes))) c.loop-phase-test.false (c.loop-phase.invariant.0 c.loop-phase-test.false) in
-    let e = ended in
-    c.settle.ensures ∙ ap settled_of e.shows ∙ settled e.policy e.sized ∙ e.at-end c.if-rest-ne0.false
+returns c = c.in_ok-settle.ensures ∙ whole (goal.at.returns c).After-settle

@@ -1,17 +1,20 @@
-use mathlib.Core.Path.{sym, ◌∙◌}
-use Rattle.role_next.specs.TakenLaws.{next-unknown, next-short, next-admitted, next-refused}
+use mathlib.Core.Path.{refl}
+use Rattle.std.proofs.lemmas.Result.{err_from_is_err_and}
+use Rattle.role_next.specs.Taking.{next_of}
 use Rattle.role_next.proofs.next.Goals as goal
 
-pub returns-in-Unknown : goal.returns-in-Unknown
-returns-in-Unknown c = next-unknown _ _ _ _ _ _ (sym c.decode.ensures ∙ c.in-Unknown.is)
+pub returns-in_err-c : goal.returns-in_err-c
+unfolding next_of
+returns-in_err-c c =
+    let p = err_from_is_err_and c.from_residual.result c.from_residual.ensures.1 in
+    rw (p.1, p.2, ← c.in_err-c.ensures) refl
 
-pub returns-in-Short : goal.returns-in-Short
-returns-in-Short c = next-short _ _ _ _ _ _ (sym c.decode.ensures ∙ c.in-Short.is)
+pub returns-in_err-admit : goal.returns-in_err-admit
+unfolding next_of
+returns-in_err-admit c =
+    let p = err_from_is_err_and c.from_residual-in_err-admit.result c.from_residual-in_err-admit.ensures.1 in
+    rw (p.1, p.2, ← c.in_ok-c.ensures, ← c.in_err-admit.ensures) refl
 
-pub returns-then-v-eq0 : goal.returns-then-v-eq0
-returns-then-v-eq0 c =
-    next-admitted _ _ _ _ _ _ _ _ (sym c.decode.ensures ∙ c.in-Whole.is) (sym c.admit-v.ensures ∙ c.if-v-eq0.true)
-
-pub returns-else-v-eq0 : goal.returns-else-v-eq0
-returns-else-v-eq0 c =
-    next-refused _ _ _ _ _ _ _ _ _ (sym c.decode.ensures ∙ c.in-Whole.is) (sym c.admit-v.ensures) c.if-v-eq0.false
+pub returns : goal.returns
+unfolding next_of
+returns c = rw (← c.in_ok-c.ensures, ← c.in_ok-admit.ensures) refl

@@ -1,59 +1,33 @@
-use borrow.Author.Tests.{lt-ltb, le-ltb}
-use mathlib.Core.Bool.{true, false}
-use mathlib.Core.Path.{◌≡◌, refl, sym, ap, ◌∙◌}
-use native.Mathlib.Omega.{arith}
-use Rattle.files.specs.Answer.{told}
-use Rattle.files.specs.Calls.{yes_no, role_question}
-use Rattle.role_file.specs.declared.Loaded.{Loaded}
-use Rattle.role_question.proofs.RoleQuestionLaws.{asked, asked_means, asked-refused, asked_by, loaded_sized}
-use Rattle.role_question.specs.Reply.{reply_numbers}
-use Rattle.role_question.specs.declared.Reply.{Reply}
-use Rattle.role_question.specs.declared.Reply.TheVariants.{Yes, No, Refused}
+use Rattle.std.proofs.Common.{◌≡◌, true, sym, ap, ◌∙◌}
+use Rattle.std.proofs.lemmas.Result.{err_from_is_err_and}
+use Rattle.files.specs.Answer.{accepted}
+use Rattle.role_record.specs.Record.{sizes_of, in_sizes}
+use Rattle.role_record.specs.declared.Sizes.{Sizes}
+use Rattle.role_question.proofs.RoleQuestionLaws.{file-refused, question-beyond, tables-long, question-answered}
 use Rattle.role_question.proofs.ask.Goals as goal
+use Rattle.role_question.proofs.ask.Goals.{Else-not-has}
 
-pub returns-then-l-ne0 : goal.returns-then-l-ne0
-returns-then-l-ne0 c =
-    let means : (x : Reply) → x ≡ asked c.read-l.result c.args.user c.args.resource c.args.operation
-    → reply_numbers x ≡ told yes_no (role_question 2 c.args.file.now c.args.user c.args.resource c.args.operation) = λ x e. let a = c.args in
-    ap reply_numbers (e ∙ ap (λ (l : Loaded). asked l a.user a.resource a.operation) c.read-l.ensures) ∙ asked_means a.file.now a.user a.resource a.operation in
-    means (Refused _) (asked-refused _ _ _ _ c.if-l-ne0.true)
+-- the numbers are within the sizes of what was read
+within : (c : Else-not-has) → in_sizes (sizes_of c.in_ok-f.f) c.args.user c.args.resource c.args.operation ≡ true
+within c = let a = c.args in ap (λ (s : Sizes). in_sizes s a.user a.resource a.operation) (sym c.sizes.ensures) ∙ sym c.has.ensures ∙ c.if-not-has.false
 
-pub returns-then-f-user : goal.returns-then-f-user
-returns-then-f-user c =
-    let means : (x : Reply) → x ≡ asked c.read-l.result c.args.user c.args.resource c.args.operation
-    → reply_numbers x ≡ told yes_no (role_question 2 c.args.file.now c.args.user c.args.resource c.args.operation) = λ x e. let a = c.args in
-    ap reply_numbers (e ∙ ap (λ (l : Loaded). asked l a.user a.resource a.operation) c.read-l.ensures) ∙ asked_means a.file.now a.user a.resource a.operation in
-    means (Refused 5) (sym (asked_by _ _ _ _ false _ _ _ c.if-l-ne0.false (le-ltb _ _ c.if-f-user.true) refl refl refl))
+pub returns-in_err-f : goal.returns-in_err-f
+returns-in_err-f c =
+    let p = err_from_is_err_and c.from_residual.result c.from_residual.ensures.1 in
+    let a = c.args in
+    rw (p.1, p.2) (file-refused a.file.now a.user a.resource a.operation _ c.in_err-f.ensures)
 
-pub returns-then-f-resource : goal.returns-then-f-resource
-returns-then-f-resource c =
-    let means : (x : Reply) → x ≡ asked c.read-l.result c.args.user c.args.resource c.args.operation
-    → reply_numbers x ≡ told yes_no (role_question 2 c.args.file.now c.args.user c.args.resource c.args.operation) = λ x e. let a = c.args in
-    ap reply_numbers (e ∙ ap (λ (l : Loaded). asked l a.user a.resource a.operation) c.read-l.ensures) ∙ asked_means a.file.now a.user a.resource a.operation in
-    means (Refused 5) (sym (asked_by _ _ _ _ true false _ _ c.if-l-ne0.false (lt-ltb _ _ c.if-f-user.false) (le-ltb _ _ c.if-f-resource.true) refl refl))
-
-pub returns-then-f-operation : goal.returns-then-f-operation
-returns-then-f-operation c =
-    let means : (x : Reply) → x ≡ asked c.read-l.result c.args.user c.args.resource c.args.operation
-    → reply_numbers x ≡ told yes_no (role_question 2 c.args.file.now c.args.user c.args.resource c.args.operation) = λ x e. let a = c.args in
-    ap reply_numbers (e ∙ ap (λ (l : Loaded). asked l a.user a.resource a.operation) c.read-l.ensures) ∙ asked_means a.file.now a.user a.resource a.operation in
-    means (Refused 5) (sym (asked_by _ _ _ _ true true false _ c.if-l-ne0.false (lt-ltb _ _ c.if-f-user.false) (lt-ltb _ _ c.if-f-resource.false) (le-ltb _ _ c.if-f-operation.true) refl))
+pub returns-then-not-has : goal.returns-then-not-has
+returns-then-not-has c =
+    let a = c.args in
+    question-beyond a.file.now a.user a.resource a.operation c.in_ok-f.f c.in_ok-f.ensures (ap (λ (s : Sizes). in_sizes s a.user a.resource a.operation) (sym c.sizes.ensures) ∙ sym c.has.ensures ∙ c.if-not-has.true)
 
 pub granted-requires : goal.granted-requires
 granted-requires c =
-    let z = loaded_sized _ _ c.read-l.ensures c.if-l-ne0.false in
-    omega (arith, z, c.if-f-operation.false)
-
-pub returns-then-granted : goal.returns-then-granted
-returns-then-granted c =
-    let means : (x : Reply) → x ≡ asked c.read-l.result c.args.user c.args.resource c.args.operation
-    → reply_numbers x ≡ told yes_no (role_question 2 c.args.file.now c.args.user c.args.resource c.args.operation) = λ x e. let a = c.args in
-    ap reply_numbers (e ∙ ap (λ (l : Loaded). asked l a.user a.resource a.operation) c.read-l.ensures) ∙ asked_means a.file.now a.user a.resource a.operation in
-    means Yes (sym (asked_by _ _ _ _ true true true true c.if-l-ne0.false (lt-ltb _ _ c.if-f-user.false) (lt-ltb _ _ c.if-f-resource.false) (lt-ltb _ _ c.if-f-operation.false) (sym c.granted.ensures ∙ c.if-granted.true)))
+    let a = c.args in
+    tables-long a.file.now a.user a.resource a.operation c.in_ok-f.f c.in_ok-f.ensures (within (goal.at.granted-requires c).Else-not-has)
 
 pub returns : goal.returns
 returns c =
-    let means : (x : Reply) → x ≡ asked c.read-l.result c.args.user c.args.resource c.args.operation
-    → reply_numbers x ≡ told yes_no (role_question 2 c.args.file.now c.args.user c.args.resource c.args.operation) = λ x e. let a = c.args in
-    ap reply_numbers (e ∙ ap (λ (l : Loaded). asked l a.user a.resource a.operation) c.read-l.ensures) ∙ asked_means a.file.now a.user a.resource a.operation in
-    means No (sym (asked_by _ _ _ _ true true true false c.if-l-ne0.false (lt-ltb _ _ c.if-f-user.false) (lt-ltb _ _ c.if-f-resource.false) (lt-ltb _ _ c.if-f-operation.false) (sym c.granted.ensures ∙ c.if-granted.false)))
+    let a = c.args in
+    ap accepted c.granted.ensures ∙ question-answered a.file.now a.user a.resource a.operation c.in_ok-f.f c.in_ok-f.ensures (within (goal.at.returns c).Else-not-has)

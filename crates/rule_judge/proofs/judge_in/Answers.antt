@@ -1,91 +1,64 @@
 -- Assumes nothing.
-use lib.ListN.{take}
-use mathlib.Core.List.{List}
-use mathlib.Core.Path.{◌≡◌, sym, ap, ◌∙◌, subst}
+use Prim.Native.Nat.{◌*◌}
+use mathlib.Core.Path.{◌≡◌, refl, sym}
 use native.Mathlib.Omega.{arith}
-use Prim.Native.Nat.{ℕ, ◌*◌, ◌-◌}
-use Rattle.files.specs.Answer.{told}
-use Rattle.files.specs.Calls.{read_both, judge, verdict_told}
-use Rattle.rule_judge.proofs.JudgeLaws.{by_part, stray_in, judged_by, judged-so, roles_lent, roles-long, roles-within, difference_from, judged-refused, judged-differ, judged_stray, judged-part}
-use Rattle.rule_judge.specs.Judgement.{judgement_numbers}
-use Rattle.rule_file.specs.LegalLaws.{both-sizes}
-use Rattle.rule_file.specs.OpenedLaws.{first-words, first-long}
-use Rattle.rule_reading.specs.BothFiles.{both_of, GridShown}
-use Rattle.rule_judge.specs.declared.Judgement.{Judgement}
-use Rattle.rule_judge.specs.declared.Judgement.TheVariants.{Differ, StrayRule, Refused}
-use Rattle.rule_listings.specs.declared.StrayPart.{StrayPart as Stray}
-use Rattle.rule_reading.specs.declared.BothFiles.{BothFiles}
+use Rattle.std.proofs.lemmas.Result.{err_from_is_err_and}
+use Rattle.files.specs.Answer.{map_answer, accepted}
+use Rattle.files.specs.Calls.{judge}
+use Rattle.rule_file.specs.LegalLaws.{both-accepted}
+use Rattle.rule_file.specs.OpenedLaws.{first-long}
+use Rattle.rule_judge.specs.Judgement.{verdict_of}
+use Rattle.rule_judge.proofs.JudgeLaws.{by_outcomes, stray_in, unjudged, judged-so, outcome, roles_lent, roles-long}
 use Rattle.rule_judge.proofs.judge_in.Goals as goal
+use Rattle.rule_judge.proofs.judge_in.Goals.{After-first_difference}
 
--- the verdict told of what was read
-means : (file rules : List ℕ) (b : BothFiles) → b ≡ both_of (read_both 2 file rules) → (grid : List ℕ) → GridShown (read_both 2 file rules) grid
-    → (x : Judgement) → x ≡ judged_by b grid → judgement_numbers x ≡ told verdict_told (judge 2 file rules)
-means file rules b s grid g x e = ap judgement_numbers (e ∙ ap (λ (t : BothFiles). judged_by t grid) s) ∙ judged-so file rules grid g
+-- the verdict, by the outcomes of the comparisons
+judged : (c : After-first_difference) → accepted (by_outcomes c.first_difference.result c.in_ok-b.b.stray (stray_in c.in_ok-b.b)) ≡ map_answer verdict_of (judge 2 c.args.file.now c.args.rules.now)
+judged c = judged-so _ _ c.in_ok-b.b _ _ c.first_difference.result c.in_ok-b.ensures.0 c.in_ok-b.ensures.1 (roles_lent _ _ _ _ c.roles_grid.ensures) c.first_difference.ensures
 
--- the grid is the words that are lent
-lent : (file rules grid : List ℕ) (n : ℕ) → GridShown (read_both 2 file rules) (take n grid) → GridShown (read_both 2 file rules) (take (n - 0) grid)
-lent file rules grid n = subst (λ (t : List ℕ). GridShown (read_both 2 file rules) t) (sym (first-words n grid))
-
--- and that the parts decide
-told_of : (file rules : List ℕ) (s t : Stray) → s ≡ t → judgement_numbers (by_part s) ≡ told verdict_told (judge 2 file rules) → judgement_numbers (by_part t) ≡ told verdict_told (judge 2 file rules)
-told_of file rules s t e h = ap (λ (x : Stray). judgement_numbers (by_part x)) (sym e) ∙ h
-
-pub returns-then-b-ne0 : goal.returns-then-b-ne0
-returns-then-b-ne0 c = means _ _ _ c.read_into-b.ensures.0 _ c.read_into-b.ensures.1 (Refused _) (judged-refused _ _ c.if-b-ne0.true)
+pub returns-in_err-b : goal.returns-in_err-b
+returns-in_err-b c =
+    let p = err_from_is_err_and c.from_residual.result c.from_residual.ensures.1 in
+    rw (p.1, p.2) (unjudged _ _ _ c.in_err-b.ensures.0)
 
 pub overflow_mul-words : goal.overflow_mul-words
 overflow_mul-words c =
-    let sizes = both-sizes c.args.file.now c.args.rules.now c.read_into-b.result c.read_into-b.ensures.0 c.if-b-ne0.false in
+    let sizes = (both-accepted c.args.file.now c.args.rules.now c.in_ok-b.b c.in_ok-b.ensures.0).sizes in
     omega (arith, sizes.2)
 
 pub slice_bounds-roles_grid-end : goal.slice_bounds-roles_grid-end
 slice_bounds-roles_grid-end c =
-    let sizes = both-sizes c.args.file.now c.args.rules.now c.read_into-b.result c.read_into-b.ensures.0 c.if-b-ne0.false in
-    omega (arith, sizes.2, c.requires.0, c.read_into-b.auto.listed)
+    let sizes = (both-accepted c.args.file.now c.args.rules.now c.in_ok-b.b c.in_ok-b.ensures.0).sizes in
+    omega (arith, sizes.2, c.requires.0, c.read_into.auto.listed)
 
 pub roles_grid-requires : goal.roles_grid-requires
 roles_grid-requires c =
-    let sizes = both-sizes c.args.file.now c.args.rules.now c.read_into-b.result c.read_into-b.ensures.0 c.if-b-ne0.false in
-    (sizes.3, sizes.2, first-long (64 * c.read_into-b.result.file.operations) c.read_into-b.new.listed (omega (arith, sizes.2, c.requires.0, c.read_into-b.auto.listed)))
-
-pub slice_bounds-first_difference-end : goal.slice_bounds-first_difference-end
-slice_bounds-first_difference-end c = roles-within _ _ _ _ c.roles_grid.ensures
+    let sizes = (both-accepted c.args.file.now c.args.rules.now c.in_ok-b.b c.in_ok-b.ensures.0).sizes in
+    (sizes.3, sizes.2, first-long (64 * c.in_ok-b.b.file.operations) c.read_into.new.listed (omega (arith, sizes.2, c.requires.0, c.read_into.auto.listed)))
 
 pub slice_bounds-first_difference-end-2 : goal.slice_bounds-first_difference-end-2
 slice_bounds-first_difference-end-2 c =
-    let sizes = both-sizes c.args.file.now c.args.rules.now c.read_into-b.result c.read_into-b.ensures.0 c.if-b-ne0.false in
-    omega (arith, sizes.2, c.requires.1, c.read_into-b.auto.grid)
+    let sizes = (both-accepted c.args.file.now c.args.rules.now c.in_ok-b.b c.in_ok-b.ensures.0).sizes in
+    omega (arith, sizes.2, c.requires.1, c.read_into.auto.grid)
 
 pub first_difference-requires : goal.first_difference-requires
 first_difference-requires c =
-    let sizes = both-sizes c.args.file.now c.args.rules.now c.read_into-b.result c.read_into-b.ensures.0 c.if-b-ne0.false in
-    (sizes.0, omega (arith, sizes.2), roles-long _ _ _ _ c.roles_grid.ensures, first-long (64 * c.read_into-b.result.file.operations) c.read_into-b.new.grid (omega (arith, sizes.2, c.requires.1, c.read_into-b.auto.grid)))
+    let sizes = (both-accepted c.args.file.now c.args.rules.now c.in_ok-b.b c.in_ok-b.ensures.0).sizes in
+    (sizes.0, omega (arith, sizes.2), roles-long _ _ _ _ c.roles_grid.ensures, first-long (64 * c.in_ok-b.b.file.operations) c.read_into.new.grid (omega (arith, sizes.2, c.requires.1, c.read_into.auto.grid)))
 
-pub returns-then-b : goal.returns-then-b
-returns-then-b c =
-    let compared = difference_from c.read_into-b.result _ _ _ (roles_lent _ _ _ _ c.roles_grid.ensures) c.first_difference.ensures in
-    means _ _ _ c.read_into-b.ensures.0 _ (lent _ _ _ (64 * c.read_into-b.result.file.operations) c.read_into-b.ensures.1) (StrayRule _) (judged_stray _ _ c.if-b-ne0.false _ compared c.in-Same.is c.if-b.true)
+pub returns-in-Some : goal.returns-in-Some
+returns-in-Some c = outcome c.in-Some.is refl refl (judged (goal.at.returns-in-Some c).After-first_difference)
+
+pub returns-in-Some-stray : goal.returns-in-Some-stray
+returns-in-Some-stray c = outcome c.in_default.is c.in-Some-stray.is refl (judged (goal.at.returns-in-Some-stray c).After-first_difference)
 
 pub first_stray-requires : goal.first_stray-requires
 first_stray-requires c =
-    let sizes = both-sizes c.args.file.now c.args.rules.now c.read_into-b.result c.read_into-b.ensures.0 c.if-b-ne0.false in
+    let sizes = (both-accepted c.args.file.now c.args.rules.now c.in_ok-b.b c.in_ok-b.ensures.0).sizes in
     (sizes.3, sizes.2)
 
-pub returns-in-At : goal.returns-in-At
-returns-in-At c =
-    let compared = difference_from c.read_into-b.result _ _ _ (roles_lent _ _ _ _ c.roles_grid.ensures) c.first_difference.ensures in
-    means _ _ _ c.read_into-b.ensures.0 _ (lent _ _ _ (64 * c.read_into-b.result.file.operations) c.read_into-b.ensures.1) (Differ _ _ _) (judged-differ _ _ c.if-b-ne0.false _ compared _ _ _ c.in-At.is)
+pub returns-in-Some-first_stray : goal.returns-in-Some-first_stray
+returns-in-Some-first_stray c = outcome c.in_default.is c.in_default-stray.is (sym c.in-Some-first_stray.ensures) (judged (goal.at.returns-in-Some-first_stray c).After-first_difference)
 
-pub returns-in-At-first_stray : goal.returns-in-At-first_stray
-unfolding stray_in
-returns-in-At-first_stray c =
-    let compared = difference_from c.read_into-b.result _ _ _ (roles_lent _ _ _ _ c.roles_grid.ensures) c.first_difference.ensures in
-    told_of _ _ _ _ c.in-At-first_stray.is
-    (means _ _ _ c.read_into-b.ensures.0 _ (lent _ _ _ (64 * c.read_into-b.result.file.operations) c.read_into-b.ensures.1) (by_part c.first_stray.result) (judged-part _ _ c.if-b-ne0.false _ compared c.in-Same.is c.if-b.false _ c.first_stray.ensures))
-
-pub returns-in-NoneStray : goal.returns-in-NoneStray
-unfolding stray_in
-returns-in-NoneStray c =
-    let compared = difference_from c.read_into-b.result _ _ _ (roles_lent _ _ _ _ c.roles_grid.ensures) c.first_difference.ensures in
-    told_of _ _ _ _ c.in-NoneStray.is
-    (means _ _ _ c.read_into-b.ensures.0 _ (lent _ _ _ (64 * c.read_into-b.result.file.operations) c.read_into-b.ensures.1) (by_part c.first_stray.result) (judged-part _ _ c.if-b-ne0.false _ compared c.in-Same.is c.if-b.false _ c.first_stray.ensures))
+pub returns-in-None : goal.returns-in-None
+returns-in-None c = outcome c.in_default.is c.in_default-stray.is (sym c.in-None.ensures) (judged (goal.at.returns-in-None c).After-first_difference)

@@ -18,23 +18,23 @@ by_tests : (role m roles ops : ℕ) (holders permissions : List ℕ) (o : ℕ) �
 unfolding part_legal
 by_tests role m roles ops holders permissions o e b1 b2 b3 b4 p q r s = rw (← e, p, q, r, s) refl
 
-pub returns-then-roles-role : goal.returns-then-roles-role
+pub returns-then-f-role : goal.returns-then-f-role
 unfolding part_legal
-returns-then-roles-role c = rw (le-ltb _ _ c.if-roles-role.true) refl
+returns-then-f-role c = rw (le-ltb _ _ c.if-f-role.true) refl
 
-pub returns-then-holders-k-eq0 : goal.returns-then-holders-k-eq0
+pub returns-then-f-k-eq0 : goal.returns-then-f-k-eq0
 unfolding part_legal
-returns-then-holders-k-eq0 c = rw (lt-ltb _ _ c.if-roles-role.false, eq-eqb _ _ c.if-holders-k-eq0.true) refl
+returns-then-f-k-eq0 c = rw (lt-ltb _ _ c.if-f-role.false, eq-eqb _ _ c.if-f-k-eq0.true) refl
 
-pub returns-then-operations-o : goal.returns-then-operations-o
-returns-then-operations-o c =
-    sym (by_tests _ _ _ _ _ _ _ c.least-o.ensures true false false _ (lt-ltb _ _ c.if-roles-role.false) (ne_eqb _ _ c.if-holders-k-eq0.false) (le-ltb _ _ c.if-operations-o.true) refl)
+pub returns-then-f-o : goal.returns-then-f-o
+returns-then-f-o c =
+    sym (by_tests _ _ _ _ _ _ _ c.least-o.ensures true false false _ (lt-ltb _ _ c.if-f-role.false) (ne_eqb _ _ c.if-f-k-eq0.false) (le-ltb _ _ c.if-f-o.true) refl)
 
-pub returns-then-permissions-o-eq0 : goal.returns-then-permissions-o-eq0
-returns-then-permissions-o-eq0 c =
-    sym (by_tests _ _ _ _ _ _ _ c.least-o.ensures true false true true (lt-ltb _ _ c.if-roles-role.false) (ne_eqb _ _ c.if-holders-k-eq0.false) (lt-ltb _ _ c.if-operations-o.false) (eq-eqb _ _ c.if-permissions-o-eq0.true))
+pub returns-then-f-o-eq0 : goal.returns-then-f-o-eq0
+returns-then-f-o-eq0 c =
+    sym (by_tests _ _ _ _ _ _ _ c.least-o.ensures true false true true (lt-ltb _ _ c.if-f-role.false) (ne_eqb _ _ c.if-f-k-eq0.false) (lt-ltb _ _ c.if-f-o.false) (eq-eqb _ _ c.if-f-o-eq0.true))
 
 pub returns : goal.returns
 returns c =
     ap (λ (x : ℕ). eqb x c.args.m) c.class_of.ensures
-    ∙ sym (by_tests _ _ _ _ _ _ _ c.least-o.ensures true false true false (lt-ltb _ _ c.if-roles-role.false) (ne_eqb _ _ c.if-holders-k-eq0.false) (lt-ltb _ _ c.if-operations-o.false) (ne_eqb _ _ c.if-permissions-o-eq0.false))
+    ∙ sym (by_tests _ _ _ _ _ _ _ c.least-o.ensures true false true false (lt-ltb _ _ c.if-f-role.false) (ne_eqb _ _ c.if-f-k-eq0.false) (lt-ltb _ _ c.if-f-o.false) (ne_eqb _ _ c.if-f-o-eq0.false))

@@ -16,4 +16,4 @@ abbrev pub listed_once : List ℕ → List ℕ → ℕ → Bool
 listed_once seen again w = once_in seen again (cell_row w) (cell_operation w)
 
 abbrev pub invariant-loop-w : goal.invariant-loop-w
-invariant-loop-w l = (l.w ≤ row_start l.roles) × (l.number ≤ l.w) × (stray_from (is_one l.holders l.permissions l.operations) (listed_once l.seen l.again) l.number (from l.w (row_start l.roles - l.w)) ≡ stray_of l.holders l.permissions l.roles l.operations l.seen l.again)
+invariant-loop-w l = (l.w ≤ row_start l.f.roles) × (l.number ≤ l.w) × (stray_from (is_one l.f.holders l.f.permissions l.f.operations) (listed_once l.seen l.again) l.number (from l.w (row_start l.f.roles - l.w)) ≡ stray_of l.f.holders l.f.permissions l.f.roles l.f.operations l.seen l.again)

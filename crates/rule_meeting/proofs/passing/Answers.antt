@@ -10,9 +10,9 @@ use Rattle.rule_meeting.proofs.passing.Goals as goal
 pub returns-then-contained : goal.returns-then-contained
 returns-then-contained c =
     let a = c.args in
-    c.containing.ensures ∙ ap (λ (b : Bool). mask_of 64 (λ x. order b a.v (get_or a.values.now (64 * a.column + x) 0))) (sym c.if-contained.true)
+    c.passing.ensures ∙ ap (λ (b : Bool). mask_of 64 (λ x. order b a.v (get_or a.values.now (64 * a.column + x) 0))) (sym c.if-contained.true)
 
 pub returns : goal.returns
 returns c =
     let a = c.args in
-    c.equal.ensures ∙ ap (λ (b : Bool). mask_of 64 (λ x. order b a.v (get_or a.values.now (64 * a.column + x) 0))) (sym c.if-contained.false)
+    c.passing-2.ensures ∙ ap (λ (b : Bool). mask_of 64 (λ x. order b a.v (get_or a.values.now (64 * a.column + x) 0))) (sym c.if-contained.false)

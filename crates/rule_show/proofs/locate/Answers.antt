@@ -1,27 +1,22 @@
 -- What was read says where the part stands. Assumes nothing.
-use mathlib.Core.Path.{◌∙◌}
-use native.Mathlib.Omega.{arith}
-use Rattle.rule_show.specs.RuleShowLaws.{shown-byte, part-within, refused-so, beyond-so, there-so}
+use Rattle.std.proofs.lemmas.Result.{err_from_is_err_and}
+use Rattle.rule_show.specs.RuleShowLaws.{part-within, refused-so, beyond-so, there-so}
 use Rattle.rule_show.proofs.locate.Goals as goal
 
-pub returns-then-b-ne0 : goal.returns-then-b-ne0
-returns-then-b-ne0 c =
+pub returns-in_err-b : goal.returns-in_err-b
+returns-in_err-b c =
     let a = c.args in
-    let p = c.nowhere.ensures in
-    let s = refused-so a.file.now a.rules.now a.n c.read-b.result c.read-b.ensures c.if-b-ne0.true in
-    let b = shown-byte a.file.now a.rules.now a.n in
-    (p.0 ∙ s.byte, p.1 ∙ s.begins, p.2 ∙ s.ends, omega (arith, p.0 ∙ s.byte, b), omega (arith, p.1), omega (arith, p.2))
+    let p = err_from_is_err_and c.from_residual.result c.from_residual.ensures.1 in
+    rw (p.1, p.2) (refused-so a.file.now a.rules.now a.n _ c.in_err-b.ensures, tt)
 
 pub returns-then-b-n : goal.returns-then-b-n
 returns-then-b-n c =
     let a = c.args in
-    let p = c.nowhere-then-b-n.ensures in
-    let s = beyond-so a.file.now a.rules.now a.n c.read-b.result c.read-b.ensures c.if-b-ne0.false c.if-b-n.true in
-    (p.0 ∙ s.byte, p.1 ∙ s.begins, p.2 ∙ s.ends, omega (arith, p.0), omega (arith, p.1), omega (arith, p.2))
+    (beyond-so a.file.now a.rules.now a.n c.in_ok-b.b c.in_ok-b.ensures c.if-b-n.true, tt)
 
 pub returns : goal.returns
 returns c =
     let a = c.args in
-    let s = there-so a.file.now a.rules.now a.n c.read-b.result c.read-b.ensures c.if-b-ne0.false c.if-b-n.false _ _ c.rule_start-from.ensures c.rule_start-to.ensures in
-    let w = part-within a.rules.now a.n _ _ c.rule_start-from.ensures c.rule_start-to.ensures in
-    (s.byte, s.begins, s.ends, omega arith, w.0, w.1)
+    let from = c.rule_start-from.ensures in
+    let to = c.rule_start-to.ensures in
+    (there-so a.file.now a.rules.now a.n c.in_ok-b.b c.in_ok-b.ensures c.if-b-n.false _ _ from to, part-within a.rules.now a.n _ _ from to)

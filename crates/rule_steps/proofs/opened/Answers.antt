@@ -1,8 +1,8 @@
 -- Assumes nothing.
 use mathlib.Core.Path.{refl}
-use Rattle.rule_notes.specs.Tally.{opened_with}
+use Rattle.rule_notes.specs.Tally.{begun_with, opened_with}
 use Rattle.rule_steps.proofs.opened.Goals as goal
 
 pub returns : goal.returns
-unfolding opened_with
-returns c = refl
+unfolding begun_with opened_with
+returns c = rw c.begun.ensures refl

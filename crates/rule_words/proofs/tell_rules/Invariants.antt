@@ -1,12 +1,10 @@
--- The invariant: there are no more rules than bytes that were told, and they are rules of a legal file. Assumes nothing.
-use Prim.Native.Nat.{◌-◌, ◌≤◌}
-use borrow.Author.Rules.{rules}
-use lib.ListN.{length}
+-- The invariant: there are no more rules than bytes that were told, and what is left is of a legal file. Assumes nothing.
+use Rattle.std.proofs.Common.{◌+◌, ◌≤◌, length}
 use Rattle.rule_words.specs.TellingLaws.{Telling}
 use Rattle.rule_words.proofs.tell_rules.Given as goal
 
-abbrev pub invariant-loop-sizes : goal.invariant-loop-sizes
-invariant-loop-sizes g l = (l.at ≤ length l.rules) × (l.number ≤ l.at) × Telling l.rules l.number l.at
+abbrev pub invariant-loop-line : goal.invariant-loop-line
+invariant-loop-line g l = (l.number + length l.rest ≤ length l.rules) × Telling l.number l.rest
 
-abbrev pub decreases-loop-sizes : goal.decreases-loop-sizes
-decreases-loop-sizes g l = length l.rules - l.at
+abbrev pub decreases-loop-line : goal.decreases-loop-line
+decreases-loop-line g l = length l.rest

@@ -1,11 +1,6 @@
--- The invariant: what was passed lies within the corpus. The measure is what is left of it: a group takes a byte or more.
--- Assumes nothing.
-use Prim.Native.Nat.{◌≤◌, ◌-◌}
-use lib.ListN.{length}
+-- The measure is what is left of the corpus: a group takes a byte or more. Assumes nothing.
+use Rattle.std.proofs.Common.{length}
 use Rattle.test_rule.proofs.groups.Given as goal
 
-abbrev pub invariant-loop-at : goal.invariant-loop-at
-invariant-loop-at g l = l.at ≤ length l.s
-
-abbrev pub decreases-loop-at : goal.decreases-loop-at
-decreases-loop-at g l = length l.s - l.at
+abbrev pub decreases-loop-rest : goal.decreases-loop-rest
+decreases-loop-rest g l = length l.rest

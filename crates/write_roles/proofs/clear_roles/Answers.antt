@@ -1,26 +1,19 @@
 use borrow.Author.Count.{below_none}
 use borrow.Author.Rules.{rules}
-use lib.ListN.{length-set}
-use mathlib.Core.Path.{refl, ◌∙◌}
+use mathlib.Core.Path.{refl}
 use native.Mathlib.Omega.{arith}
 use Rattle.sets.specs.LoopLaws.{store_next}
 use Rattle.write_roles.proofs.clear_roles.Goals as goal
 
 pub loop-i-init : goal.loop-i-init
-loop-i-init c = (search rules, refl, below_none _)
-
-pub bounds-out-i : goal.bounds-out-i
-bounds-out-i c = omega (arith, c.loop-i-test.true, c.loop-i.invariant.1, c.requires)
+loop-i-init c = (search rules, search rules, below_none _)
 
 pub loop-i-preserved : goal.loop-i-preserved
 loop-i-preserved c =
     let turn = c.loop-i in
-    (search rules, length-set turn.out turn.i 0 ∙ turn.invariant.1, store_next turn.out turn.i 0 (λ j. 0) turn.invariant.2 refl (omega (arith, c.loop-i-test.true, turn.invariant.1, c.requires)))
+    (search rules, search rules, store_next turn.out turn.i 0 (λ j. 0) turn.invariant.2 refl (omega (arith, c.loop-i-test.true, turn.invariant.1, c.requires)))
 
 pub returns : goal.returns
 returns c =
     let end = c.loop-i in
-    (end.invariant.1, λ j l. end.invariant.2 j (omega (arith, c.loop-i-test.false)))
-
-pub shape_of-out : goal.shape_of-out
-shape_of-out c = c.loop-i.invariant.1
+    λ j l. end.invariant.2 j (omega (arith, c.loop-i-test.false))
