@@ -425,9 +425,9 @@ def check_read(tree):
 
 
 def library_names(tree):
-    """Names with a meaning in the library: in scope without an import, the core, and all that definitions and contracts import."""
+    """Names with a meaning in the library: in scope without an import, the core, and all that the project imports."""
     names = set(PRELUDE) | set(LENT) | set(CORE)
-    for file in tree.definitions_files() + list(tree.sources.values()):
+    for file in list(tree.specs.values()) + list(tree.sources.values()):
         names |= {brought.original for brought, target in tree.imports(file) if isinstance(target, Library)}
     return names
 

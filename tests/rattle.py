@@ -102,7 +102,7 @@ class File:
         self.used = dict(used for match in USE.finditer(self.text) for used in self.names_used(match))
         self.imports = [brought for match in GHOST_USE.finditer(self.text) for brought in self.ghost_use(match)]
         self.types = [self.type(match) for match in TYPE.finditer(self.text)]
-        self.members = [self.member(match) for match in MEMBER.finditer(self.text)]
+        self.members = [self.member(match) for match in MEMBER.finditer(self.text) if not self.in_data(match.start())]
         self.functions = [self.function(match) for match in FUNCTION.finditer(self.text)]
         self.other_clauses()
 
@@ -129,6 +129,11 @@ class File:
     def type(self, match):
         end = declaration_end(self.text, match.end())
         return Piece(match.group(1), match.group(2), self.line(match.start(2)), self.rows(match.start(), end))
+
+    def in_data(self, offset):
+        """Whether a ghost member stands in a struct or an enum, where no promise is counted with it: it is not read."""
+        found = [match for match in TYPE.finditer(self.text) if match.group(1) in ("struct", "enum")]
+        return any(match.start() < offset < declaration_end(self.text, match.end()) for match in found)
 
     def member(self, match):
         """A ghost member of a trait or an impl: its name, and the rows of its term."""

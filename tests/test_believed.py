@@ -259,6 +259,12 @@ class MadeUp(unittest.TestCase):
         self.put(LISTS, "  refused : ℕ", "  some : Answer\n  refused : ℕ")
         self.faults((LISTS, "  some :", "some is a symbol of the library and is given another meaning"))
 
+    def test_symbol_that_a_law_brings(self):
+        """What only a law brings is a symbol of the library too."""
+        self.put(LAWS, "◌≡◌, refl}", "◌≡◌, refl, is_some}")
+        self.put(LISTS, "abbrev pub unused", "abbrev pub is_some : ℕ → ℕ\nis_some n = n\n\nabbrev pub unused")
+        self.faults((LISTS, "pub is_some", "is_some is a symbol of the library and is given another meaning"))
+
     def test_ghost_use_under_the_name(self):
         self.put(CODE, "◌≡◌, length};", "◌≡◌};\nghost use Rattle.base.specs.Lists.{both as length};")
         what = "brings both of Rattle.base.specs.Lists under the name length of a symbol of the library"
@@ -381,7 +387,11 @@ class MadeUp(unittest.TestCase):
         self.faults((CODE, "|x| requires", "is not read: a statement outside the contracts"))
 
     def test_ghost_member(self):
-        self.put(CODE, "pub struct Told {", "pub struct Told {\n    ghost twice: { nought },")
+        self.put(CODE, "pub struct Told {", "pub struct Told {\n    ghost twice: { ℕ },")
+        self.faults((CODE, "ghost twice", "is not read: a statement outside the contracts"))
+
+    def test_ghost_member_of_a_trait(self):
+        self.put(CODE, "pub struct Told {", "pub trait Twice {\n    ghost twice: { nought };\n}\n\npub struct Told {")
         self.faults((CODE, "ghost twice", "the contract of twice names nought, which is not found"))
 
     def test_all_clauses_are_read(self):

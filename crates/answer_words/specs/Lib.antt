@@ -1,1 +1,2 @@
 pub mod AnswerWords
+pub mod AnswerWordLaws

@@ -1,14 +1,44 @@
-// Answers in words: 01's words for each refusal, and those for the answer to a question.
+// Answers in words: 01's words for each refusal and each verdict, and those for the answer to a question.
 #![tactic(auto)]
 
 ghost use Rattle.std.specs.Prelude.{◌≡◌};
-ghost use Rattle.answer_words.specs.AnswerWords.{bytes_of, cause_words, reply_text};
+ghost use Rattle.answer_words.specs.AnswerWords.{bytes_of, cause_words, refusal_of, refusal_words, verdict_words, reply_text};
 ghost use Rattle.files.specs.Cause.{cause};
 
 use files::Refusal;
 
+// The refusal that has this number, if one has it.
+pub fn refusal_of(n: usize) -> Option<Refusal>
+    ensures { result ≡ refusal_of n }
+{
+    match n {
+        1 => Some(Refusal::TooLong),
+        2 => Some(Refusal::CutOff),
+        3 => Some(Refusal::UnknownCommand),
+        4 => Some(Refusal::OutOfPlace),
+        5 => Some(Refusal::Beyond),
+        6 => Some(Refusal::WrongKind),
+        7 => Some(Refusal::OwnSenior),
+        8 => Some(Refusal::SmallScratch),
+        9 => Some(Refusal::ShortOutput),
+        10 => Some(Refusal::RulesCutOff),
+        11 => Some(Refusal::RulesUnknown),
+        12 => Some(Refusal::RulesOrder),
+        13 => Some(Refusal::RulesOperand),
+        14 => Some(Refusal::NoSuchRule),
+        15 => Some(Refusal::ZeroSeed),
+        16 => Some(Refusal::WrongShape),
+        17 => Some(Refusal::WrongTable),
+        18 => Some(Refusal::WrongLevel),
+        19 => Some(Refusal::WrongWindow),
+        20 => Some(Refusal::RaggedLog),
+        21 => Some(Refusal::BadCuts),
+        _ => None,
+    }
+}
+
 // The meaning of a refusal.
-pub fn refusal_words(refusal: Refusal) -> &'static [u8]
+pub fn words_of(refusal: Refusal) -> &'static [u8]
     ensures { result.now ≡ bytes_of (cause_words (cause refusal)) }
 {
     match refusal {
@@ -39,6 +69,30 @@ pub fn refusal_words(refusal: Refusal) -> &'static [u8]
         Refusal::RaggedLog => b"the length of the log is not divisible by three",
         Refusal::BadCuts =>
             b"the cuts do not ascend strictly, or one is not from 1 to the number of roles less one",
+    }
+}
+
+// The meaning of a refusal's number, which may be any number.
+pub fn refusal_words(n: usize) -> &'static [u8]
+    ensures { result.now ≡ refusal_words n }
+{
+    match refusal_of(n) {
+        Some(refusal) => words_of(refusal),
+        None => b"no refusal has this number",
+    }
+}
+
+// The meaning of a verdict's number. The values that come with the verdict stand in front.
+pub fn verdict_words(n: usize) -> &'static [u8]
+    ensures { result.now ≡ verdict_words n }
+{
+    match n {
+        0 =>
+            b"roles and rules grant the same, every rule what its parts do, and every part stands under one rule",
+        1 => b" is granted by roles or rules only",
+        2 => b" grants other than its parts",
+        3 => b" stands under no rule or several",
+        _ => b"no verdict has this number",
     }
 }
 

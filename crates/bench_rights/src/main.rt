@@ -13,16 +13,26 @@ fn add(sum: u64, table: &Grid, i: usize) -> u64 {
     sum.wrapping_add(table[i % WORDS])
 }
 
-// Of a table whose length is in its type, so that loops have nothing to say of it. One that is refused stays as it is.
-fn fill(f: &RoleFile, table: &mut Grid) {
-    let _ = right_edits::fill(f, table);
+// Of a table whose length is in its type, so that loops have nothing to say of it. The record goes by value, as it does to the calls that C
+// and Rust make; a table that is refused stays as it is.
+fn fill(f: RoleFile, table: &mut Grid) {
+    let _ = right_edits::fill(&f, table);
 }
 
-fn edit(f: &mut RoleFile, table: &mut Grid, gives: bool, role: usize, user: usize) {
-    let _ = right_edits::edit(f, table, gives, role, user);
+// The record goes by value, and the one after the edit goes where the caller keeps it.
+fn edit(
+    f: RoleFile,
+    table: &mut Grid,
+    gives: bool,
+    role: usize,
+    user: usize,
+    after: &mut RoleFile,
+) {
+    *after = f;
+    let _ = right_edits::edit(after, table, gives, role, user);
 }
 
-fn fill_often(f: &RoleFile, turns: usize) -> u64 {
+fn fill_often(f: RoleFile, turns: usize) -> u64 {
     let mut table = [0u64; WORDS];
     let mut sum: u64 = 0;
     for turn in 0..turns {
@@ -33,15 +43,16 @@ fn fill_often(f: &RoleFile, turns: usize) -> u64 {
 }
 
 // Every edit changes an assignment, or none does.
-fn edit_often(f: &mut RoleFile, changing: bool, turns: usize) -> u64 {
+fn edit_often(loaded: RoleFile, changing: bool, turns: usize) -> u64 {
     let mut table = [0u64; WORDS];
-    fill(f, &mut table);
+    fill(loaded, &mut table);
+    let mut f = loaded;
     let mut sum: u64 = 0;
     for turn in 0..turns {
         let role = turn % RoleFile::ROLES;
         let user = turn % RoleFile::USERS;
         let there = sets::has(f.assigned[role], user);
-        edit(f, &mut table, there != changing, role, user);
+        edit(f, &mut table, there != changing, role, user, &mut f);
         sum = add(
             sum,
             &table,
@@ -51,7 +62,7 @@ fn edit_often(f: &mut RoleFile, changing: bool, turns: usize) -> u64 {
     sum
 }
 
-fn look_often(f: &RoleFile, turns: usize) -> u64 {
+fn look_often(f: RoleFile, turns: usize) -> u64 {
     let mut table = [0u64; WORDS];
     fill(f, &mut table);
     let mut sum: u64 = 0;
@@ -63,12 +74,12 @@ fn look_often(f: &RoleFile, turns: usize) -> u64 {
 
 // Of a file that is refused the record is empty.
 fn checksum(what: usize, file: &[u8], turns: usize) -> u64 {
-    let mut f = role_file::read(file).unwrap_or(RoleFile::empty());
+    let f = role_file::read(file).unwrap_or(RoleFile::empty());
     match what {
-        0 => fill_often(&f, turns),
-        1 => edit_often(&mut f, true, turns),
-        2 => edit_often(&mut f, false, turns),
-        _ => look_often(&f, turns),
+        0 => fill_often(f, turns),
+        1 => edit_often(f, true, turns),
+        2 => edit_often(f, false, turns),
+        _ => look_often(f, turns),
     }
 }
 

@@ -1,6 +1,6 @@
 -- The laws of grids: what a grid has, how loops fill one, and how a search for the first difference goes on.
 -- Assumes nothing.
-use Rattle.std.specs.Prelude.{ℕ, zero, suc, ◌+◌, ◌≤◌, ◌<◌, eqb, length, get_or, Bool, true, false, cond, ◌&&◌, not, Some, None, is_some, Option as Handed, ◌⊎◌, ◌≡◌}
+use Rattle.std.specs.Prelude.{ℕ, zero, suc, ◌+◌, ◌≤◌, ◌<◌, eqb, length, get_or, Bool, true, false, cond, ◌&&◌, not, Some, None, Option as Handed, ◌⊎◌, ◌≡◌}
 use Rattle.std.proofs.Common.{eqb-true, eq-eqb, inl, inr, ap₂, ◌∙◌, not-suc-le-zero, le_of_suc-le-suc, eq-or-lt_of_le, add-one, arith}
 use Rattle.std.specs.Int.Bits.{bit_or, bit_xor, or_add_and, xor_add_and, xor_self}
 use Rattle.std.proofs.lemmas.Nat.{and_le_l, and_le_r}
@@ -271,16 +271,17 @@ pub grids_same : (P : Setting) (G H : Block) (a b : List ℕ)
     → is_same (difference_of (grid_difference a b (P.side user).count (P.side resource).count P.slots)) ≡ same_block P G H
 grids_same P G H a b p q = ap (λ (d : Option (ℕ × ℕ × ℕ)). is_same (difference_of d)) (difference_means P G H a b p q) ∙ same_means P G H
 
--- what is handed back tells whether nothing differs
-pub told_same : (d : Handed (ℕ × ℕ × ℕ)) {e : Handed (ℕ × ℕ × ℕ)} (b : Bool) → is_some d ≡ not b → d ≡ e → b ≡ is_same e
-unfolding is_same
-told_same d b h e = go d b h ∙ ap is_same e
-  where
-    go : (d : Handed (ℕ × ℕ × ℕ)) (b : Bool) → is_some d ≡ not b → b ≡ is_same d
-    go None true h = refl
-    go None false h = h
-    go (Some t) true h = h
-    go (Some t) false h = refl
+-- what is handed back tells whether nothing differs, by a test that it is something
+module _ (something : Handed (ℕ × ℕ × ℕ) → Bool) (of-none : something None ≡ false) (of-some : (t : ℕ × ℕ × ℕ) → something (Some t) ≡ true) where
+  pub told_same : (d : Handed (ℕ × ℕ × ℕ)) {e : Handed (ℕ × ℕ × ℕ)} (b : Bool) → something d ≡ not b → d ≡ e → b ≡ is_same e
+  unfolding is_same
+  told_same d b h e = go d b h ∙ ap is_same e
+    where
+      go : (d : Handed (ℕ × ℕ × ℕ)) (b : Bool) → something d ≡ not b → b ≡ is_same d
+      go None true h = refl
+      go None false h = sym of-none ∙ h
+      go (Some t) true h = sym (of-some t) ∙ h
+      go (Some t) false h = refl
 
 -- ---- many words at once
 

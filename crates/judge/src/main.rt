@@ -3,25 +3,36 @@
 #![tactic(auto)]
 
 ghost use Rattle.std.specs.Prelude.{◌≡◌};
-ghost use Rattle.answer_words.specs.AnswerWords.{bytes_of};
-ghost use Rattle.files.specs.Calls.{Verdict as Finding};
-ghost use Rattle.judge.specs.Findings.{finding_words};
+ghost use Rattle.answer_words.specs.AnswerWords.{bytes_of, finding_words};
+ghost use Rattle.files.specs.Calls.{Verdict as Finding, verdict_number};
 ghost use Rattle.rule_judge.specs.Judgement.{verdict_of};
 
 use rule_judge::Verdict;
 use std::io;
 
+// The number of a verdict.
+fn verdict_number(verdict: Verdict) -> usize
+    ensures { (v : Finding) → verdict ≡ verdict_of v → result ≡ verdict_number v }
+{
+    match verdict {
+        Verdict::Sound => 0,
+        Verdict::Differ(_, _, _) => 1,
+        Verdict::StrayRule(_) => 2,
+        Verdict::StrayPart(_) => 3,
+    }
+}
+
 // The meaning of a verdict. The values that come with it stand in front.
 fn verdict_words(verdict: Verdict) -> &'static [u8]
     ensures { (v : Finding) → verdict ≡ verdict_of v → result.now ≡ bytes_of (finding_words v) }
 {
-    match verdict {
-        Verdict::Sound =>
-            b"roles and rules grant the same, every rule what its parts do, and every part stands under one rule",
-        Verdict::Differ(_, _, _) => b" is granted by roles or rules only",
-        Verdict::StrayRule(_) => b" grants other than its parts",
-        Verdict::StrayPart(_) => b" stands under no rule or several",
-    }
+    answer_words::verdict_words(verdict_number(verdict))
+}
+
+// Prints the number of a verdict about one number, a rule's or a part's, and this one.
+fn say_stray(rt: &impl Print, n: usize, name: &[u8], which: usize) -> io::Result<()> {
+    programs::say_count(rt, b"verdict ", n)?;
+    programs::say_count(rt, name, which)
 }
 
 // Prints the number of a verdict and what it is about: a triple, a rule or a part.
@@ -32,8 +43,8 @@ fn say_finding(rt: &impl Print, verdict: Verdict) -> io::Result<()> {
             programs::say(rt, b"verdict 1: ")?;
             programs::say_triple(rt, user, resource, operation)
         }
-        Verdict::StrayRule(rule) => programs::say_count(rt, b"verdict 2: rule ", rule),
-        Verdict::StrayPart(part) => programs::say_count(rt, b"verdict 3: part ", part),
+        Verdict::StrayRule(rule) => say_stray(rt, verdict_number(verdict), b": rule ", rule),
+        Verdict::StrayPart(part) => say_stray(rt, verdict_number(verdict), b": part ", part),
     }
 }
 

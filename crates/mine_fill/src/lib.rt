@@ -9,7 +9,7 @@ ghost use Rattle.role_record.specs.Cells.{most_operations};
 ghost use Rattle.role_record.specs.Record.{WithinLimits};
 
 use mine_corners::Group;
-use mine_parts::{PartWords, Starts};
+use mine_parts::PartWords;
 use role_record::{
     ByPlace, ByPlaceMember, ByRole, ByRoleOperation, CountBySide, Links, RoleFile, Sizes,
 };
@@ -180,7 +180,7 @@ fn fill_role<'a>(
 // no holder, and so no part.
 pub fn fill<'a>(
     scratch: &mut [u64],
-    starts: &mut Starts,
+    starts: &mut [usize],
     links: &'a Links,
     matches: &'a ByPlaceMember,
     knowing: &'a ByPlace,
@@ -192,7 +192,8 @@ pub fn fill<'a>(
     requires { WithinLimits sizes
         × (get_or attributes.now 0 0 ≤ 6)
         × (get_or attributes.now 1 0 ≤ 6)
-        × (most_parts ≤ room_in scratch.old) }
+        × (most_parts ≤ room_in scratch.old)
+        × (length starts.old ≡ 33) }
     ensures { (result ≤ most_parts)
         × (length scratch.new ≡ length scratch.old)
         × (result ≡ length (parts_before holders.now permissions.now sizes.operations 32))

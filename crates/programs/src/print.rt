@@ -44,7 +44,7 @@ pub fn end_line(rt: &HostRuntime, program: &[u8], printed: Result<()>) {
 pub fn say_refusal(rt: &impl Print, refusal: Refusal) -> Result<()> {
     say_count(rt, b"refused ", refusal.number())?;
     say(rt, b": ")?;
-    say(rt, refusal_words(refusal))
+    say(rt, refusal_words(refusal.number()))
 }
 
 // The line of a refusal.
@@ -66,7 +66,7 @@ pub fn name_program(rt: &HostRuntime, program: &[u8]) {
 // The meaning of a refusal, for a program whose line of a refusal has the number alone.
 pub fn complain_refused(rt: &HostRuntime, program: &[u8], refusal: Refusal) {
     name_program(rt, program);
-    complain(rt, refusal_words(refusal));
+    complain(rt, refusal_words(refusal.number()));
     complain(rt, b"\n");
 }
 

@@ -80,7 +80,7 @@ pub fn link_legal(a: u64, b: u64, f: &RoleFile) -> bool
 
 // Command 28: a role and exactly the class of one of its parts.
 pub fn part_legal(role: u64, m: u64, f: &RoleFile) -> bool
-    requires { WithinLimits (sizes_of f.now) }
+    requires { (f.now.roles ≤ 32) × (f.now.operations ≤ 16) }
     ensures { result ≡ part_legal role m f.now.roles f.now.operations f.now.holders f.now.permissions }
 {
     if f.roles as u64 <= role {

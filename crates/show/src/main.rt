@@ -36,12 +36,14 @@ fn say_bytes(rt: &impl Print, bytes: &[u8]) -> io::Result<()> {
 
 // The rule's bytes, and behind them its words.
 fn show(rt: &HostRuntime, file: &[u8], rules: &[u8], n: usize) {
-    match rule_show::locate(file, rules, n) {
-        Ok(place) => match say_bytes(rt, &rules[place.from..place.to]) {
+    let mut answer: u8 = 0;
+    let part = rule_show::show(file, rules, n, &mut answer);
+    match answer_words::refusal_of(answer as usize) {
+        None => match say_bytes(rt, part) {
             Ok(()) => rule_words::tell_files(rt, b"show", file, rules, n, n),
             Err(error) => programs::end_line(rt, b"show", Err(error)),
         },
-        Err(refusal) => programs::refuse(rt, b"show", refusal),
+        Some(refusal) => programs::refuse(rt, b"show", refusal),
     }
 }
 

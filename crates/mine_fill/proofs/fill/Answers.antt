@@ -6,7 +6,7 @@ use Rattle.mine_fill.specs.FillLaws.{fill_begin, fill-role, fill_end, fill_most}
 use Rattle.mine_fill.proofs.fill.Goals as goal
 
 pub loop-role-init : goal.loop-role-init
-loop-role-init c = let a = c.args in (search rules, refl, c.told-starts, fill_begin a.links.now a.matches.now a.knowing.now a.attributes.now a.holders.now a.permissions.now a.sizes.users a.sizes.resources a.sizes.operations a.scratch.now a.starts.now)
+loop-role-init c = let a = c.args in (search rules, refl, c.requires.4, fill_begin a.links.now a.matches.now a.knowing.now a.attributes.now a.holders.now a.permissions.now a.sizes.users a.sizes.resources a.sizes.operations a.scratch.now a.starts.now)
 
 pub fill_role-n-requires : goal.fill_role-n-requires
 fill_role-n-requires c =
@@ -35,6 +35,9 @@ bounds-starts-32 c = omega (arith, c.loop-role.invariant.2)
 
 pub shape_of-scratch : goal.shape_of-scratch
 shape_of-scratch c = c.loop-role.invariant.1
+
+pub shape_of-starts : goal.shape_of-starts
+shape_of-starts c = let l = c.loop-role in length-set l.starts 32 l.n ∙ l.invariant.2 ∙ sym c.requires.4
 
 pub returns : goal.returns
 returns c =
