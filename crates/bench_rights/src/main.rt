@@ -19,7 +19,7 @@ fn fill(f: RoleFile, table: &mut Grid) {
     let _ = right_edits::fill(&f, table);
 }
 
-// The record goes by value, and the one after the edit goes where the caller keeps it.
+// The record goes by value, and the one after the edit goes where the caller keeps it: a record of its own, so that the copy is made.
 fn edit(
     f: RoleFile,
     table: &mut Grid,
@@ -42,17 +42,23 @@ fn fill_often(f: RoleFile, turns: usize) -> u64 {
     sum
 }
 
-// Every edit changes an assignment, or none does.
+// Every edit changes an assignment, or none does. Two records take turns: each edit is handed the one that the edit before wrote.
 fn edit_often(loaded: RoleFile, changing: bool, turns: usize) -> u64 {
     let mut table = [0u64; WORDS];
     fill(loaded, &mut table);
-    let mut f = loaded;
+    let mut even = loaded;
+    let mut odd = loaded;
     let mut sum: u64 = 0;
     for turn in 0..turns {
         let role = turn % RoleFile::ROLES;
         let user = turn % RoleFile::USERS;
-        let there = sets::has(f.assigned[role], user);
-        edit(f, &mut table, there != changing, role, user, &mut f);
+        if turn % 2 == 0 {
+            let gives = sets::has(even.assigned[role], user) != changing;
+            edit(even, &mut table, gives, role, user, &mut odd);
+        } else {
+            let gives = sets::has(odd.assigned[role], user) != changing;
+            edit(odd, &mut table, gives, role, user, &mut even);
+        }
         sum = add(
             sum,
             &table,

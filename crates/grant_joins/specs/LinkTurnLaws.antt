@@ -1,6 +1,6 @@
--- The laws of the loops: turns that change a table, and a set spread over the words of some members.
+-- The laws of the loops: turns that change a table, a set spread over the words of some members, and the number of distinct values.
 -- Assumes nothing.
-use Rattle.std.specs.Prelude.{ℕ, suc, ◌+◌, ◌*◌, ◌/◌, ◌%◌, ◌^◌, ◌≤◌, ◌<◌, ltb, set, Bool, true, false, ◌||◌, List, ◌≡◌}
+use Rattle.std.specs.Prelude.{ℕ, zero, suc, ◌+◌, ◌*◌, ◌/◌, ◌%◌, ◌^◌, ◌-◌, ◌≤◌, ◌<◌, ltb, set, Bool, true, false, ◌||◌, List, ◌≡◌}
 use Rattle.std.proofs.Common.{eqb-true, eq-eqb, ne_eqb, get_or-set_other, ◌∙◌, add-one}
 use Rattle.std.proofs.lemmas.Bool.{eqb-false}
 use Rattle.std.proofs.Math.Dec.{eqb}
@@ -16,6 +16,7 @@ use Rattle.sets.specs.MemberLaws.{bit-less}
 use Rattle.policy.specs.Rules.{form_of, linked}
 use Rattle.sets.specs.LoopLaws.{join-out}
 use Rattle.sets.specs.Sets.{joining, bit, mask_of, less_one}
+use Rattle.sets.specs.Lowest.{lowest_from}
 use Rattle.sets.specs.LowestLaws.{lowest_from-most}
 use Rattle.sets.specs.MaskLaws.{mask_lt, mask_unique}
 use Rattle.sets.specs.SetLaws.{bit-none}
@@ -23,7 +24,7 @@ use Rattle.sets.specs.Tests.{Is}
 use Rattle.sets.specs.TestLaws.{test, not_in}
 use Rattle.role_record.specs.Record.{same_domain}
 use Rattle.grant_joins.specs.Tables.{value_count}
-use Rattle.grant_joins.specs.Tables.{meet_of, turns, spread_of, joins, union_of, linked_to, link_value, looked_at}
+use Rattle.grant_joins.specs.Tables.{meet_of, turns, spread_of, joins, union_of, linked_to, link_value, looked_at, link_atom}
 
 -- ---- turns
 
@@ -35,6 +36,11 @@ module _ (step : ℕ → List ℕ → List ℕ) (table : List ℕ) where
   -- the loop's end
   pub turns-end : (i n : ℕ) (out : List ℕ) → out ≡ turns step i table → i ≡ n → out ≡ turns step n table
   turns-end i n out e q = e ∙ ap (λ (k : ℕ). turns step k table) q
+
+  -- the length stays, if each turn keeps it
+  pub turns-long : (size n : ℕ) → ((k : ℕ) (t : List ℕ) → length t ≡ size → length (step k t) ≡ size) → length table ≡ size → length (turns step n table) ≡ size
+  turns-long size zero h e = e
+  turns-long size (suc n) h e = h n (turns step n table) (turns-long size n h e)
 
 -- ---- joining
 
@@ -95,6 +101,26 @@ module _ (n block word : ℕ) where
       sym (updated_none n (λ i old. wider old) (λ i. eqb (i / 64) block && bit rest (i % 64)) out e
       (λ i l. ap (λ (c : Bool). eqb (i / 64) block && c) (ap (λ (m : ℕ). bit m (i % 64)) z ∙ bit-none (i % 64)) ∙ and-false (eqb (i / 64) block)))
 
+-- ---- the number of distinct values
+
+module _ (f : ℕ → Bool) where
+  -- the search goes on past one that fails
+  pub lowest-on : (k : ℕ) → k < 64 → f k ≡ false → lowest_from f (k + 1) (64 - (k + 1)) ≡ lowest_from f k (64 - k)
+  lowest-on k l e =
+      let p : 64 - k ≡ suc (64 - (k + 1)) = omega arith in
+      ap (λ (x : ℕ). lowest_from f x (64 - (k + 1))) (add-one k)
+      ∙ sym (ap (lowest_from f k) p ∙ ap (λ (b : Bool). cond b k (lowest_from f (suc k) (64 - (k + 1)))) e)
+
+  -- it is left at one that passes
+  pub lowest-found : (k : ℕ) → k < 64 → f k ≡ true → k ≡ lowest_from f k (64 - k)
+  lowest-found k l e =
+      let p : 64 - k ≡ suc (64 - (k + 1)) = omega arith in
+      sym (ap (lowest_from f k) p ∙ ap (λ (b : Bool). cond b k (lowest_from f (suc k) (64 - (k + 1)))) e)
+
+  -- or ends
+  pub lowest-none : (k : ℕ) → k ≡ 64 → 64 ≡ lowest_from f k (64 - k)
+  lowest-none k e = sym (ap (λ (x : ℕ). lowest_from f x (64 - x)) e)
+
 -- ---- one pair of values
 
 module _ (p q t : Bool) (v w : ℕ) where
@@ -135,3 +161,11 @@ module _ (distinct having kinds : List ℕ) where
       → word ≡ linked_to distinct having kinds resources (atom / 6) (atom % 6) k → after ≡ spread_of (length out) atom (get_or having (64 * (atom / 6) + k) 0) word out → after ≡ link_value distinct having kinds resources atom k out
   unfolding link_value
   link-turn resources atom k word out after e ew q = rw (← e, ← ew) q
+
+  -- the length stays
+  pub link-long : (domains : List ℕ) (resources atom : ℕ) (out after : List ℕ) → length out ≡ 2304 → after ≡ link_atom distinct having kinds domains resources atom out → length after ≡ 2304
+  unfolding link_atom link_value
+  link-long domains resources atom out after e q =
+      ap length q
+      ∙ turns-long (link_value distinct having kinds resources atom) out 2304 (looked_at having domains (atom / 6) (atom % 6))
+      (λ k t h. spread-long 2304 atom (get_or having (64 * (atom / 6) + k) 0) (linked_to distinct having kinds resources (atom / 6) (atom % 6) k) t) e

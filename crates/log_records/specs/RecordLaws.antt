@@ -1,7 +1,7 @@
 -- What record i says, number by number; and when it is within the sizes.
 -- Assumes nothing.
-use Rattle.std.specs.Prelude.{ℕ, ◌+◌, ◌*◌, ◌≤◌, ◌<◌, ltb, get_or, Bool, cond, not, List, ◌≡◌}
-use borrow.Author.Tests.{ltb-true}
+use Rattle.std.specs.Prelude.{ℕ, ◌+◌, ◌*◌, ◌≤◌, ◌<◌, ltb, get_or, Bool, false, cond, not, List, ◌≡◌}
+use borrow.Author.Tests.{lt-ltb, le-ltb, ltb-true}
 use Rattle.std.proofs.Math.Path.{refl}
 use Rattle.std.proofs.Common.{ap, ◌∙◌}
 use Rattle.files.specs.Denials.{of_record, denied_by}
@@ -19,6 +19,18 @@ module _ (log : List ℕ) (i u r o : ℕ) (hu : u ≡ get_or log (3 * i) 0) (hr 
   denial_by G b e = ap (λ (x : Bool). cond {A = ℕ} (not x) 1 0) (e ∙ said G)
 
 module _ (s : Sizes) (u r o : ℕ) where
+  pub no_such_user : s.users ≤ u → false ≡ in_sizes s u r o
+  unfolding in_sizes
+  no_such_user h = rw (le-ltb u s.users h) refl
+
+  pub no_such_resource : u < s.users → s.resources ≤ r → false ≡ in_sizes s u r o
+  unfolding in_sizes
+  no_such_resource h k = rw (lt-ltb u s.users h, le-ltb r s.resources k) refl
+
+  pub by-operation : u < s.users → r < s.resources → ltb o s.operations ≡ in_sizes s u r o
+  unfolding in_sizes
+  by-operation h k = rw (lt-ltb u s.users h, lt-ltb r s.resources k) refl
+
   -- a record within the sizes has a cell in a grid
   pub user-inside : Is (in_sizes s u r o) → u < s.users
   unfolding in_sizes

@@ -4,12 +4,13 @@ use Rattle.std.specs.Prelude.{ℕ, zero, suc, ◌+◌, ◌*◌, ◌/◌, ◌%◌
 use Rattle.std.proofs.Common.{eqb-true, ltb-true, ltb-false, lt-ltb, sym, ap, ap₂, ◌∙◌, arith}
 use Rattle.std.proofs.Math.Bool.{and-false, and_assoc, and-true, or-false}
 use Rattle.mine_words.specs.PartWords.{true_of_all, is_atom_of, atoms_of, at_most_six, declared_atoms, true_of_user}
-use Rattle.sets.specs.MemberLaws.{bit-less, all-turn, all_left, all_done}
+use Rattle.sets.specs.MemberLaws.{least_in, bit-less, all-turn, all_left, all_done}
+use Rattle.sets.specs.Lowest.{lowest_from}
 use Rattle.sets.specs.MaskLaws.{bit-out, bit-mask_of, mask_lt, mask_unique, mask_same, mask_wide}
 use Rattle.sets.specs.Sets.{bit, subset, mask_of, less_one}
 use Rattle.sets.specs.SetLaws.{bit-none, bit_mask}
 use Rattle.sets.specs.Tests.{Is}
-use Rattle.sets.specs.TestLaws.{test, same}
+use Rattle.sets.specs.TestLaws.{never, test, same}
 
 -- ---- the declared atoms
 
@@ -70,6 +71,12 @@ unfolding declared_atoms
 declared-low attributes m e = omega (arith, e, mask_lt 36 (λ i. ltb (i / 6) (get_or attributes 0 0) && ltb (i % 6) (get_or attributes 1 0)))
 
 -- ---- the atoms that a user leaves
+
+-- a set of atoms that is not empty has its least, and it is an atom
+pub least-atom : (m y : ℕ) → m < 2 ^ 36 → y ≡ lowest_from (bit m) 0 64 → 0 < m → (y < 36) × Is (bit m y)
+least-atom m y h q z =
+    let t = least_in m (omega arith) y q z in
+    (test (ltb y 36) (λ e. ltb-true y 36 e) (λ e. never t.1 (bit-out 36 m y h (ltb-false y 36 e))), t.1)
 
 -- a set that took one in still fits
 pub with_low : (m y found : ℕ) → found ≡ mask_of 64 (λ k. bit m k || eqb k y) → found < 2 ^ 64

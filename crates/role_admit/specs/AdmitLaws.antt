@@ -1,6 +1,6 @@
 -- What the code admits is what the definitions obey.
 -- Assumes nothing.
-use Rattle.std.specs.Prelude.{ℕ, zero, suc, ◌+◌, ◌*◌, ◌%◌, ◌<◌, eqb, ltb, leb, length, get_or, set, Bool, true, false, ◌&&◌, not, ◌≡◌, refl, Result}
+use Rattle.std.specs.Prelude.{ℕ, zero, suc, ◌+◌, ◌*◌, ◌%◌, ◌<◌, eqb, ltb, leb, length, get_or, set, Bool, true, false, cond, ◌&&◌, not, ◌≡◌, refl, Result}
 use Rattle.std.specs.Result.{result_and}
 use Rattle.std.proofs.Common.{ltb-true, lt-ltb, le-leb, leb-true, ap, ap₂, ◌∙◌, arith}
 use Rattle.role_admit.specs.Admit.{checked, below_of, sizes_admitted, kind_admitted, size_of, value_admitted, is_first, is_early, operands_admitted, admit_of}
@@ -34,6 +34,10 @@ abbrev pub passed : {A : Type 0} → Answer A → Answer (Unit {0})
 passed r = map_answer (λ a. tt) r
 
 -- ---- tests one after the other
+
+pub both_tests : {A : Type 0} (a b : Bool) (x y : A) → cond (a && b) x y ≡ cond a (cond b x y) y
+both_tests true b x y = refl
+both_tests false b x y = refl
 
 pub two-tests : {A : Type 0} (a b : Bool) (x : A) → answer_of (result_and (checked a Beyond) (checked b Beyond)) ≡ passed (unless (a && b) beyond (accepted x))
 two-tests true true x = refl

@@ -136,6 +136,7 @@ fn admit_operands(c: Command, f: &RoleFile) -> Result<(), Refusal>
 }
 
 // Refuses a command where it may not stand, or that says what it may not.
+#[tactic(auto, unfolding(crate::specs::Admit::admit_of))]
 pub fn admit(c: Command, phase: Phase, f: &RoleFile) -> Result<(), Refusal>
     requires { FewAttributes f.now.attributes }
     ensures { result ≡ admit_of c phase f.now }

@@ -11,6 +11,7 @@ use role_commands::Command;
 use role_record::RoleFile;
 
 // The command at the front of these bytes, where it may stand there, and how many of them it takes.
+#[tactic(auto, unfolding(crate::specs::Taking::next_of))]
 pub fn next(s: &[u8], phase: Phase, f: &RoleFile) -> Result<(Command, usize), Refusal>
     requires { FewAttributes f.now.attributes }
     ensures { result ≡ next_of s.now phase f.now }

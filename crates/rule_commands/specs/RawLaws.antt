@@ -1,9 +1,10 @@
 -- The numbers taken from the front are the command that the reader of rule files takes; their order is that of commands.
 -- Assumes nothing.
-use Rattle.std.specs.Prelude.{ℕ, suc, ◌+◌, ◌≤◌, ◌<◌, eqb, length, get_or, drop, Bool, ◌&&◌, ◌||◌, Result, Ok, Err}
-use borrow.Author.Tests.{eqb-true, eqb-false, ne_eqb, ltb-true, ltb-false, lt-ltb, le-ltb}
+use Rattle.std.specs.Prelude.{ℕ, suc, ◌+◌, ◌*◌, ◌≤◌, ◌<◌, eqb, length, get_or, drop, Bool, ◌&&◌, ◌||◌, Result, Ok, Err}
+use borrow.Author.Tests.{eq-eqb, eqb-true, eqb-false, ne_eqb, ltb-true, ltb-false, lt-ltb, le-ltb}
 use Rattle.std.proofs.Math.Dec.{ltb}
 use Rattle.std.proofs.Math.Bool.{true, false, cond}
+use Rattle.std.proofs.Math.Bool.{or-false}
 use Rattle.std.proofs.lemmas.Bool.{false≢true}
 use mathlib.Core.List.{List, [], ◌∷◌}
 use Rattle.std.proofs.Math.Option.{Option, none, some}
@@ -24,6 +25,10 @@ use Rattle.rule_commands.specs.Raw.{shape-opens, shape_user_single, shape_user_s
 use Rattle.rule_commands.specs.declared.Raw.{Raw}
 use Rattle.sets.specs.TestLaws.{test}
 use Rattle.sets.specs.Tests.{Is}
+
+-- two bytes, low byte first
+pub pair-number : (l : List ℕ) (i low high : ℕ) → low ≡ number_at 1 l i → high ≡ number_at 1 l (suc i) → low + 256 * high ≡ number_at 2 l i
+pair-number l i low high p q = omega arith
 
 -- 26 and 29 have one operand
 abbrev pub is_short : ℕ → Bool
@@ -222,6 +227,20 @@ last : (p q : Bool) → (p || (q && false)) ≡ p
 last true q = refl
 last false true = refl
 last false false = refl
+
+-- the first number that differs decides
+module _ (a b : Raw) where
+  pub byte_decides : (a.byte ≡ b.byte → ⊥) → ltb a.byte b.byte ≡ raw_before a b
+  unfolding raw_before
+  byte_decides h = rw (ne_eqb a.byte b.byte h) (sym (or-false (ltb a.byte b.byte)))
+
+  pub first_decides : a.byte ≡ b.byte → (a.first ≡ b.first → ⊥) → ltb a.first b.first ≡ raw_before a b
+  unfolding raw_before
+  first_decides e h = rw (le-ltb a.byte b.byte (omega arith), eq-eqb a.byte b.byte e, ne_eqb a.first b.first h) (sym (or-false (ltb a.first b.first)))
+
+  pub second_decides : a.byte ≡ b.byte → a.first ≡ b.first → ltb a.second b.second ≡ raw_before a b
+  unfolding raw_before
+  second_decides e k = rw (le-ltb a.byte b.byte (omega arith), eq-eqb a.byte b.byte e, le-ltb a.first b.first (omega arith), eq-eqb a.first b.first k) refl
 
 -- 21, after which a rule's lines stand, and the bytes of lines
 data LineByte : ℕ → Type 0 where

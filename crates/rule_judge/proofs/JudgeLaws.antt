@@ -1,7 +1,7 @@
 -- What was read of both files decides the verdict.
 -- Assumes nothing.
-use Rattle.std.specs.Prelude.{ℕ, ◌-◌, length, take, List, ◌++◌, Some, None, Option as Found, ◌≡◌}
-use Rattle.std.proofs.Common.{◌∙◌, subst}
+use Rattle.std.specs.Prelude.{ℕ, ◌≤◌, ◌-◌, length, take, List, ◌++◌, Some, None, Option as Found, ◌≡◌}
+use Rattle.std.proofs.Common.{length-append, ◌∙◌, subst, arith}
 use Rattle.std.proofs.Math.Option.{Option, none, some}
 use Rattle.std.proofs.Math.Path.{refl, sym, ap, ap₂}
 use Rattle.role_record.specs.Cells.{grid_cells}
@@ -111,3 +111,6 @@ module _ (n : ℕ) (G : Block) (part rest : List ℕ) (e : part ≡ grid_of n G)
 
   pub roles-long : length (take (grid_cells n - 0) (part ++ rest)) ≡ grid_cells n
   roles-long = ap length roles_lent ∙ grid_long n G
+
+  pub roles-within : grid_cells n ≤ length (part ++ rest)
+  roles-within = omega (arith, length-append part rest, ap length e ∙ grid_long n G)

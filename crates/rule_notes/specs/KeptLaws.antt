@@ -1,6 +1,6 @@
 -- The steps of the code make what the definitions say of the numbers kept.
 -- Assumes nothing.
-use Rattle.std.specs.Prelude.{ℕ, ◌+◌, ◌*◌, ◌≤◌, ◌<◌, eqb, ltb, get_or, set, Bool, true, false, ◌&&◌, ◌||◌, not, List, ◌≡◌}
+use Rattle.std.specs.Prelude.{ℕ, ◌+◌, ◌*◌, ◌≤◌, ◌<◌, eqb, ltb, get_or, set, Bool, true, false, ◌&&◌, ◌||◌, not, List, Some, is_none, ◌≡◌}
 use borrow.Author.Tests.{ne_eqb, lt-ltb, le-ltb, ltb-true}
 use Rattle.std.proofs.Math.Bool.{and-true, and-false, or-false}
 use Rattle.std.proofs.Math.Path.{refl, sym}
@@ -9,7 +9,7 @@ use Rattle.role_record.specs.Record.{marked}
 use Rattle.grant_blocks.specs.Rows.{added_rows, same_rows}
 use Rattle.rule_commands.specs.Raw.{raw_before}
 use Rattle.rule_levels.specs.Levels.{level_for}
-use Rattle.rule_notes.specs.Tally.{counted_with, open_rows, closed_with, finished_with, finished_grid, may_close, is_second, follows_with, levelled_with}
+use Rattle.rule_notes.specs.Tally.{tallied, counted_with, open_rows, closed_with, finished_with, finished_grid, may_close, is_second, follows_with, levelled_with}
 use Rattle.rule_notes.specs.LineSteps.{place_by, pair_number, tally_with, noted_with, met_more, met_after, listed_after, seen_by, again_by}
 use Rattle.sets.specs.Sets.{bit, mask_of}
 use Rattle.sets.specs.TestLaws.{test}
@@ -19,6 +19,19 @@ use Rattle.rule_commands.specs.declared.RuleCommand.{RuleCommand}
 use Rattle.rule_commands.specs.declared.RuleCommand.TheVariants.{Opens, Value, Operations, Link, Part, Level, Ends}
 use Rattle.rule_commands.specs.declared.ListedValue.{ListedValue}
 use Rattle.rule_notes.specs.declared.Tally.{Tally}
+
+-- one more rule: no stray one, one behind the first that was, and the first
+pub counted_same : (k : Tally) (b : Bool) → b ≡ true → tallied k k.stray ≡ counted_with k b
+unfolding counted_with
+counted_same k b e = rw e refl
+
+pub counted-late : (k : Tally) (b : Bool) → b ≡ false → is_none k.stray ≡ false → tallied k k.stray ≡ counted_with k b
+unfolding counted_with
+counted-late k b e f = rw e (rw f refl)
+
+pub counted-first : (k : Tally) (b : Bool) → b ≡ false → is_none k.stray ≡ true → tallied k (Some k.rules) ≡ counted_with k b
+unfolding counted_with
+counted-first k b e f = rw e (rw f refl)
 
 -- the same of rows that are the rule's
 pub closed-by : (k : Tally) (met listed links : List ℕ) (users resources n : ℕ) (rows : List ℕ) (b : Bool) (r : Tally) → rows ≡ open_rows k met links users resources

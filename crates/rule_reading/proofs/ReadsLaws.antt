@@ -1,7 +1,7 @@
 -- The state of the reader's loop beside the record of a role file, in the terms of the code.
 -- Assumes nothing.
-use Rattle.std.specs.Prelude.{ℕ, ◌+◌, ◌≤◌, ◌<◌, ◌-◌, drop, replicate, false, ◌≡◌, Ok}
-use Rattle.std.proofs.Common.{length-drop, sym, ◌∙◌, arith}
+use Rattle.std.specs.Prelude.{ℕ, ◌+◌, ◌≤◌, ◌<◌, ◌-◌, eqb, drop, replicate, true, false, ◌≡◌, Ok}
+use Rattle.std.proofs.Common.{ne_eqb, length-drop, sym, ◌∙◌, arith}
 use Rattle.std.proofs.Math.ListN.{length}
 use mathlib.Core.List.{List}
 use Rattle.std.proofs.Math.Path.{refl, ap, subst}
@@ -30,7 +30,15 @@ use Rattle.rule_commands.specs.declared.RuleCommand.{RuleCommand}
 use Rattle.rule_notes.specs.declared.Tally.{Tally}
 use Rattle.files.specs.Bytes.{read}
 use Rattle.rule_reading.proofs.TurnLaws.{Refuses, failed, unfinished, late, misplaced, illegal, unlevelled, Closing, Lining}
-use Rattle.rule_reading.specs.Turns.{Tabled, read_beside}
+use Rattle.rule_reading.specs.Turns.{closes_rule, Tabled, read_beside}
+
+-- ---- the bytes behind which no line of a rule stands
+
+pub closes-opening : (b : ℕ) → b ≡ 0x21 → true ≡ closes_rule b
+closes-opening b e = rw e refl
+
+pub closes-other : (b : ℕ) → (b ≡ 0x21 → ⊥) → eqb b 0x2F ≡ closes_rule b
+closes-other b e = rw (ne_eqb b 0x21 e) refl
 
 module _ (F : Policy) (f : RoleFile) (links : List ℕ) (v : Tabled F f links) where
   -- what holds for the record and the links of the policy holds for those of the code

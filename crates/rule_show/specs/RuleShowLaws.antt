@@ -4,7 +4,7 @@ use Rattle.std.specs.Prelude.{ℕ, suc, ◌+◌, ◌≤◌, ◌<◌, ltb, length
 use borrow.Author.Tests.{lt-ltb, le-ltb}
 use Rattle.std.proofs.Math.Path.{refl, ap}
 use Rattle.std.proofs.Common.{sym, ap₂, ◌∙◌, arith}
-use Rattle.files.specs.Answer.{Refusal as Cause, number_of, Answer, unless, and_then, code_of, map_answer, no_such_rule, refused, accepted}
+use Rattle.files.specs.Answer.{Refusal as Cause, number_of, Answer, unless, and_then, code_of, map_answer, too_long, cut_off, unknown_command, out_of_place, beyond, wrong_kind, own_senior, small_scratch, short_output, rules_cut_off, rules_unknown, rules_order, rules_operand, no_such_rule, zero_seed, wrong_shape, wrong_table, wrong_level, wrong_window, ragged_log, bad_cuts, refused, accepted}
 use Rattle.files.proofs.AnswerLaws.{map-refused}
 use Rattle.files.proofs.BytesLaws.{number_positive}
 use Rattle.files.specs.Calls.{read_both, show_answer, shown_place, shown_byte}
@@ -19,6 +19,38 @@ use Rattle.rule_reading.specs.BothFiles.{both_of}
 use Rattle.rule_reading.specs.declared.BothFiles.{BothFiles}
 use Rattle.rule_show.specs.Located.{place_of, place_or_start}
 use Rattle.rule_show.specs.declared.Place.{Place}
+
+-- the number of every refusal is a byte
+number-byte : (e : Cause) → number_of e < 256
+number-byte too_long = omega arith
+number-byte cut_off = omega arith
+number-byte unknown_command = omega arith
+number-byte out_of_place = omega arith
+number-byte beyond = omega arith
+number-byte wrong_kind = omega arith
+number-byte own_senior = omega arith
+number-byte small_scratch = omega arith
+number-byte short_output = omega arith
+number-byte rules_cut_off = omega arith
+number-byte rules_unknown = omega arith
+number-byte rules_order = omega arith
+number-byte rules_operand = omega arith
+number-byte no_such_rule = omega arith
+number-byte zero_seed = omega arith
+number-byte wrong_shape = omega arith
+number-byte wrong_table = omega arith
+number-byte wrong_level = omega arith
+number-byte wrong_window = omega arith
+number-byte ragged_log = omega arith
+number-byte bad_cuts = omega arith
+
+pub shown-byte : (file rules : List ℕ) (n : ℕ) → shown_byte 2 file rules n < 256
+unfolding shown_byte
+shown-byte file rules n = go (show_answer 2 file rules n)
+  where
+    go : (a : Answer (ℕ × ℕ)) → elim a [ refused e ↦ number_of e | accepted p ↦ 0 ] < 256
+    go (refused e) = number-byte e
+    go (accepted p) = omega arith
 
 next_start : (rules : List ℕ) (n : ℕ) → rule_start 2 rules (n + 1) ≡ rule_start 2 rules (suc n)
 next_start rules n = let e : n + 1 ≡ suc n = omega arith in ap (rule_start 2 rules) e
