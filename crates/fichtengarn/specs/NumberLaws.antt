@@ -7,6 +7,7 @@ use Rattle.answers.specs.Records.{refusal, loaded_of}
 use Rattle.answers.specs.declared.Loaded.{Loaded}
 use Rattle.files.specs.Answer.{Refusal as Cause, number_of, Answer, told, code_of, map_answer, refused, accepted}
 use Rattle.files.proofs.AnswerLaws.{From, map-refused, map-accepted, map-told, map-code}
+use Rattle.files.specs.Calls.{Counts, count_values}
 use Rattle.files.specs.RuleFile.{Lines}
 use Rattle.files.specs.declared.refusal.Refusal.{Refusal}
 use Rattle.policy.specs.Policy.{Policy}
@@ -15,6 +16,7 @@ use Rattle.role_record.specs.declared.RoleFile.{RoleFile}
 use Rattle.rule_reading.specs.BothFiles.{both_of}
 use Rattle.rule_show.specs.Located.{Within, place_or_start}
 use Rattle.rule_show.specs.declared.Place.{Place}
+use Rattle.write_answer.specs.MinedNumbers.{mined_of, mined_numbers}
 
 -- ---- numbers
 
@@ -35,6 +37,10 @@ handed-on e former r after p = (p.0 ∙ ap returned e, p.1 ∙ ap (λ (xs : List
 pub rules-counted : (p : Policy × List Lines) → (both_of p).rules ∷ [] ≡ rules_told p
 unfolding both_of
 rules-counted p = refl
+
+-- what mining tells of the rules written
+pub mined-told : (c : Counts) → mined_numbers (mined_of c) ≡ count_values c
+mined-told c = refl
 
 -- an answer without values is told by its number alone
 code-returned : {A : Type 0} (r : Answer A) → code_of r ≡ returned (told no_values r)
