@@ -8,6 +8,7 @@ RESULT = re.compile(r"\s*->(?:[^\[{;]|\[[^\]]*\])*?(?=\s*(?:\brequires\b|\bensur
 CLAUSE = re.compile(r"\s*(?:requires|ensures|ghost)\b\*?\s*\w*:?\s*(?=\{)")
 TYPE = re.compile(r"(?m)^[ \t]*(?:pub\s+)?(struct|enum|type|const|trait)\s+(?!fn\b)(\w+)")
 MEMBER = re.compile(r"(?m)^[ \t]*ghost\s+(\w+)\s*[:=]\s*(?=\{)")
+IMPL = re.compile(r"\bimpl\b(?:\s*<[^{}]*?>)?\s+((?:\w+::)*)(\w+)[^{}]*?\sfor\b")
 GENERIC = re.compile(r"(?:const\s+)?(\b[A-Z]\w*)\s*(?=[:,>])")
 USE = re.compile(r"(?m)^[ \t]*(?:pub\s+)?use\s+(\w+)::([^;]*);")
 USED = re.compile(r"(\w+)(\s+as\s+\w+)?\s*(?=[,}]|$)")
@@ -102,7 +103,7 @@ class File:
         self.used = dict(used for match in USE.finditer(self.text) for used in self.names_used(match))
         self.imports = [brought for match in GHOST_USE.finditer(self.text) for brought in self.ghost_use(match)]
         self.types = [self.type(match) for match in TYPE.finditer(self.text)]
-        self.members = [self.member(match) for match in MEMBER.finditer(self.text) if not self.in_data(match.start())]
+        self.members = [self.member(match) for match in MEMBER.finditer(self.text) if self.promised(match.start())]
         self.functions = [self.function(match) for match in FUNCTION.finditer(self.text)]
         self.other_clauses()
 
@@ -130,10 +131,24 @@ class File:
         end = declaration_end(self.text, match.end())
         return Piece(match.group(1), match.group(2), self.line(match.start(2)), self.rows(match.start(), end))
 
-    def in_data(self, offset):
-        """Whether a ghost member stands in a struct or an enum, where no promise is counted with it: it is not read."""
-        found = [match for match in TYPE.finditer(self.text) if match.group(1) in ("struct", "enum")]
-        return any(match.start() < offset < declaration_end(self.text, match.end()) for match in found)
+    def block_head(self, offset):
+        """What stands in front of the innermost brace that is open at offset."""
+        depth = 0
+        for i in range(offset - 1, -1, -1):
+            depth += (self.text[i] == "}") - (self.text[i] == "{")
+            if depth < 0:
+                return re.split(r"[;{}]", self.text[:i])[-1]
+        return ""
+
+    def promised(self, offset):
+        """Whether a ghost member is counted with a promise: in a trait, and in an impl of one of this file's traits or of
+        the standard library's. Anywhere else, as in a struct, it is not read."""
+        head = self.block_head(offset)
+        of_trait = IMPL.search(head)
+        if not of_trait:
+            return bool(re.search(r"\btrait\b", head))
+        path, name = of_trait.groups()
+        return (path.partition("::")[0] or self.used.get(name, "std")) == "std"
 
     def member(self, match):
         """A ghost member of a trait or an impl: its name, and the rows of its term."""

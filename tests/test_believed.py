@@ -390,6 +390,14 @@ class MadeUp(unittest.TestCase):
         self.put(CODE, "pub struct Told {", "pub struct Told {\n    ghost twice: { ℕ },")
         self.faults((CODE, "ghost twice", "is not read: a statement outside the contracts"))
 
+    def test_ghost_member_that_no_promise_counts(self):
+        heads = ["pub(crate) struct Twice", "#[derive(Clone)] pub struct Twice", "impl Told", "impl base::Twice for Told"]
+        for head in heads:
+            with self.subTest(head):
+                self.setUp()
+                self.put(CODE, "pub struct Told {", head + " {\n    ghost twice: { ℕ },\n}\n\npub struct Told {")
+                self.faults((CODE, "ghost twice", "is not read: a statement outside the contracts"))
+
     def test_ghost_member_of_a_trait(self):
         self.put(CODE, "pub struct Told {", "pub trait Twice {\n    ghost twice: { nought };\n}\n\npub struct Told {")
         self.faults((CODE, "ghost twice", "the contract of twice names nought, which is not found"))
